@@ -42,20 +42,23 @@ static void turn_of(vbr_handle *handle, unsigned char *held, long turn, int offs
 }
 
 struct thread {
-    vbr_handle *handle;
+    vbr_handle two[2];
     unsigned char held[KEYS];
     atomic_long turns;
 };
 
-/* Opens two handles, and gives the first to a thread that has made no turn. */
-static void begin(struct thread *t, vbr_handle *two) {
-    open_two(two);
-    *t = (struct thread){.handle = &two[0]};
+/* Opens two handles, and starts a thread, which has made no turn, and has the first. */
+static pthread_t begin(struct thread *t, void *(*does)(void *)) {
+    pthread_t id;
+    *t = (struct thread){0};
+    open_two(t->two);
+    CHECK(!pthread_create(&id, NULL, does, t));
+    return id;
 }
 
 static void *ends(void *of) {
     struct thread *t = of;
-    for (long i = 0; i < 1001; i++) turn_of(t->handle, t->held, i, 0);
+    for (long i = 0; i < 1001; i++) turn_of(&t->two[0], t->held, i, 0);
     return NULL;
 }
 
@@ -63,20 +66,17 @@ static void *ends(void *of) {
 static void ended_threads(void) {
     for (int again = 0; again < 50; again++) {
         static struct thread t;
-        vbr_handle two[2];
-        pthread_t id;
-        begin(&t, two);
-        CHECK(!pthread_create(&id, NULL, ends, &t) && !pthread_join(id, NULL));
-        for (long i = 0; i < 501; i++) turn_of(&two[0], t.held, i, 0);
-        for (int i = 0; i < KEYS; i++) CHECK(vbr_has(&two[again % 2], (uint64_t)i) == (t.held[i] ? VBR_YES : VBR_NO));
-        close_two(two, t.held);
+        CHECK(!pthread_join(begin(&t, ends), NULL));
+        for (long i = 0; i < 501; i++) turn_of(&t.two[0], t.held, i, 0);
+        for (int i = 0; i < KEYS; i++) CHECK(vbr_has(&t.two[again % 2], (uint64_t)i) == (t.held[i] ? VBR_YES : VBR_NO));
+        close_two(t.two, t.held);
     }
 }
 
 static void *is_cancelled(void *of) {
     struct thread *t = of;
     for (long i = 0; i < 1000000000; i++) {
-        turn_of(t->handle, t->held, i, 0);
+        turn_of(&t->two[0], t->held, i, 0);
         atomic_store(&t->turns, i + 1);
         pthread_testcancel();
     }
@@ -87,15 +87,12 @@ static void *is_cancelled(void *of) {
 static void cancelled_threads(void) {
     for (int again = 0; again < 50; again++) {
         static struct thread t;
-        vbr_handle two[2];
-        pthread_t id;
         void *result = NULL;
-        begin(&t, two);
-        CHECK(!pthread_create(&id, NULL, is_cancelled, &t));
+        pthread_t id = begin(&t, is_cancelled);
         while (atomic_load(&t.turns) < 100) sched_yield();
         CHECK(!pthread_cancel(id) && !pthread_join(id, &result) && result == PTHREAD_CANCELED);
-        for (long i = 0; i < 501; i++) turn_of(&two[0], t.held, i, 0);
-        close_two(two, t.held);
+        for (long i = 0; i < 501; i++) turn_of(&t.two[0], t.held, i, 0);
+        close_two(t.two, t.held);
     }
 }
 

@@ -6,6 +6,17 @@
 
 #define CHECK(x) do { if (!(x)) { fprintf(stderr, "headers.c:%d: %s\n", __LINE__, #x); return 1; } } while (0)
 
+/* What is empty, and an array of such; and that calls don't throw. */
+#ifdef __cplusplus
+#define EMPTY {}
+#define EMPTY_EACH {}
+#define THROWS_NONE(call, other) static_assert(noexcept(call) && noexcept(other), "no call throws")
+#else
+#define EMPTY {0}
+#define EMPTY_EACH {{0}}
+#define THROWS_NONE(call, other) ((void)0)
+#endif
+
 enum { KEYS = 8, HANDLES = 2, SLOTS = KEYS + HANDLES * 64 };
 
 /* Each answer once: a compiler that knows the enum tells where one is missing. */
@@ -34,16 +45,10 @@ static const char *text_of(vbr_answer answer) {
 static int check_maps(void) {
     static const vbr_entry opening[2] = {{3, 30}, {4, 40}};
     vbr_entry entries[KEYS] = {{0, 0}};
-#ifdef __cplusplus
-    vbr_map_handle map[HANDLES] = {}, none = {};
-    vbr_report report = {};
-    vbr_map_lender lender = {};
-    static_assert(noexcept(vbr_map_has_within(&none, 1, 8)) && noexcept(vbr_map_drop(&none)), "no call throws");
-#else
-    vbr_map_handle map[HANDLES] = {{0}}, none = {0};
-    vbr_report report = {0};
-    vbr_map_lender lender = {0};
-#endif
+    vbr_map_handle map[HANDLES] = EMPTY_EACH, none = EMPTY;
+    vbr_report report = EMPTY;
+    vbr_map_lender lender = EMPTY;
+    THROWS_NONE(vbr_map_has_within(&none, 1, 8), vbr_map_drop(&none));
     vbr_cursor cursor = VBR_CURSOR_BEGIN;
     vbr_entry given = {0, 0};
     uint64_t value = 0;
@@ -88,16 +93,10 @@ static int check_maps(void) {
 
 static int check(void) {
     static const uint64_t opening[2] = {3, 4};
-#ifdef __cplusplus
-    vbr_handle handle[HANDLES] = {}, none = {};
-    vbr_report report = {};
-    vbr_lender lender = {};
-    static_assert(noexcept(vbr_has_within(&none, 1, 8)) && noexcept(vbr_drop(&none)), "no call throws");
-#else
-    vbr_handle handle[HANDLES] = {{0}}, none = {0};
-    vbr_report report = {0};
-    vbr_lender lender = {0};
-#endif
+    vbr_handle handle[HANDLES] = EMPTY_EACH, none = EMPTY;
+    vbr_report report = EMPTY;
+    vbr_lender lender = EMPTY;
+    THROWS_NONE(vbr_has_within(&none, 1, 8), vbr_drop(&none));
     vbr_cursor cursor = VBR_CURSOR_BEGIN;
     uint64_t keys[KEYS] = {0}, key = 0;
     CHECK(sizeof(vbr_cursor) == 16 && sizeof(vbr_answer) == 4 && sizeof(vbr_handle) == 16 && sizeof(vbr_report) == 24);

@@ -10,9 +10,8 @@ enum { HANDLES = 2, SLOTS = 8, BUCKETS = 4, LAST_EPOCH = 20 };
 static int renew(vbr_map_handle *map, vbr_entry *entries, int *renewals) {
     vbr_report report = {0};
     if (vbr_map_close_all(map, HANDLES, entries, SLOTS, &report) != VBR_YES) return 1;
-    if (vbr_map_open_with(map, HANDLES, SLOTS, BUCKETS, LAST_EPOCH, entries, report.live) != VBR_OK) return 1;
     ++*renewals;
-    return 0;
+    return vbr_map_open_with(map, HANDLES, SLOTS, BUCKETS, LAST_EPOCH, entries, report.live) != VBR_OK;
 }
 
 /* Stores and takes out many keys, and renews the map in time, or once an insert is refused. */

@@ -23,13 +23,10 @@
    The second makes no call: it sees that of so many short histories, drawn at random with true and false answers, the search
    explains just those for which a trial of all orders finds one. */
 #define _POSIX_C_SOURCE 200809L
+#include "stopping.h"
 #include "vbr.h"
 
-#include <errno.h>
-#include <pthread.h>
 #include <sched.h>
-#include <signal.h>
-#include <stdatomic.h>
 #include <stdio.h>
 #include <stdlib.h>
 #include <string.h>
@@ -96,16 +93,8 @@ static int of_maps;
 static struct call calls[THREADS * CALLS];        /* those of one thread are next to each other */
 static uint32_t events[2 * THREADS * CALLS];      /* of each stamp: the number of its call, doubled, and 1 where the call ends */
 static _Alignas(128) atomic_uint stamps;          /* how many were drawn */
-static _Alignas(128) atomic_int missing, working; /* threads that haven't come to the start, and that haven't done */
-static atomic_int pause_us; /* how long a thread that is stopped stands still */
-static long rounds, stops, refused, seed = 1;
-
-static uint64_t next(uint64_t *random) {
-    *random ^= *random << 13;
-    *random ^= *random >> 7;
-    *random ^= *random << 17;
-    return *random;
-}
+static _Alignas(128) atomic_int missing;          /* threads that haven't come to the start */
+static long rounds, refused, seed = 1;
 
 static uint32_t below(uint64_t *random, uint32_t limit) { return (uint32_t)((next(random) >> 32) * limit >> 32); }
 
@@ -260,15 +249,6 @@ static int failed(const char *what, uint32_t key) {
     return 1;
 }
 
-/* Stops the thread where it is, often in the middle of a call. */
-static void stand_still(int signal_number) {
-    (void)signal_number;
-    int kept = errno;
-    struct timespec time = {0, atomic_load(&pause_us) * 1000L};
-    nanosleep(&time, NULL);
-    errno = kept;
-}
-
 static vbr_answer call_set(vbr_handle *handle, struct call *c) {
     if (c->op == HAS) return vbr_has_within(handle, c->key, c->budget);
     if (c->op == INSERT) return vbr_insert_within(handle, c->key, c->budget);
@@ -390,18 +370,8 @@ static int close_handles(union handle *handles, uint64_t *has) {
     return 1;
 }
 
-/* Stops threads in the middle of calls, from time to time, until all have done. */
-static void stop_threads(uint64_t *random, pthread_t *threads) {
-    while (atomic_load(&working) > 0) {
-        uint64_t x = next(random);
-        struct timespec time = {0, 50000 + (long)(x % 200000)};
-        nanosleep(&time, NULL);
-        if (atomic_load(&working) < THREADS) continue;
-        atomic_store(&pause_us, 20 + (int)(x >> 32 & 255));
-        pthread_kill(threads[x >> 40 & 3], SIGUSR1);
-        stops++;
-    }
-}
+/* How many microseconds a thread stands still. */
+static int pause_of(uint32_t random) { return 20 + (int)(random & 255); }
 
 /* Lets the threads make their calls. */
 static int run(const struct round *r, union handle *handles, uint64_t *random) {
@@ -414,7 +384,7 @@ static int run(const struct round *r, union handle *handles, uint64_t *random) {
         workers[i] = (struct worker){.round = r, .handle = handles[i], .random = next(random) | 1, .number = i};
         if (pthread_create(&threads[i], NULL, work, &workers[i])) return failed("no thread", 0);
     }
-    if (r->is_stopped) stop_threads(random, threads);
+    if (r->is_stopped) stop_threads(random, threads, THREADS, 50000, 200000, pause_of);
     for (int i = 0; i < THREADS; i++) {
         pthread_join(threads[i], NULL);
         handles[i] = workers[i].handle;
@@ -535,9 +505,7 @@ static int compare(long histories, uint64_t *random) {
 /* Lets threads make calls. */
 static int play_all(long wanted, uint64_t *random) {
     long made = 0;
-    struct sigaction action = {0};
-    action.sa_handler = stand_still;
-    if (sigaction(SIGUSR1, &action, NULL)) return 1;
+    if (!can_stop()) return 1;
     for (; made < wanted; made += THREADS * CALLS)
         if (play(random)) return 1;
     printf("order in real time, %s in C: passed, %ld calls in %ld rounds, %ld of them refused, %ld stops\n",

@@ -12,9 +12,8 @@ static int renew(vbr_handle *handle, uint64_t *keys, int *renewals) {
     vbr_answer last = VBR_NO;
     for (int i = 0; i < HANDLES; i++) last = vbr_close(&handle[i], keys, SLOTS, &report);
     if (last != VBR_YES) return 1;
-    if (vbr_open_with(handle, HANDLES, SLOTS, BUCKETS, LAST_EPOCH, keys, report.live) != VBR_OK) return 1;
     ++*renewals;
-    return 0;
+    return vbr_open_with(handle, HANDLES, SLOTS, BUCKETS, LAST_EPOCH, keys, report.live) != VBR_OK;
 }
 
 /* Inserts and removes many keys, and renews the set in time, or once an insert is refused. */

@@ -18,11 +18,9 @@
    Then the keys of the report are carried over into the next set, which opens with them or gets them by inserts, or a
    fresh one begins. */
 #define _POSIX_C_SOURCE 200809L
+#include "stopping.h"
 #include "vbr.h"
 
-#include <pthread.h>
-#include <signal.h>
-#include <stdatomic.h>
 #include <stdio.h>
 #include <stdlib.h>
 #include <string.h>
@@ -80,17 +78,8 @@ enum kind { LOOK_UP, INSERT, REMOVE, CHANGE, PUT };
 
 static struct worker workers[THREADS];
 static unsigned char held[MOST]; /* which keys were in the set as the round began */
-static atomic_int working;
-static volatile sig_atomic_t pause_us;
-static long stalls, sets, carried, filled, walks, left, seed = 1; /* left: removed nodes in lists, at closes */
+static long sets, carried, filled, walks, left, seed = 1; /* left: removed nodes in lists, at closes */
 static long refusals[4]; /* by -answer */
-
-static uint64_t next(uint64_t *random) {
-    *random ^= *random << 13;
-    *random ^= *random >> 7;
-    *random ^= *random << 17;
-    return *random;
-}
 
 static uint64_t key_of(const struct round *r, uint32_t number) { return number * r->spread; }
 
@@ -109,13 +98,6 @@ static int is_in(uint32_t number) {
     int32_t sum = held[number];
     for (int i = 0; i < THREADS; i++) sum += workers[i].balance[number];
     return sum;
-}
-
-/* Stops the thread where it is, often in the middle of a call. */
-static void stand_still(int signal_number) {
-    (void)signal_number;
-    struct timespec time = {0, pause_us * 1000L};
-    nanosleep(&time, NULL);
 }
 
 static int adds(enum kind kind) { return kind == INSERT || kind == PUT; }
@@ -338,18 +320,8 @@ static const char *begin(const struct round *r, vbr_handle *handles, int with_ke
     return NULL;
 }
 
-/* Stops threads in the middle of calls, from time to time, until all have done. */
-static void stall_threads(uint64_t *random, pthread_t *threads) {
-    while (atomic_load(&working) > 0) {
-        uint64_t x = next(random);
-        struct timespec time = {0, 1000000 + (long)(x % 4000000)};
-        nanosleep(&time, NULL);
-        if (atomic_load(&working) < THREADS) continue;
-        pause_us = (x >> 32 & 7) == 0 ? 50000 : 2000;
-        pthread_kill(threads[x >> 40 & 3], SIGUSR1);
-        stalls++;
-    }
-}
+/* How many microseconds a thread stands still: one of eight for long. */
+static int pause_of(uint32_t random) { return (random & 7) == 0 ? 50000 : 2000; }
 
 /* Fills the set up to the most keys by one handle, with keys that no thread had, and takes these out again. */
 static const char *fill(const struct round *r, vbr_handle *handle) {
@@ -439,7 +411,7 @@ static int play(struct round *r, uint64_t *random, long *made) {
         workers[i].number = i;
         if (pthread_create(&threads[i], NULL, work, &workers[i])) return failed(r, sets, "no thread", 0);
     }
-    stall_threads(random, threads);
+    stop_threads(random, threads, THREADS, 1000000, 4000000, pause_of);
     for (int i = 0; i < THREADS; i++) {
         pthread_join(threads[i], NULL);
         handles[i] = workers[i].handle;
@@ -469,9 +441,7 @@ int main(int count, char **words) {
     if (count > 2) seed = atol(words[2]);
     if (wanted < 1 || seed < 0) return fputs("usage: soak [OPERATIONS [SEED]]\n", stderr), 2;
     uint64_t random = ((uint64_t)seed + 1) * 0x9e3779b97f4a7c15u | 1;
-    struct sigaction action = {0};
-    action.sa_handler = stand_still;
-    if (sigaction(SIGUSR1, &action, NULL)) return 1;
+    if (!can_stop()) return 1;
     struct round r = {0};
     int carries = 0;
     double start = now(), told = start;
@@ -482,10 +452,10 @@ int main(int count, char **words) {
         carried += carries;
         if (now() - told < 5 && made < wanted) continue;
         told = now();
-        fprintf(stderr, "soak: %ld of %ld operations, %ld sets, %ld stalls, %.0f s\n", made, wanted, sets, stalls, told - start);
+        fprintf(stderr, "soak: %ld of %ld operations, %ld sets, %ld stops, %.0f s\n", made, wanted, sets, stops, told - start);
     }
-    printf("soak in C: passed, %ld operations on %ld sets, %ld of them carried over, %ld filled; %ld walks; %ld stalls; "
+    printf("soak in C: passed, %ld operations on %ld sets, %ld of them carried over, %ld filled; %ld walks; %ld stops; "
            "refused: %ld steps, %ld slots, %ld epochs; left in lists where budgets were small: %ld removed nodes\n",
-           made, sets, carried, filled, walks, stalls, refusals[1], refusals[2], refusals[3], left);
+           made, sets, carried, filled, walks, stops, refusals[1], refusals[2], refusals[3], left);
     return 0;
 }

@@ -278,17 +278,8 @@ fn errors_pass_as_any_error<K: Both>() {
 #[test]
 fn hashes() {
     fn is_hashed<T: std::hash::Hash + Eq>() {}
-    is_hashed::<OpenError>();
-    is_hashed::<KeysError>();
-    is_hashed::<ShapeError>();
-    is_hashed::<Refusal>();
-    is_hashed::<OutOfSteps>();
-    is_hashed::<ReportError>();
-    is_hashed::<RenewError>();
-    is_hashed::<Shape>();
-    is_hashed::<Steps>();
-    is_hashed::<Report>();
-    is_hashed::<MapReport>();
+    is_hashed::<(OpenError, KeysError, Refusal, OutOfSteps, ReportError, RenewError)>();
+    is_hashed::<(ShapeError, Shape, Steps, Report, MapReport)>();
 }
 
 /// The budget of a handle is that of its shape; calls have it, and those within another one have that.

@@ -182,15 +182,15 @@ none_on {p} {q} {r} a b = record {
   tries = b.tries ∙ a.tries;
 }
 
-pub none_kept : {p q : PassView} → advances q.trace ≡ advances p.trace → flags_raised q.trace ≡ flags_raised p.trace →
-    TriesNoFlag p q → KeepsPool p q → KeepsSlots p q → TakesNoSlot p q
-none_kept {p} {q} same flags tries pool kept =
-    record { count = same; kept = kept; grows = grows_same p q pool.0; shared = inl flags; tries = tries }
-
 pub none_known : {p q : PassView} → advances q.trace ≡ advances p.trace → flags_raised q.trace ≡ flags_raised p.trace →
     TriesNoFlag p q → KeepsPool p q → GoesInTurn p.trace q.trace → knows q.trace ≡ knows p.trace → TakesNoSlot p q
-none_known {p} {q} same flags tries pool turn known =
-    none_kept same flags tries pool (keeps_known p q pool turn (λ s. ap (λ (k : Know). k.own s) known))
+none_known {p} {q} same flags tries pool turn known = record {
+  count = same;
+  kept = keeps_known p q pool turn (λ s. ap (λ (k : Know). k.own s) known);
+  grows = grows_same p q pool.0;
+  shared = inl flags;
+  tries = tries;
+}
 
 -- a slot that is given back
 pub none_back : (p q : PassView) (slot : ℕ) → q.trace ≡ p.trace → q.pool ≡ p.pool ++ slot ∷ [] → KeepsSlots p q →
@@ -308,18 +308,24 @@ no_unlink : (step : Step) → advances_or_gives step ≡ false → is_unlink ste
 no_unlink (Unlink pred expected s) e = e
 no_unlink _ e = refl
 
--- one such step
+-- one such step, where the pool stays and has what the pass could take, or the hand has it
+pub did_free : {step : Step} {p q : PassView} {r : ℕ} → Did step p.trace q.trace r → advances_or_gives step ≡ false →
+    q.pool ≡ p.pool → HasFree p q → TakesNoSlot p q
+did_free {step} {p} {q} d e pool free = record {
+  count = same_advances d (no_advance step e);
+  kept = record { free = free; stamped = did_stamps d (no_unlink step e); turn = did_turn d };
+  grows = grows_same p q pool;
+  shared = inl (same_flags d (no_raise step e));
+  tries = same_tries d (no_try step e);
+}
+
+-- and where the hand stays too
 pub did_none : {step : Step} {p q : PassView} {r : ℕ} → Did step p.trace q.trace r → advances_or_gives step ≡ false →
     KeepsPool p q → TakesNoSlot p q
 did_none {step} {p} {q} {r} d e pool =
-    none_kept (same_advances d (no_advance step e)) (same_flags d (no_raise step e)) (same_tries d (no_try step e)) pool
-    (record {
-      free =
-          free_pool p q pool
-          (λ s m. may_before step r _ (knows p.trace) s e (subst (λ (k : Know). MayBear (k.own s)) d.know m));
-      stamped = did_stamps d (no_unlink step e);
-      turn = did_turn d;
-    })
+    did_free d e pool.0
+    (free_pool p q pool
+    (λ s m. may_before step r _ (knows p.trace) s e (subst (λ (k : Know). MayBear (k.own s)) d.know m)))
 
 -- a step that gives the pass a slot, which is then kept in its pool
 module _ {step : Step} {p q r : PassView} {slot n : ℕ} (d : Did step p.trace q.trace n)

@@ -7,13 +7,15 @@ use Rattle.vbr_machine.specs.History.{set_call}
 use Rattle.vbr_machine.specs.Knowledge.{Know}
 use Rattle.vbr_machine.specs.Learning.{present_reply}
 use Rattle.vbr_machine.specs.Loads.{IsLoad}
+use Rattle.vbr_machine.specs.Machine as machine
 use Rattle.vbr_machine.specs.Membership.{Knows}
-use Rattle.vbr_machine.specs.Runs.{IsRun}
+use Rattle.vbr_machine.specs.Runs.{IsRun, world_after}
 use Rattle.vbr_machine.specs.declared.event.Step.{Step}
-use Rattle.vbr_machine.specs.declared.event.Step.TheVariants.{ConfirmAbsent, ConfirmPresent}
+use Rattle.vbr_machine.specs.declared.event.Step.TheVariants.{ConfirmAbsent, ConfirmPresent, LoadLink}
 use Rattle.vbr_machine.specs.declared.history.Op.{Op}
 use Rattle.vbr_machine.specs.declared.history.Op.TheVariants.{Get}
 use Rattle.vbr_machine.specs.declared.knowledge.Read.TheVariants.{KeyOf, ValueOf}
+use Rattle.vbr_slots.specs.Calls.{AddsNone, Quiet}
 use Rattle.vbr_slots.specs.Views.{Did, KeepsPool, PassView, Trace, knows}
 use Rattle.vbr_slots.proofs.Lemmas.{did_loads, did_moment, did_took}
 use Rattle.vbr_at_table.specs.Answering.{FindsAnother, IsAnswered, KeepsByLoad}
@@ -69,41 +71,31 @@ absent_answered d = record { made = absent_made d; adds = absent_adds d }
 -- ---- another link
 
 module _ {p q : Trace} {found : ℕ} (held : Held) (other : found ≢ held.word) where
-  pub present_finds : {op : Op} (s : ℕ) → held.at ≡ Slot s → Did (ConfirmPresent op s held.word) p q found →
+  -- a step that made no call, added nothing and taught nothing found it, if it stood there at its moment
+  finds_another : {step : Step} (place : At) → held.at ≡ place → (d : Did step p q found) → Quiet p q → AddsNone p q →
+      machine.found p.start (world_after p.start (p.seen ++ d.rest)) (LoadLink place) ≡ found → knows q ≡ knows p →
       FindsAnother p q held (LostExchange found)
-  present_finds {op} s place_is d =
+  finds_another place is d quiet adds_none there same =
       let F : At → Type 0 = λ place. WasFound p q place found in
       record {
-        quiet = present_failed d other;
-        adds_none = present_adds_none d other;
+        quiet = quiet;
+        adds_none = adds_none;
         lost = (
           other,
-          subst F (sym place_is)
-              (record {
-                moment = p.seen ++ d.rest;
-                within = did_moment d;
-                found = unanswered (present_reply op) held.word found _ other d.shows.answers;
-              }),
-          known_keeps d.know,
+          subst F (sym is) (record { moment = p.seen ++ d.rest; within = did_moment d; found = there }),
+          known_keeps same,
         );
       }
+
+  pub present_finds : {op : Op} (s : ℕ) → held.at ≡ Slot s → Did (ConfirmPresent op s held.word) p q found →
+      FindsAnother p q held (LostExchange found)
+  present_finds {op} s is d =
+      finds_another (Slot s) is d (present_failed d other) (present_adds_none d other)
+      (unanswered (present_reply op) held.word found _ other d.shows.answers) d.know
 
   pub absent_finds : {op : Op} {key : ℕ} (place : At) → held.at ≡ place →
       Did (ConfirmAbsent op key place held.word) p q found →
       FindsAnother p q held (LostExchange found)
-  absent_finds {op} {key} place is d =
-      let F : At → Type 0 = λ place. WasFound p q place found in
-      record {
-        quiet = absent_failed d other;
-        adds_none = absent_adds_none d other;
-        lost = (
-          other,
-          subst F (sym is)
-              (record {
-                moment = p.seen ++ d.rest;
-                within = did_moment d;
-                found = unanswered false held.word found _ other d.shows.answers;
-              }),
-          known_keeps d.know,
-        );
-      }
+  absent_finds place is d =
+      finds_another place is d (absent_failed d other) (absent_adds_none d other)
+      (unanswered false held.word found _ other d.shows.answers) d.know

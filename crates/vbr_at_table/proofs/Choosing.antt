@@ -187,7 +187,7 @@ module _ (p q r : PassView) (e budget used : ℕ) (read : Did ReadEpoch p.trace 
             held slot (inl c) = c
             held slot (inr h) = nobody r.hand slot (keeps_then.1 ∙ empty) h
 
-        pub raised_chooses : Chooses p t
+        raised_chooses : Chooses p t
         raised_chooses = record {
           quiet = quiet_on quiet_then (quiet_on (did_quiet advance (λ know. refl)) quiet_again);
           pool = (still.0 ∙ keeps.0 ∙ keeps_then.0, still.1 ∙ keeps.1 ∙ keeps_then.1);
@@ -198,7 +198,7 @@ module _ (p q r : PassView) (e budget used : ℕ) (read : Did ReadEpoch p.trace 
           advances = inr raised_once;
         }
 
-        pub raised_chosen : (pool : List ℕ) → pool ≡ t.pool → p.pool ≢ [] → since + PIECE ≤ budget →
+        raised_chosen : (pool : List ℕ) → pool ≡ t.pool → p.pool ≢ [] → since + PIECE ≤ budget →
             IsChosen p t budget used (get_or pool 0 0, since + 2)
         raised_chosen pool shown some left =
             let there : pool ≡ r.pool = shown ∙ still.0 ∙ keeps.0 in
@@ -230,3 +230,7 @@ module _ (p q r : PassView) (e budget used : ℕ) (read : Did ReadEpoch p.trace 
               };
               below = (subst (λ (l : List ℕ). Contains l slot) shown has, omega arith, first_one);
             }
+
+        pub raised_then : (pool : List ℕ) → pool ≡ t.pool → p.pool ≢ [] → since + PIECE ≤ budget →
+            Chooses p t × IsChosen p t budget used (get_or pool 0 0, since + 2)
+        raised_then pool shown some left = (raised_chooses, raised_chosen pool shown some left)

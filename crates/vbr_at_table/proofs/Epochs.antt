@@ -1,27 +1,27 @@
 -- Along a run the epoch only rises, and no stamp is above it.
 -- Each epoch that a pass has read is at least 1 and no greater than the last.
-use Rattle.std.proofs.Common.{◌≡◌, ◌≢◌, ℕ, ◌≤◌, ◌==◌, true, false, List, [], ◌∷◌, ◌++◌, refl, sym, ap, ◌∙◌, subst}
-use Rattle.std.proofs.Common.{⊎_elim, arith}
+use Rattle.std.proofs.Common.{◌≡◌, ◌≢◌, ℕ, ◌≤◌, ◌==◌, Bool, true, false, List, [], ◌∷◌, ◌++◌, Option, Some, None}
+use Rattle.std.proofs.Common.{refl, sym, ap, ◌∙◌, subst, ⊎_elim, arith}
 use Rattle.std.proofs.lemmas.Bool.{cases_Bool, cases_eq}
 use Rattle.vbr_machine.specs.Start.{Start, IsStart}
-use Rattle.vbr_words.specs.Words.{word_of}
+use Rattle.vbr_words.specs.declared.link.Link.{Link}
+use Rattle.vbr_words.specs.declared.place.At.{At}
 use Rattle.vbr_words.specs.declared.place.At.TheVariants.{Head, Slot}
-use Rattle.vbr_words.specs.Flags.{has_flag}
 use Rattle.vbr_machine.specs.Acceptance.{Accepts, MayBear, stamp_in}
 use Rattle.vbr_machine.specs.Accounts.{incarnations_after, notes_after, incarnations_with}
 use Rattle.vbr_machine.specs.Agreement.{Agrees}
 use Rattle.vbr_machine.specs.Incarnations.{Incarnations, at_opening}
 use Rattle.vbr_machine.specs.Knowledge.{Know}
-use Rattle.vbr_machine.specs.Machine.{World, opening, found, stamp_shown, after}
+use Rattle.vbr_machine.specs.Learning.{call_ahead, call_of, key_written, link_written, succeeds}
+use Rattle.vbr_machine.specs.Machine.{World, opening, found, stamp_shown, after, learned, with_call, with_link_at}
+use Rattle.vbr_machine.specs.Machine.{written}
 use Rattle.vbr_machine.specs.Notes.{Notes, no_notes, notes_with}
 use Rattle.vbr_machine.specs.Put.{put}
 use Rattle.vbr_machine.specs.Runs.{world_from, AreAccepted, IsRun, world_after, know_after}
 use Rattle.vbr_machine.specs.declared.event.Event.{Event}
 use Rattle.vbr_machine.specs.declared.event.Step.{Step}
-use Rattle.vbr_machine.specs.declared.event.Step.TheVariants.{ReadEpoch, Advance, LoadStamp, StoreStamp, Raise}
-use Rattle.vbr_machine.specs.declared.event.Step.TheVariants.{TakeFlag, StoreBirth, StoreKey, StoreLink, LoadLink}
-use Rattle.vbr_machine.specs.declared.event.Step.TheVariants.{LoadBirth, LoadKey, Publish, Mark, Replace, Unlink}
-use Rattle.vbr_machine.specs.declared.event.Step.TheVariants.{ConfirmPresent, ConfirmAbsent, StoreValue, LoadValue}
+use Rattle.vbr_machine.specs.declared.event.Step.TheVariants.{ReadEpoch, Advance, StoreStamp, Publish, Unlink}
+use Rattle.vbr_machine.specs.declared.history.Call.{Call}
 use Rattle.vbr_machine.proofs.Lemmas.{by_both, is_run_after, is_run_before, is_run_first, know_other, know_own}
 use Rattle.vbr_machine.proofs.Lemmas.{put_here, put_other, run_agrees, stamp_known, step_agrees, world_after-append}
 use Rattle.vbr_slots.specs.Views.{epoch_after}
@@ -47,14 +47,57 @@ same_epoch_and_stamps : (w v : World) → epoch_and_stamps v ≡ epoch_and_stamp
 same_epoch_and_stamps w v e t =
     subst (λ (x : ℕ × (ℕ → ℕ)). (w.epoch ≤ x.0) × ((s : ℕ) → x.1 s ≤ x.0)) (sym e) (omega arith, t.stamps)
 
+-- whether a step may move the epoch or a stamp
+abbrev moves : Step → Bool
+moves (Advance from) = true
+moves (StoreStamp s stamp) = true
+moves _ = false
+
+-- a link that is written leaves the epoch and the stamps
+linked_same : (w : World) (place : At) (link : Link) → epoch_and_stamps (with_link_at w place link) ≡ epoch_and_stamps w
+linked_same w (Head b) link = refl
+linked_same w (Slot s) link = refl
+
+-- and so does what any other step writes
+written_same : (start : Start) (p : ℕ) (step : Step) (link : Link) (key : ℕ) (w : World) → moves step ≡ false →
+    epoch_and_stamps (written start p step link key w) ≡ epoch_and_stamps w
+written_same start p (Advance from) link key w none = absurd (cc)
+written_same start p (StoreStamp s stamp) link key w none = absurd (cc)
+written_same start p (Publish pred expected s) link key w none = linked_same w pred link
+written_same start p (Unlink pred expected s) link key w none = linked_same w pred link
+written_same start p _ link key w none = refl
+
+-- what a pass learns leaves them
+learned_same : (start : Start) (w : World) (p : ℕ) (step : Step) →
+    epoch_and_stamps (learned start w p step) ≡ epoch_and_stamps w
+learned_same start w p (Advance from) = refl
+learned_same start w p _ = refl
+
+-- and so does a call that is made
+called_same : (w : World) (call : Option Call) → epoch_and_stamps (with_call w call) ≡ epoch_and_stamps w
+called_same w None = refl
+called_same w (Some call) = refl
+
+-- any other step leaves them
+after_same : (start : Start) (w : World) (p : ℕ) (step : Step) → moves step ≡ false →
+    epoch_and_stamps (after start w p step) ≡ epoch_and_stamps w
+after_same start w p step none =
+    let knows_more = learned start w p step in
+    let wrote =
+    written start p step (link_written (w.know p) step) (key_written (w.know p) step) knows_more in
+    let ahead = with_call wrote (call_ahead start p (w.know p) step) in
+    let made = call_of start p (w.know p) step in
+    by_both (succeeds step (found start w step)) epoch_and_stamps (with_call ahead made) w (epoch_and_stamps w)
+    (called_same ahead made ∙ called_same wrote (call_ahead start p (w.know p) step)
+    ∙ written_same start p step (link_written (w.know p) step) (key_written (w.know p) step) knows_more none
+    ∙ learned_same start w p step) refl
+
 -- one step advances the epoch by 1 or leaves it, and stamps with no greater one
 later : (start : Start) (w : World) (p : ℕ) (step : Step) → IsTimely w → (w.know p).epoch ≤ w.epoch →
     Accepts start (w.know p) step → Later w (after start w p step)
-later start w p ReadEpoch t low ok = same_epoch_and_stamps w (after start w p ReadEpoch) refl t
 later start w p (Advance from) t low ok =
     ⊎_elim (λ (x : (w.epoch == from) ≡ true). rw x (omega arith, λ s. let y = t.stamps s in omega arith))
     (λ (x : (w.epoch == from) ≡ false). rw x (omega arith, t.stamps)) (cases_Bool (w.epoch == from))
-later start w p (LoadStamp s) t low ok = same_epoch_and_stamps w w refl t
 later start w p (StoreStamp s stamp) t low ok = (
   omega arith,
   λ v. ⊎_elim (λ (x : v ≡ s).
@@ -62,67 +105,14 @@ later start w p (StoreStamp s stamp) t low ok = (
       (let e = ok.in_range.1 in omega arith))
       (λ (x : v ≢ s). subst (λ (n : ℕ). n ≤ w.epoch) (sym (put_other w.stamp s stamp v x)) (t.stamps v)) (cases_eq v s),
 )
-later start w p (Raise s) t low ok = same_epoch_and_stamps w (after start w p (Raise s)) refl t
-later start w p (TakeFlag s) t low ok =
-    same_epoch_and_stamps w (after start w p (TakeFlag s))
-    (by_both (has_flag (found start w (TakeFlag s)) s) epoch_and_stamps _ w (epoch_and_stamps w) refl refl) t
-later start w p (StoreBirth s birth) t low ok = same_epoch_and_stamps w (after start w p (StoreBirth s birth)) refl t
-later start w p (StoreKey s key) t low ok = same_epoch_and_stamps w (after start w p (StoreKey s key)) refl t
-later start w p (StoreValue s value) t low ok = same_epoch_and_stamps w (after start w p (StoreValue s value)) refl t
-later start w p (StoreLink s next) t low ok = same_epoch_and_stamps w (after start w p (StoreLink s next)) refl t
-later start w p (LoadLink place) t low ok = same_epoch_and_stamps w (after start w p (LoadLink place)) refl t
-later start w p (LoadBirth s) t low ok = same_epoch_and_stamps w (after start w p (LoadBirth s)) refl t
-later start w p (LoadKey s) t low ok = same_epoch_and_stamps w (after start w p (LoadKey s)) refl t
-later start w p (LoadValue s) t low ok = same_epoch_and_stamps w (after start w p (LoadValue s)) refl t
-later start w p (Publish (Head b) expected s) t low ok =
-    same_epoch_and_stamps w (after start w p (Publish (Head b) expected s))
-    (by_both (word_of (w.head b) == expected) epoch_and_stamps _ w (epoch_and_stamps w) refl refl) t
-later start w p (Publish (Slot v) expected s) t low ok =
-    same_epoch_and_stamps w (after start w p (Publish (Slot v) expected s))
-    (by_both (word_of (w.link v) == expected) epoch_and_stamps _ w (epoch_and_stamps w) refl refl) t
-later start w p (Mark s expected) t low ok =
-    same_epoch_and_stamps w (after start w p (Mark s expected))
-    (by_both (word_of (w.link s) == expected) epoch_and_stamps _ w (epoch_and_stamps w) refl refl) t
-later start w p (Replace s expected v) t low ok =
-    same_epoch_and_stamps w (after start w p (Replace s expected v))
-    (by_both (word_of (w.link s) == expected) epoch_and_stamps _ w (epoch_and_stamps w) refl refl) t
-later start w p (Unlink (Head b) expected s) t low ok =
-    same_epoch_and_stamps w (after start w p (Unlink (Head b) expected s))
-    (by_both (word_of (w.head b) == expected) epoch_and_stamps _ w (epoch_and_stamps w) refl refl) t
-later start w p (Unlink (Slot v) expected s) t low ok =
-    same_epoch_and_stamps w (after start w p (Unlink (Slot v) expected s))
-    (by_both (word_of (w.link v) == expected) epoch_and_stamps _ w (epoch_and_stamps w) refl refl) t
-later start w p (ConfirmPresent op s expected) t low ok =
-    same_epoch_and_stamps w (after start w p (ConfirmPresent op s expected))
-    (by_both (word_of (w.link s) == expected) epoch_and_stamps _ w (epoch_and_stamps w) refl refl) t
-later start w p (ConfirmAbsent op key place expected) t low ok =
-    same_epoch_and_stamps w (after start w p (ConfirmAbsent op key place expected))
-    (by_both (found start w (ConfirmAbsent op key place expected) == expected) epoch_and_stamps _ w (epoch_and_stamps w)
-    refl refl) t
+later start w p step t low ok =
+    same_epoch_and_stamps w (after start w p step) (after_same start w p step refl) t
 
 -- the epoch that is read in a timely world is at least 1
 some_read : (start : Start) (w : World) (step : Step) (e : ℕ) → IsTimely w → 1 ≤ e →
     1 ≤ epoch_after step (found start w step) e
 some_read start w ReadEpoch e t some = t.some
-some_read start w (Advance from) e t some = some
-some_read start w (LoadStamp s) e t some = some
-some_read start w (StoreStamp s stamp) e t some = some
-some_read start w (Raise s) e t some = some
-some_read start w (TakeFlag s) e t some = some
-some_read start w (StoreBirth s birth) e t some = some
-some_read start w (StoreKey s key) e t some = some
-some_read start w (StoreValue s value) e t some = some
-some_read start w (StoreLink s next) e t some = some
-some_read start w (LoadLink place) e t some = some
-some_read start w (LoadBirth s) e t some = some
-some_read start w (LoadKey s) e t some = some
-some_read start w (LoadValue s) e t some = some
-some_read start w (Publish pred expected s) e t some = some
-some_read start w (Mark s expected) e t some = some
-some_read start w (Replace s expected v) e t some = some
-some_read start w (Unlink pred expected s) e t some = some
-some_read start w (ConfirmPresent op s expected) e t some = some
-some_read start w (ConfirmAbsent op key place expected) e t some = some
+some_read start w _ e t some = some
 
 read_after : (start : Start) (w : World) (p : ℕ) (step : Step) → IsTimely w → (q : ℕ) →
     1 ≤ ((after start w p step).know q).epoch

@@ -1,7 +1,7 @@
 -- A slot in hand whose key and link are stored, and its publication.
-use Rattle.std.proofs.Common.{◌≡◌, ℕ, ◌<◌, Bool, true, false, Option, Some, None, refl, sym, ap, ◌∙◌, subst}
+use Rattle.std.proofs.Common.{◌≡◌, ℕ, ◌<◌, Bool, true, false, Option, Some, None, refl, sym, ap, ◌∙◌, subst, arith}
 use Rattle.std.specs.Prelude.{unwrap_or}
-use Rattle.vbr_words.specs.Words.{link_of}
+use Rattle.vbr_words.specs.Words.{IsLink, link_of, word_of}
 use Rattle.vbr_words.specs.declared.link.Link.{Link}
 use Rattle.vbr_machine.specs.Start.{Start}
 use Rattle.vbr_machine.specs.Acceptance.{IsNextIn, IsInHand, Accepts}
@@ -29,9 +29,10 @@ use Rattle.vbr_slots.specs.PassLaw.{PassLaw}
 use Rattle.vbr_at_table.specs.declared.held.Held.{Held}
 use Rattle.vbr_at_table.proofs.MadeCalls.{published}
 use Rattle.vbr_at_table.proofs.Accepted.{place_in, slot_in, named_slot}
-use Rattle.vbr_at_table.specs.Values.{PutsValue, entry_call, with_kept_value}
+use Rattle.vbr_at_table.specs.Values.{FillsEntry, PutsValue, entry_call, with_kept_value}
 use Rattle.vbr_at_table.proofs.KeptKnowledge.{birth_named_kept, held_kept, keeps_on}
 use Rattle.vbr_at_table.proofs.NoValues.{kept_same, value_asked}
+use Rattle.vbr_at_table.proofs.WrittenLinks.{birth_at_low, birth_in_hand_low, fits}
 
 -- ---- what is in hand
 
@@ -230,10 +231,38 @@ filled {p} {q} {t} {r} {s} {key} {birth} {one} {two} {next} {link} b value d put
       λ has. ap value_in_hand now ∙ f.1 has,
     )
 
--- a slot that is filled is still in the hand
-pub hand_filled : (p : PassView) (hand : HandView) (key : ℕ) (link : Link) → p.hand ≡ Some hand.slot →
-    IsFilled ((knows p.trace).own hand.slot) hand.birth key link → IsHandOf p hand
-hand_filled p hand key link is f = record { slot = is; birth = ap birth_in_hand f.holding_is ∙ f.birth_is }
+-- so it is once an entry was filled in, by any name of the slot
+module _ {p q : PassView} {pred : Held} {hand : HandView} {key value birth s : ℕ}
+    (fills : FillsEntry p q pred hand key value birth) (is : s ≡ hand.slot) where
+  pub filled_there : IsFilled ((knows q.trace).own s) hand.birth key (link_to (link_of pred.word).slot hand.birth birth)
+  filled_there =
+      let P : ℕ → Type 0 =
+      λ t. IsFilled ((knows q.trace).own t) hand.birth key (link_to (link_of pred.word).slot hand.birth birth) in
+      subst P (sym is) fills.fills.filled
+
+  pub valued_there : q.trace.start.shape.values ≡ true → value_in_hand ((knows q.trace).own s) ≡ Some value
+  valued_there has =
+      let P : ℕ → Type 0 = λ t. value_in_hand ((knows q.trace).own t) ≡ Some value in
+      subst P (sym is)
+      (fills.valued (ap (λ (d : Start). d.shape.values) (sym fills.fills.quiet.same.start) ∙ has))
+
+  pub in_hand_there : PassLaw q → p.hand ≡ Some hand.slot →
+      (s < q.trace.start.shape.slots) × IsInHand ((knows q.trace).own s) ×
+      (birth_in_hand ((knows q.trace).own s) ≡ hand.birth)
+  in_hand_there law held =
+      let filled = fills.fills.filled in
+      hand_at q law hand
+      (record { slot = fills.fills.hand ∙ held; birth = ap birth_in_hand filled.holding_is ∙ filled.birth_is }) s is
+
+  -- a link to it fits behind what is held
+  pub fits_there : {own : ℕ} → PassLaw q → p.hand ≡ Some hand.slot → IsHeld (knows q.trace) pred → own ≡ hand.birth →
+      IsLink (link_to (Some s) pred.birth own)
+  fits_there {own} law in_hand held own_is =
+      let there = in_hand_there law in_hand in
+      let low = there.0 in
+      let most = law.start.shape.slots in
+      fits q law (Some s) pred.birth own (omega (arith, low, most)) (birth_at_low q law pred.at pred.birth held.birth)
+      (birth_in_hand_low q law s own (there.2 ∙ sym own_is))
 
 -- ---- the publication
 
@@ -273,13 +302,19 @@ module _ (p : PassView) (sound : PassLaw p) (pred : Held) (s key birth next : �
         below_last = tt;
       })
 
-  pub publish_writes : link_written (knows p.trace) (Publish pred.at pred.word s) ≡ link_to (Some s) pred.birth birth
-  publish_writes =
+  publish_written : link_written (knows p.trace) (Publish pred.at pred.word s) ≡ link_to (Some s) pred.birth birth
+  publish_written =
       written_is p.trace.start p.trace.passes p.trace.seen sound.start sound.is_run p.trace.who
       (Publish pred.at pred.word s) (link_to (Some s) pred.birth (birth_in_hand ((knows p.trace).own s)))
       (pred.birth, h.birth, refl)
       ∙ ap (λ (o : Option Holding). link_to (Some s) pred.birth (birth_in_hand o)) f.holding_is
       ∙ ap (λ (b : ℕ). link_to (Some s) pred.birth b) f.birth_is
+
+  -- so it writes the word of the link to the slot
+  pub publish_writes : {own word : ℕ} → word ≡ word_of (link_to (Some s) pred.birth own) → own ≡ birth →
+      word ≡ word_of (link_written (knows p.trace) (Publish pred.at pred.word s))
+  publish_writes is same = is ∙ ap (λ (b : ℕ). word_of (link_to (Some s) pred.birth b)) same
+      ∙ ap word_of (sym publish_written)
 
   pub publish_made : {q : Trace} (value : ℕ) →
       (p.trace.start.shape.values ≡ true → value_in_hand ((knows p.trace).own s) ≡ Some value) →

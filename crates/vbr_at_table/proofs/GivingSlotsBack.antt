@@ -20,8 +20,8 @@ use Rattle.vbr_slots.specs.Calls.{Quiet, Took}
 use Rattle.vbr_slots.specs.PassLaw.{PassLaw}
 use Rattle.vbr_slots.specs.Pools.{HandFits, hand_without, without}
 use Rattle.vbr_slots.specs.Views.{Did, PassView, Trace, event_of, knows}
-use Rattle.vbr_slots.proofs.Lemmas.{did_moment, did_quiet, did_took, moment_after, moment_before, quiet_on, quiet_refl}
-use Rattle.vbr_slots.proofs.Lemmas.{took_none, took_on}
+use Rattle.vbr_slots.proofs.Lemmas.{did_moment, did_quiet, did_took, hand_stays, moment_after, moment_before, quiet_on}
+use Rattle.vbr_slots.proofs.Lemmas.{quiet_refl, took_none, took_on}
 use Rattle.vbr_at_table.specs.StepKinds.{ChangesNone, advances, flags_raised, is_raise}
 use Rattle.vbr_at_table.specs.GivingSlotsBack.{GivesSlotsBack, WasRaised}
 use Rattle.vbr_at_table.specs.KeptSlots.{HasFree, HasSlot, KeepsSlots}
@@ -82,11 +82,11 @@ one_fewer slot (x ∷ xs) apart (suc k, low, is) =
 -- ---- the hand
 
 -- a slot of the own pool isn't in hand
-hand_stays : (start : Start) (know : Know) (slot : ℕ) (pool : List ℕ) (hand : Option ℕ) →
+pooled_apart : (start : Start) (know : Know) (slot : ℕ) (pool : List ℕ) (hand : Option ℕ) →
     HandFits start know pool hand → Contains pool slot → hand_without slot hand ≡ hand
-hand_stays start know slot pool None fits there = refl
-hand_stays start know slot pool (Some s) fits there =
-    ap (λ b. cond b None (Some s)) (ne_eqb s slot (λ same. fits.2 (subst (Contains pool) (sym same) there)))
+pooled_apart start know slot pool None fits there = refl
+pooled_apart start know slot pool (Some s) fits there =
+    hand_stays slot (Some s) (λ is. let same : s ≡ slot = cc in fits.2 (subst (Contains pool) (sym same) there))
 
 -- ---- so many slots were raised
 
@@ -150,7 +150,7 @@ module _ {p q : PassView} {slot n : ℕ} (law : PassLaw p) (there : Contains p.p
     (d : Did (Raise slot) p.trace q.trace n) (pool : q.pool ≡ without slot p.pool)
     (hand_left : q.hand ≡ hand_without slot p.hand) where
   hand : q.hand ≡ p.hand
-  hand = hand_left ∙ hand_stays p.trace.start (knows p.trace) slot p.pool p.hand law.own.in_hand there
+  hand = hand_left ∙ pooled_apart p.trace.start (knows p.trace) slot p.pool p.hand law.own.in_hand there
 
   -- what it knows of other slots stays
   other_own : (s : ℕ) → s ≢ slot → (knows q.trace).own s ≡ (knows p.trace).own s

@@ -1,5 +1,5 @@
 -- The slots of a pass stay its own while the one in hand is filled and published.
-use Rattle.std.proofs.Common.{◌≡◌, ◌≢◌, ℕ, List, Some, None, refl, sym, ap, ◌∙◌, subst, inl, inr, ⊎_elim}
+use Rattle.std.proofs.Common.{◌≡◌, ◌≢◌, ℕ, ◌+◌, List, Some, None, refl, sym, ap, ◌∙◌, subst, inl, inr, ⊎_elim}
 use Rattle.std.specs.Prelude.{Contains}
 use Rattle.std.proofs.lemmas.Bool.{cases_eq}
 use Rattle.vbr_words.specs.declared.place.At.{At}
@@ -8,11 +8,13 @@ use Rattle.vbr_machine.specs.Knowledge.{Know}
 use Rattle.vbr_machine.specs.Put.{put}
 use Rattle.vbr_machine.specs.declared.event.Step.TheVariants.{Publish}
 use Rattle.vbr_machine.proofs.Lemmas.{put_here, put_other}
+use Rattle.vbr_slots.specs.Expected.{Publishes}
 use Rattle.vbr_slots.specs.Views.{PassView, Did, knows}
+use Rattle.vbr_at_table.specs.Exchanges.{StoresIn}
 use Rattle.vbr_at_table.specs.KeptSlots.{HasSlot, HasFree, TakesNoSlot}
-use Rattle.vbr_at_table.proofs.Advancing.{did_stamps, grows_same, same_advances, same_flags, same_tries}
-use Rattle.vbr_at_table.proofs.InTurn.{did_turn}
-use Rattle.vbr_at_table.proofs.WonExchanges.{publish_learned}
+use Rattle.vbr_at_table.proofs.Advancing.{did_free}
+use Rattle.vbr_at_table.proofs.WonExchanges.{publish_keeps, publish_learned}
+use Rattle.vbr_at_table.proofs.Storing.{stores_last}
 
 -- where the slot in hand goes out of it, the others stay
 pub spent_kept : (p q : PassView) (slot : ℕ) → ((s : ℕ) → (knows q.trace).own s ≡ put (knows p.trace).own slot None s) →
@@ -29,17 +31,13 @@ spent_kept p q slot own hand pool s h =
     stays other (inr e) = let same : s ≡ slot = cc in absurd (other same)
 
 -- so it is of the slot that is published
-pub publish_none : (p q : PassView) {pred : At} {expected slot : ℕ} →
+publish_none : (p q : PassView) {pred : At} {expected slot : ℕ} →
     Did (Publish pred expected slot) p.trace q.trace expected → p.hand ≡ Some slot → q.pool ≡ p.pool → TakesNoSlot p q
 publish_none p q {slot = slot} d hand pool =
-    record {
-      count = same_advances d refl;
-      kept = record {
-        free = spent_kept p q slot (λ s. ap (λ (k : Know). k.own s) (publish_learned d)) hand pool;
-        stamped = did_stamps d refl;
-        turn = did_turn d;
-      };
-      grows = grows_same p q pool;
-      shared = inl (same_flags d refl);
-      tries = same_tries d refl;
-    }
+    did_free d refl pool (spent_kept p q slot (λ s. ap (λ (k : Know). k.own s) (publish_learned d)) hand pool)
+
+-- and a call that stores ends with it
+pub publish_stores : {p q r : PassView} {m expected slot : ℕ} {pred : At} → StoresIn p q m →
+    Publishes pred expected slot q r → q.hand ≡ Some slot → StoresIn p r (m + 1)
+publish_stores {q = q} {r = r} stores found hand =
+    stores_last stores found.did (publish_keeps found.did) found.pool (publish_none q r found.did hand found.pool)

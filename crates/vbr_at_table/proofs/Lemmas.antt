@@ -2,6 +2,7 @@
 
 -- What the steps of a pass show: the epoch that it reads, and the flags that it takes.
 pub use Rattle.vbr_at_table.proofs.Shown.{epoch_stood, epoch_told, missed_after}
+pub use Rattle.vbr_at_table.proofs.EpochReads.{own_read}
 -- The steps of a call, one piece after another.
 pub use Rattle.vbr_at_table.proofs.Counting.{counts_none, counts_on, no_room, took_all}
 -- The steps of a pass that would advance the epoch, through its other steps.
@@ -24,7 +25,7 @@ pub use Rattle.vbr_at_table.proofs.Moments.{was_present}
 -- An unlinking: won, it gives the pass the slot to stamp; lost, it leaves all as it was.
 pub use Rattle.vbr_at_table.proofs.NoneUnlinked.{unlinks_none}
 -- What calls that read tell, one after another.
-pub use Rattle.vbr_at_table.proofs.ReadCalls.{reads_on}
+pub use Rattle.vbr_at_table.proofs.ReadCalls.{reads_none, reads_on}
 -- The slots that other passes took out of the shared pool, from piece to piece of a call.
 pub use Rattle.vbr_at_table.proofs.Gained.{alone_gained, gained_on, gained_since, more_lost, none_lost}
 -- What adds nothing to the chronicle changes no list.

@@ -10,10 +10,7 @@ use Rattle.vbr_machine.specs.Knowledge.{Know}
 use Rattle.vbr_machine.specs.Learning.{call_ahead, call_of, present_reply, succeeds}
 use Rattle.vbr_machine.specs.Machine.{World, found}
 use Rattle.vbr_machine.specs.Accounts as entries
-use Rattle.vbr_machine.specs.Chronicles.{Inserts, Removes, Replaces, Unlinks}
-use Rattle.vbr_machine.specs.Incarnations.{last_in}
 use Rattle.vbr_machine.specs.Making.{ahead_made}
-use Rattle.vbr_machine.specs.Notes.{before_at}
 use Rattle.vbr_machine.specs.Membership.{Knows}
 use Rattle.vbr_machine.specs.Runs.{IsRun, world_after}
 use Rattle.vbr_machine.specs.declared.event.Step.{Step}
@@ -72,6 +69,20 @@ failed {step} {p} {q} d f =
           (λ i. option_to_list (none_ahead p.start w p.who step f i)
           ++ ap (λ (b : Bool). option_to_list (cond b (call_of p.start p.who (w.know p.who) step) None)) f i)
           ∙ append-nil (made_by p);
+    }
+
+-- nor anything in the chronicle, where its kind adds nothing then
+failed_adds : {step : Step} {p q : Trace} {r : ℕ} (d : Did step p q r) → entries.happens_if_missed p.who step ≡ [] →
+    succeeds step (found p.start (world_after p.start (p.seen ++ d.rest)) step) ≡ false → AddsNone p q
+failed_adds {step} {p} d missed f =
+    let w = world_after p.start (p.seen ++ d.rest) in
+    let a = entries.incarnations_after p.start (p.seen ++ d.rest) in
+    let added = entries.happens_if_found p.start w a p.who step in
+    record {
+      entries = did_entries d
+          ∙ ap (λ (b : Bool). entries_of p ++ cond b added (entries.happens_if_missed p.who step)) f
+          ∙ ap (λ l. entries_of p ++ l) missed
+          ∙ append-nil (entries_of p);
     }
 
 pub other : (expected r n : ℕ) → r ≢ expected → n ≡ r → (n == expected) ≡ false
@@ -151,16 +162,8 @@ present_adds {op} {s} {expected} {p} {q} is run d key value k v =
 
 pub present_adds_none : {op : Op} {s expected found : ℕ} {p q : Trace} → Did (ConfirmPresent op s expected) p q found →
     found ≢ expected → AddsNone p q
-present_adds_none {op} {s} {expected} {found} {p} {q} d ne =
-    let w = world_after p.start (p.seen ++ d.rest) in
-    let f = other expected found _ ne (unanswered (present_reply op) expected found _ ne d.shows.answers) in
-    record {
-      entries = did_entries d
-          ∙ ap (λ (b : Bool).
-          entries_of p
-          ++ cond b (entries.entry_of_call p.who (call_of p.start p.who (w.know p.who) (ConfirmPresent op s expected)))
-          []) f ∙ append-nil (entries_of p);
-    }
+present_adds_none {op} {s} {expected} {found} d ne =
+    failed_adds d refl (other expected found _ ne (unanswered (present_reply op) expected found _ ne d.shows.answers))
 
 pub absent_adds : {op : Op} {key : ℕ} {place : At} {expected : ℕ} {p q : Trace} →
     Did (ConfirmAbsent op key place expected) p q expected → AddsAnswer (set_call p.who op key false) p q
@@ -174,49 +177,25 @@ absent_adds {op} {key} {place} {expected} {p} d =
 
 pub absent_adds_none : {op : Op} {key : ℕ} {place : At} {expected found : ℕ} {p q : Trace} →
     Did (ConfirmAbsent op key place expected) p q found → found ≢ expected → AddsNone p q
-absent_adds_none {op} {key} {place} {expected} {found} {p} d ne =
-    let f = other expected found _ ne (unanswered false expected found _ ne d.shows.answers) in
-    record {
-      entries = did_entries d
-          ∙ ap (λ (b : Bool).
-          entries_of p ++ cond b (entries.entry_of_call p.who (Some (set_call p.who op key false))) []) f
-          ∙ append-nil (entries_of p);
-    }
+absent_adds_none {op} {key} {place} {expected} {found} d ne =
+    failed_adds d refl (other expected found _ ne (unanswered false expected found _ ne d.shows.answers))
 
 -- ---- an exchange that is lost
 
 pub mark_adds_none : {s expected found : ℕ} {p q : Trace} → Did (Mark s expected) p q found → found ≢ expected →
     AddsNone p q
-mark_adds_none {s} {expected} {found} {p} {q} d ne =
-    let f = other expected found _ ne (lost expected found _ ne d.shows.answers) in
-    let a = entries.incarnations_after p.start (p.seen ++ d.rest) in
-    record {
-      entries = did_entries d
-          ∙ ap (λ (b : Bool). entries_of p ++ cond b (entries.just p.who (Removes (last_in a s))) []) f
-          ∙ append-nil (entries_of p);
-    }
+mark_adds_none {s} {expected} {found} d ne =
+    failed_adds d refl (other expected found _ ne (lost expected found _ ne d.shows.answers))
 
 pub replace_adds_none : {s expected t found : ℕ} {p q : Trace} → Did (Replace s expected t) p q found →
     found ≢ expected → AddsNone p q
-replace_adds_none {s} {expected} {t} {found} {p} {q} d ne =
-    let f = other expected found _ ne (lost expected found _ ne d.shows.answers) in
-    let a = entries.incarnations_after p.start (p.seen ++ d.rest) in
-    record {
-      entries = did_entries d
-          ∙ ap (λ (b : Bool). entries_of p ++ cond b (entries.just p.who (Replaces (last_in a s) (last_in a t))) []) f
-          ∙ append-nil (entries_of p);
-    }
+replace_adds_none {s} {expected} {t} {found} d ne =
+    failed_adds d refl (other expected found _ ne (lost expected found _ ne d.shows.answers))
 
 pub unlink_adds_none : {pred : At} {expected s found : ℕ} {p q : Trace} → Did (Unlink pred expected s) p q found →
     found ≢ expected → AddsNone p q
-unlink_adds_none {pred} {expected} {s} {found} {p} {q} d ne =
-    let f = other expected found _ ne (lost expected found _ ne d.shows.answers) in
-    let a = entries.incarnations_after p.start (p.seen ++ d.rest) in
-    record {
-      entries = did_entries d
-          ∙ ap (λ (b : Bool). entries_of p ++ cond b (entries.just p.who (Unlinks (last_in a s) (before_at a pred))) [])
-          f ∙ append-nil (entries_of p);
-    }
+unlink_adds_none {pred} {expected} {s} {found} d ne =
+    failed_adds d refl (other expected found _ ne (lost expected found _ ne d.shows.answers))
 
 -- ---- a publication
 
@@ -232,11 +211,5 @@ publish_failed {pred} {expected} {s} {found} d ne =
 
 pub publish_adds_none : {pred : At} {expected s found : ℕ} {p q : Trace} → Did (Publish pred expected s) p q found →
     found ≢ expected → AddsNone p q
-publish_adds_none {pred} {expected} {s} {found} {p} {q} d ne =
-    let f = other expected found _ ne (lost expected found _ ne d.shows.answers) in
-    let a = entries.incarnations_after p.start (p.seen ++ d.rest) in
-    record {
-      entries = did_entries d
-          ∙ ap (λ (b : Bool). entries_of p ++ cond b (entries.just p.who (Inserts (last_in a s) (before_at a pred))) [])
-          f ∙ append-nil (entries_of p);
-    }
+publish_adds_none {pred} {expected} {s} {found} d ne =
+    failed_adds d refl (other expected found _ ne (lost expected found _ ne d.shows.answers))

@@ -1,15 +1,17 @@
 -- The places and slots that a pass knows of are in the shape, since loads and exchanges ask for that.
-use Rattle.std.proofs.Common.{◌≡◌, ◌≢◌, ℕ, ◌<◌, ◌≤◌, List, [], ◌∷◌, ◌++◌, sym, subst, inl, inr, arith, Option, Some}
-use Rattle.std.proofs.Common.{None}
+use Rattle.std.proofs.Common.{◌≡◌, ◌≢◌, ℕ, ◌<◌, ◌≤◌, List, [], ◌∷◌, ◌++◌, sym, ap, ◌∙◌, subst, inl, inr, arith}
+use Rattle.std.proofs.Common.{Bool, true, false, cond, Option, Some, None}
 use Rattle.std.specs.Prelude.{◌⊎◌, ◌==◌}
 use Rattle.std.specs.List.{AllByRecursion}
 use Rattle.std.proofs.lemmas.Bool.{cases_Bool, cases_eq, cases_lt}
 use Rattle.std.proofs.lemmas.List.Elements.{All-contains, All-from_recursion}
+use Rattle.vbr_words.specs.Dimensions.{Dimensions}
 use Rattle.vbr_words.specs.Flags.{has_flag}
 use Rattle.vbr_machine.specs.Start.{Start, IsStart}
 use Rattle.vbr_words.specs.Words.{link_of}
 use Rattle.vbr_words.specs.declared.link.Link.{Link}
 use Rattle.vbr_words.specs.declared.place.At.{At}
+use Rattle.vbr_words.specs.declared.place.At.TheVariants.{Slot}
 use Rattle.vbr_machine.specs.Knowledge.{Know}
 use Rattle.vbr_machine.specs.Acceptance.{IsAtIn, Accepts}
 use Rattle.vbr_machine.specs.Learning.{read_epoch, with_pending, with_checked, reads_won, learn, birth_in_hand}
@@ -32,6 +34,12 @@ use Rattle.vbr_machine.specs.declared.knowledge.Holding.TheVariants.{Free, Unlin
 use Rattle.vbr_machine.specs.declared.knowledge.Read.{Read}
 use Rattle.vbr_machine.specs.declared.knowledge.Read.TheVariants.{LinkAt, BirthOf, KeyOf, ValueOf}
 use Rattle.vbr_machine.proofs.Lemmas.{birth_held, know_other, know_own, run_agrees, slot_held}
+
+-- the slots that a shape counts are those that a pass began with
+pub counted_slots : {slots : ℕ} {shape : Dimensions} {start own : Start} → slots ≡ shape.slots → shape ≡ start.shape →
+    start ≡ own → slots ≡ own.shape.slots
+counted_slots count is same =
+    count ∙ ap (λ (shape : Dimensions). shape.slots) is ∙ ap (λ (start : Start). start.shape.slots) same
 
 -- a read is of a place of the shape
 abbrev IsReadIn : Start → Read → Type 0
@@ -73,52 +81,56 @@ value_won : (start : Start) (s : ℕ) (value : Option ℕ) → s < start.shape.s
 value_won start s None low = tt
 value_won start s (Some value) low = (low, tt)
 
+-- and all that it tells of the place and of the slot
+entry_won : (start : Start) (place : At) (s : ℕ) (value : Option ℕ) → IsAtIn start place → s < start.shape.slots →
+    IsAtIn start place ×
+    ((s < start.shape.slots) ×
+    ((s < start.shape.slots) ×
+    ((s < start.shape.slots) × AllByRecursion (IsReadIn start) (value_read s value))))
+entry_won start place s value there low = (there, (low, (low, (low, value_won start s value low))))
+
+-- reads stay in the shape where what is known of slots changes, and where one of two things is learned
+own_in : {start : Start} {know : Know} {own : ℕ → Option Holding} → ReadsIn start know →
+    ReadsIn start (record know { own = own })
+own_in r = record { checked = r.checked; pending = r.pending }
+
+either_in : (start : Start) (b : Bool) (know later : Know) → ReadsIn start know → ReadsIn start later →
+    ReadsIn start (cond b know later)
+either_in start true know later r l = r
+either_in start false know later r l = l
+
 -- what a pass learns by an accepted step leaves all of its reads in the shape
 reads_learned : (start : Start) (know : Know) (step : Step) (found stamp : ℕ) → ReadsIn start know →
     Accepts start know step → ReadsIn start (learn step found stamp know)
 reads_learned start know ReadEpoch found stamp r ok = epoch_read start know found r
 reads_learned start know (Advance from) found stamp r ok = r
 reads_learned start know (LoadStamp s) found stamp r ok = r
-reads_learned start know (StoreStamp s new) found stamp r ok = record { checked = r.checked; pending = r.pending }
-reads_learned start know (Raise s) found stamp r ok = record { checked = r.checked; pending = r.pending }
-reads_learned start know (TakeFlag s) found stamp r ok = elim (cases_Bool (has_flag found s)) [
-  | inl k ↦ rw k (record { checked = r.checked; pending = r.pending })
-  | inr k ↦ rw k r
-]
-reads_learned start know (StoreBirth s birth) found stamp r ok = record { checked = r.checked; pending = r.pending }
-reads_learned start know (StoreKey s key) found stamp r ok = record { checked = r.checked; pending = r.pending }
-reads_learned start know (StoreValue s value) found stamp r ok = record { checked = r.checked; pending = r.pending }
-reads_learned start know (StoreLink s next) found stamp r ok = record { checked = r.checked; pending = r.pending }
+reads_learned start know (StoreStamp s new) found stamp r ok = own_in r
+reads_learned start know (Raise s) found stamp r ok = own_in r
+reads_learned start know (TakeFlag s) found stamp r ok = either_in start (has_flag found s) _ know (own_in r) r
+reads_learned start know (StoreBirth s birth) found stamp r ok = own_in r
+reads_learned start know (StoreKey s key) found stamp r ok = own_in r
+reads_learned start know (StoreValue s value) found stamp r ok = own_in r
+reads_learned start know (StoreLink s next) found stamp r ok = own_in r
 reads_learned start know (LoadLink place) found stamp r ok =
     pending_more start know (LinkAt place (link_of found)) r ok.in_shape
 reads_learned start know (LoadBirth s) found stamp r ok = pending_more start know (BirthOf s found) r ok.in_shape
 reads_learned start know (LoadKey s) found stamp r ok = pending_more start know (KeyOf s found) r ok.in_shape
 reads_learned start know (LoadValue s) found stamp r ok = pending_more start know (ValueOf s found) r ok.in_shape.0
-reads_learned start know (Publish pred expected s) found stamp r ok = elim (cases_Bool (found == expected)) [
-  | inl k ↦ let more =
-      checked_more start know (reads_won know (Publish pred expected s)) r (
-        ok.in_shape.0,
-        (ok.in_shape.1, (ok.in_shape.1, (ok.in_shape.1, value_won start s (value_in_hand (know.own s)) ok.in_shape.1))),
-      ) in rw k (record { checked = more.checked; pending = more.pending })
-  | inr k ↦ rw k r
-]
-reads_learned start know (Mark s expected) found stamp r ok = elim (cases_Bool (found == expected)) [
-  | inl k ↦ rw k (checked_more start know (reads_won know (Mark s expected)) r (ok.in_shape, tt))
-  | inr k ↦ rw k r
-]
-reads_learned start know (Replace s expected t) found stamp r ok = elim (cases_Bool (found == expected)) [
-  | inl k ↦ let more =
-      checked_more start know (reads_won know (Replace s expected t)) r (
-        ok.in_shape.0,
-        (ok.in_shape.1, (ok.in_shape.1, (ok.in_shape.1, value_won start t (value_in_hand (know.own t)) ok.in_shape.1))),
-      ) in rw k (record { checked = more.checked; pending = more.pending })
-  | inr k ↦ rw k r
-]
-reads_learned start know (Unlink pred expected s) found stamp r ok = elim (cases_Bool (found == expected)) [
-  | inl k ↦ let more = checked_more start know (reads_won know (Unlink pred expected s)) r (ok.in_shape.0, tt) in
-      rw k (record { checked = more.checked; pending = more.pending })
-  | inr k ↦ rw k r
-]
+reads_learned start know (Publish pred expected s) found stamp r ok =
+    either_in start (found == expected) _ know
+    (own_in (checked_more start know (reads_won know (Publish pred expected s)) r
+    (entry_won start pred s (value_in_hand (know.own s)) ok.in_shape.0 ok.in_shape.1))) r
+reads_learned start know (Mark s expected) found stamp r ok =
+    either_in start (found == expected) _ know
+    (checked_more start know (reads_won know (Mark s expected)) r (ok.in_shape, tt)) r
+reads_learned start know (Replace s expected t) found stamp r ok =
+    either_in start (found == expected) _ know
+    (own_in (checked_more start know (reads_won know (Replace s expected t)) r
+    (entry_won start (Slot s) t (value_in_hand (know.own t)) ok.in_shape.0 ok.in_shape.1))) r
+reads_learned start know (Unlink pred expected s) found stamp r ok =
+    either_in start (found == expected) _ know
+    (own_in (checked_more start know (reads_won know (Unlink pred expected s)) r (ok.in_shape.0, tt))) r
 reads_learned start know (ConfirmPresent op s expected) found stamp r ok = r
 reads_learned start know (ConfirmAbsent op key place expected) found stamp r ok = r
 

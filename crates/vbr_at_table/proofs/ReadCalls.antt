@@ -69,8 +69,8 @@ fit_on {p} {q} f x =
 
 -- ---- one after another
 
-pub reads_none : (p : PassView) → PassLaw p → ReadsIn p p 0
-reads_none p law =
+pub reads_none : (p : PassView) → ReadsIn p p 0
+reads_none p =
     record {
       took = took_none p.trace;
       quiet = quiet_refl p.trace;

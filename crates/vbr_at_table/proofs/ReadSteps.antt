@@ -1,5 +1,6 @@
 -- What the steps teach that read: loads are pending, and are checked where the epoch hasn't moved.
-use Rattle.std.proofs.Common.{◌≡◌, ◌≢◌, ℕ, true, false, [], ◌∷◌, ◌++◌, None, refl, sym, ◌∙◌, subst, eq-eqb, arith}
+use Rattle.std.proofs.Common.{◌≡◌, ◌≢◌, ℕ, true, false, [], ◌∷◌, ◌++◌, None, refl, sym, ◌∙◌, subst}
+use Rattle.std.proofs.Common.{eq-eqb, arith, rules}
 use Rattle.std.specs.Prelude.{◌==◌}
 use Rattle.std.specs.List.{Contains}
 use Rattle.std.proofs.lemmas.Bool.{ne_eqb}
@@ -51,45 +52,18 @@ pub record Loads (step : Step) (found : ℕ) (read : Read) : Type 0 where
   pub no_gift : advances_or_gives step ≡ false
   pub teaches : (know : Know) (stamp : ℕ) → learn step found stamp know ≡ with_pending know read
 
+-- the loads of a link, of a birth, of a key and of a value
 pub loads_link : (place : At) (word : ℕ) → Loads (LoadLink place) word (LinkAt place (link_of word))
-loads_link place word =
-    record {
-      is_load = λ know. refl;
-      no_call = λ start who know. refl;
-      no_entry = λ start who w a. refl;
-      no_gift = refl;
-      teaches = λ know stamp. refl;
-    }
+loads_link place word = search rules
 
 pub loads_birth : (s birth : ℕ) → Loads (LoadBirth s) birth (BirthOf s birth)
-loads_birth s birth =
-    record {
-      is_load = λ know. refl;
-      no_call = λ start who know. refl;
-      no_entry = λ start who w a. refl;
-      no_gift = refl;
-      teaches = λ know stamp. refl;
-    }
+loads_birth s birth = search rules
 
 pub loads_key : (s key : ℕ) → Loads (LoadKey s) key (KeyOf s key)
-loads_key s key =
-    record {
-      is_load = λ know. refl;
-      no_call = λ start who know. refl;
-      no_entry = λ start who w a. refl;
-      no_gift = refl;
-      teaches = λ know stamp. refl;
-    }
+loads_key s key = search rules
 
 pub loads_value : (s value : ℕ) → Loads (LoadValue s) value (ValueOf s value)
-loads_value s value =
-    record {
-      is_load = λ know. refl;
-      no_call = λ start who know. refl;
-      no_entry = λ start who w a. refl;
-      no_gift = refl;
-      teaches = λ know stamp. refl;
-    }
+loads_value s value = search rules
 
 module _ {step : Step} {found : ℕ} {read : Read} (loads : Loads step found read) {p q : Trace}
     (d : Did step p q found) where

@@ -1,10 +1,10 @@
 -- A node that is replaced by the one in hand.
-use Rattle.std.proofs.Common.{◌≡◌, ◌≢◌, ℕ, ◌<◌, true, false, List, [], ◌∷◌, ◌++◌, Option, Some, None, refl, sym, ap}
-use Rattle.std.proofs.Common.{◌∙◌, subst, cond, option_to_list, append_assoc, eq-eqb, inl, arith}
+use Rattle.std.proofs.Common.{◌≡◌, ◌≢◌, ℕ, ◌+◌, ◌<◌, true, false, List, [], ◌∷◌, ◌++◌, Option, Some, None, refl, sym, ap}
+use Rattle.std.proofs.Common.{◌∙◌, subst, cond, option_to_list, append_assoc, eq-eqb, arith}
 use Rattle.std.specs.Prelude.{unwrap_or}
 use Rattle.std.specs.List.{Contains}
 use Rattle.vbr_machine.specs.Start.{Start, IsStart}
-use Rattle.vbr_words.specs.Words.{link_of}
+use Rattle.vbr_words.specs.Words.{link_of, word_of}
 use Rattle.vbr_words.specs.declared.link.Link.{Link}
 use Rattle.vbr_words.specs.declared.place.At.{At}
 use Rattle.vbr_words.specs.declared.place.At.TheVariants.{Head, Slot}
@@ -34,11 +34,12 @@ use Rattle.vbr_machine.proofs.Lemmas.{begins_trans, calls-snoc, calls_since, is_
 use Rattle.vbr_machine.proofs.Lemmas.{marked_call_is, others_leave_know, replaced_earlier, replaced_entry, replaced_out}
 use Rattle.vbr_machine.proofs.Lemmas.{written_is}
 use Rattle.vbr_slots.specs.Calls.{Quiet, entries_of, made_by}
+use Rattle.vbr_slots.specs.Expected.{ReplacesNode}
 use Rattle.vbr_slots.specs.PassLaw.{PassLaw}
 use Rattle.vbr_slots.specs.Views.{Did, PassView, Trace, event_of, knows}
 use Rattle.vbr_slots.proofs.Lemmas.{did_calls, did_entries, did_moment, did_run, did_same, did_seen, quiet_on, same_on}
 use Rattle.vbr_at_table.specs.StepKinds.{ChangesNone}
-use Rattle.vbr_at_table.specs.Exchanges.{LosesExchange}
+use Rattle.vbr_at_table.specs.Exchanges.{LosesExchange, StoresIn}
 use Rattle.vbr_at_table.specs.Held.{IsFilled, IsHeld}
 use Rattle.vbr_at_table.specs.KeptKnowledge.{Keeps}
 use Rattle.vbr_at_table.specs.KeptSlots.{TakesNoSlot}
@@ -48,8 +49,7 @@ use Rattle.vbr_at_table.specs.Values.{ValueAt, entry_call}
 use Rattle.vbr_at_table.specs.declared.held.Held.{Held}
 use Rattle.vbr_at_table.specs.declared.rollback.Rollback.TheVariants.{LostExchange}
 use Rattle.vbr_at_table.proofs.Accepted.{place_in}
-use Rattle.vbr_at_table.proofs.Advancing.{did_stamps, grows_same, same_advances, same_flags, same_tries}
-use Rattle.vbr_at_table.proofs.InTurn.{did_turn}
+use Rattle.vbr_at_table.proofs.Advancing.{did_free}
 use Rattle.vbr_at_table.proofs.KeptSlots.{spent_kept}
 use Rattle.vbr_at_table.proofs.KeptKnowledge.{held_kept, keeps_on, keeps_refl}
 use Rattle.vbr_at_table.proofs.ExchangeCalls.{run_after}
@@ -58,6 +58,7 @@ use Rattle.vbr_at_table.proofs.MadeCalls.{failed, other, replace_adds_none}
 use Rattle.vbr_at_table.proofs.Moments.{found_after, lost, won}
 use Rattle.vbr_at_table.proofs.NoValues.{kept_same, value_asked}
 use Rattle.vbr_at_table.proofs.Unchanged.{unchanged_by_none, unchanged_on}
+use Rattle.vbr_at_table.proofs.Storing.{stores_last}
 use Rattle.vbr_at_table.proofs.WonExchanges.{lost_test, more_keeps, more_new, won_test}
 
 -- ---- the step is accepted
@@ -102,14 +103,19 @@ module _ (p : PassView) (sound : PassLaw p) (node : Held) (s t key birth next : 
       })
 
   -- and the link that it writes
-  pub replace_writes : link_written (knows p.trace) (Replace s node.word t) ≡ marked (link_to (Some t) node.birth birth)
-  replace_writes =
+  replace_written : link_written (knows p.trace) (Replace s node.word t) ≡ marked (link_to (Some t) node.birth birth)
+  replace_written =
       let B : At → Type 0 = λ i. BirthAt (knows p.trace) i node.birth in
       written_is p.trace.start p.trace.passes p.trace.seen sound.start sound.is_run p.trace.who (Replace s node.word t)
       (marked (link_to (Some t) node.birth (birth_in_hand ((knows p.trace).own t))))
       (node.birth, subst B place_is h.birth, refl)
       ∙ ap (λ (o : Option Holding). marked (link_to (Some t) node.birth (birth_in_hand o))) f.holding_is
       ∙ ap (λ (b : ℕ). marked (link_to (Some t) node.birth b)) f.birth_is
+
+  pub replace_writes : {own word : ℕ} → word ≡ word_of (marked (link_to (Some t) node.birth own)) → own ≡ birth →
+      word ≡ word_of (link_written (knows p.trace) (Replace s node.word t))
+  replace_writes is same = is ∙ ap (λ (b : ℕ). word_of (marked (link_to (Some t) node.birth b))) same
+      ∙ ap word_of (sym replace_written)
 
 -- ---- its calls
 
@@ -233,20 +239,16 @@ module _ {p q : Trace} {s expected t : ℕ} (d : Did (Replace s expected t) p q 
 -- ---- the slots of the pass
 
 -- the slot that takes the place goes out of the hand, and the others stay
-pub replace_none : (p q : PassView) {s expected slot : ℕ} → Did (Replace s expected slot) p.trace q.trace expected →
+replace_none : (p q : PassView) {s expected slot : ℕ} → Did (Replace s expected slot) p.trace q.trace expected →
     p.hand ≡ Some slot → q.pool ≡ p.pool → TakesNoSlot p q
 replace_none p q {slot = slot} d hand pool =
-    record {
-      count = same_advances d refl;
-      kept = record {
-        free = spent_kept p q slot (λ i. ap (λ (k : Know). k.own i) (replace_learned d)) hand pool;
-        stamped = did_stamps d refl;
-        turn = did_turn d;
-      };
-      grows = grows_same p q pool;
-      shared = inl (same_flags d refl);
-      tries = same_tries d refl;
-    }
+    did_free d refl pool (spent_kept p q slot (λ i. ap (λ (k : Know). k.own i) (replace_learned d)) hand pool)
+
+-- so a call that stores ends with it
+pub replace_stores : {p q r : PassView} {m s expected slot : ℕ} → StoresIn p q m → ReplacesNode s expected slot q r →
+    q.hand ≡ Some slot → StoresIn p r (m + 1)
+replace_stores {q = q} {r = r} stores found hand =
+    stores_last stores found.did (replace_keeps found.did) found.pool (replace_none q r found.did hand found.pool)
 
 -- ---- a lost one
 
@@ -359,7 +361,7 @@ module _ (p q r : PassView) (node : Held) (s t key birth next value word : ℕ) 
         held = record {
           held = record {
             epoch = now.epoch;
-            link = subst L (replace_writes q law node s t key birth next h place_is f ∙ sym link) (replace_known d);
+            link = subst L (replace_written q law node s t key birth next h place_is f ∙ sym link) (replace_known d);
             birth = subst B place_is now.birth;
           };
           mark = ap (λ (l : Link). l.mark) link;

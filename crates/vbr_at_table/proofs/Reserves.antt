@@ -1,30 +1,28 @@
 -- Slots come out of the shared pool into the own one, probed in their order.
 use Rattle.std.proofs.Common.{◌≡◌, ◌≢◌, ℕ, ◌+◌, ◌-◌, ◌/◌, ◌<◌, ◌≤◌, Bool, true, false, cond, [], ◌∷◌, ◌++◌, length}
-use Rattle.std.proofs.Common.{length-append, Option, Some, None, refl, sym, ap, ◌∙◌, subst, append-nil, inl, inr}
+use Rattle.std.proofs.Common.{length-append, List, refl, sym, ap, ◌∙◌, subst, append-nil, inl, inr}
 use Rattle.std.proofs.Common.{⊎_elim, arith}
 use Rattle.std.specs.Prelude.{Contains, ◌⊎◌}
-use Rattle.std.proofs.lemmas.Bool.{cases_lt, ne_eqb}
+use Rattle.std.proofs.lemmas.Bool.{cases_lt}
 use Rattle.std.proofs.lemmas.List.Elements.{Contains-append_left, Contains-push, Contains-push_cases}
 use mathlib.Core.Logic.{dite}
 use native.Mathlib.Decide.{ℕ_discrete}
 use Rattle.vbr_words.specs.Flags.{has_flag, word_of_flag}
-use Rattle.vbr_machine.specs.Acceptance.{IsFree, IsInHand, MayBear}
+use Rattle.vbr_machine.specs.Acceptance.{IsFree, MayBear}
 use Rattle.vbr_machine.specs.Knowledge.{Know}
 use Rattle.vbr_machine.specs.Machine.{found}
 use Rattle.vbr_machine.specs.Runs.{Begins, world_after}
 use Rattle.vbr_machine.specs.Start.{Start}
 use Rattle.vbr_machine.specs.declared.event.Step.TheVariants.{TakeFlag}
-use Rattle.vbr_machine.specs.declared.knowledge.Holding.{Holding}
-use Rattle.vbr_machine.specs.declared.knowledge.Holding.TheVariants.{Free, InHand, Unlinked}
 use Rattle.vbr_machine.specs.declared.knowledge.SlotPlace.TheVariants.{Shared}
 use Rattle.vbr_machine.proofs.Lemmas.{begins_trans, flag_shared, flag_won, put_here, put_other}
 use Rattle.vbr_slots.specs.Calls.{Quiet, Took}
-use Rattle.vbr_slots.specs.Pools.{HandFits, OwnPool, hand_without}
+use Rattle.vbr_slots.specs.Pools.{OwnPool, hand_without}
 use Rattle.vbr_slots.specs.Views.{Did, KeepsPool, PassView, Trace, event_of, knows}
-use Rattle.vbr_slots.proofs.Lemmas.{did_moment, did_quiet, did_took, moment_after, moment_before, quiet_on, quiet_refl}
-use Rattle.vbr_slots.proofs.Lemmas.{took_none, took_on}
+use Rattle.vbr_slots.proofs.Lemmas.{did_moment, did_quiet, did_took, hand_alone, hand_stays, moment_after}
+use Rattle.vbr_slots.proofs.Lemmas.{moment_before, quiet_on, quiet_refl, took_none, took_on}
 use Rattle.vbr_at_table.specs.StepKinds.{advances, flags_raised, flags_tried, is_try}
-use Rattle.vbr_at_table.specs.KeptSlots.{GoesInTurn, HasFree, HasSlot, PoolGrows, StampsUnlinked}
+use Rattle.vbr_at_table.specs.KeptSlots.{GoesInTurn, HasFree, HasSlot, StampsUnlinked}
 use Rattle.vbr_at_table.specs.Reserving.{IsMissed, IsNextFrom, Reserves, ReservesFrom, TakesFlags, WasTaken, most_kept}
 use Rattle.vbr_at_table.specs.SharedPool.{WasOutside}
 use Rattle.vbr_at_table.proofs.Advancing.{did_made, did_stamps, grows_on, grows_same, keeps_known, keeps_refl, longer}
@@ -98,25 +96,14 @@ takes_lost {p} {q} {slot} {n} d lost keeps =
     }
 
 -- a slot whose flag was won isn't in hand
-pub hand_stays : {start : Start} (p : PassView) {q : PassView} {slot n : ℕ} → Did (TakeFlag slot) p.trace q.trace n →
+pub won_apart : {start : Start} (p : PassView) {q : PassView} {slot n : ℕ} → Did (TakeFlag slot) p.trace q.trace n →
     has_flag n slot ≡ true → OwnPool start (knows q.trace) q.pool q.hand → hand_without slot q.hand ≡ q.hand
-hand_stays {start} p {q} {slot} {n} d won own =
+won_apart {start} p {q} {slot} {n} d won own =
     let won_flag : (a b : Know) → cond (has_flag n slot) a b ≡ a = λ a b. ap (λ (t : Bool). cond t a b) won in
     let now = ap (λ (k : Know). k.own slot) (d.know ∙ won_flag _ (knows p.trace))
     ∙ put_here (knows p.trace).own slot _ in
-    other q.hand
-    (λ is. neither ((knows q.trace).own slot) (subst IsFree (sym now) tt)
-    (subst (HandFits start (knows q.trace) q.pool) is own.in_hand).1)
-  where
-    neither : (holding : Option Holding) → IsFree holding → IsInHand holding → ⊥
-    neither None a b = a
-    neither (Some (Free stamp)) a b = b
-    neither (Some (Unlinked reread)) a b = a
-    neither (Some (InHand known)) a b = a
-
-    other : (h : Option ℕ) → h ≢ Some slot → hand_without slot h ≡ h
-    other None apart = refl
-    other (Some s) apart = ap (λ (b : Bool). cond b None (Some s)) (ne_eqb s slot (λ e. apart (ap Some e)))
+    hand_stays slot q.hand
+    (λ is. (hand_alone start (knows q.trace) slot q.pool q.hand own is).0 (subst IsFree (sym now) tt))
 
 -- a flag was won, and the slot is kept
 module _ {p q r : PassView} {slot n : ℕ} (d : Did (TakeFlag slot) p.trace q.trace n) (won : has_flag n slot ≡ true)
@@ -351,7 +338,11 @@ reserves_round {p} {q} {r} {start} {to} {full} {wanted} {taken} {first} {second}
     (subst (λ (x : ℕ × ℕ). ReservesFrom p q start x.0 x.1 x.0 first) (λ i. (end i, is i)) a)
     (subst (λ (x : ℕ × ℕ). ReservesFrom q r 0 start x.1 x.0 second) (λ i. (end i, is i)) b) count
 
--- how many were taken
-pub grown_by : (p q : PassView) → PoolGrows p q → (taken : ℕ) → taken ≡ length q.pool - length p.pool →
-    length q.pool ≡ length p.pool + taken
-grown_by p q grows taken is = let more = longer p q grows in omega (arith, is, more)
+-- how many were taken in two ways, by the pools before and behind them
+pub grown_by : {p q r : PassView} {n m : ℕ} → TakesFlags p q n → TakesFlags q r m → (before after : List ℕ) →
+    before ≡ p.pool → after ≡ r.pool → length r.pool ≡ length p.pool + (length after - length before)
+grown_by {p} {q} {r} a b before after was is =
+    let more = longer p r (grows_on p q r a.grows b.grows) in
+    let first = ap length was in
+    let last = ap length is in
+    omega (arith, more, first, last)

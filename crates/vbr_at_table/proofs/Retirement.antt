@@ -2,7 +2,7 @@
 use Rattle.std.proofs.Common.{◌≡◌, ℕ, ◌-◌, ◌<◌, ◌≤◌, ◌==◌, Bool, true, false, cond, Option, Some, None, List, [], ◌∷◌}
 use Rattle.std.proofs.Common.{◌++◌, length, arith, refl, sym, ap, ◌∙◌, append_assoc, append-nil, subst, inr, ⊎_elim}
 use Rattle.std.proofs.Common.{◌≢◌}
-use Rattle.std.proofs.lemmas.Bool.{cases_eq, ne_eqb}
+use Rattle.std.proofs.lemmas.Bool.{cases_eq}
 use Rattle.std.proofs.lemmas.Bool.Decides.{nat_tests}
 use Rattle.vbr_machine.specs.Start.{Start, IsStart}
 use Rattle.vbr_machine.specs.Accounts.{incarnations_after}
@@ -13,20 +13,21 @@ use Rattle.vbr_machine.specs.Incarnations.{Incarnations}
 use Rattle.vbr_machine.specs.Sound.{SlotsSound}
 use Rattle.vbr_machine.specs.Runs.{IsRun, know_after}
 use Rattle.vbr_machine.proofs.Lemmas.{begins_trans, put_here, put_other, run_agrees}
-use Rattle.vbr_machine.specs.Acceptance.{MayBear, IsInHand, IsUnlinked}
+use Rattle.vbr_machine.specs.Acceptance.{MayBear, IsUnlinked}
 use Rattle.vbr_machine.specs.Knowledge.{Know}
 use Rattle.vbr_machine.specs.Learning.{read_epoch, with_own}
 use Rattle.vbr_machine.specs.Put.{put}
 use Rattle.vbr_machine.specs.declared.knowledge.Holding.{Holding}
 use Rattle.vbr_machine.specs.declared.knowledge.Holding.TheVariants.{Free, Unlinked, InHand}
 use Rattle.vbr_slots.specs.declared.pass.TheConstants.{POOL}
-use Rattle.vbr_slots.specs.Pools.{HandFits, OwnPool, hand_without}
+use Rattle.vbr_slots.specs.Pools.{OwnPool, hand_without}
 use Rattle.vbr_machine.specs.declared.event.Event.{Event}
 use Rattle.vbr_machine.specs.declared.event.Step.TheVariants.{ReadEpoch, StoreStamp, Raise}
 use Rattle.vbr_slots.specs.Calls.{Quiet, Took}
 use Rattle.vbr_slots.specs.PassLaw.{PassLaw}
 use Rattle.vbr_slots.specs.Views.{Trace, PassView, TableView, KeepsPool, Did, IsOf, knows, event_of}
-use Rattle.vbr_slots.proofs.Lemmas.{did_moment, did_quiet, did_took, moment_before, quiet_on, took_on}
+use Rattle.vbr_slots.proofs.Lemmas.{did_moment, did_quiet, did_took, hand_alone, hand_stays, moment_before, quiet_on}
+use Rattle.vbr_slots.proofs.Lemmas.{took_on}
 use Rattle.vbr_at_table.specs.KeptSlots.{TakesNoSlot}
 use Rattle.vbr_at_table.specs.Retiring.{Retires, StampsFreshly, is_kept, know_retired}
 use Rattle.vbr_at_table.proofs.InTurn.{did_stay_turn}
@@ -159,19 +160,7 @@ module _ {p q r : Trace} {slot e n : ℕ} (read : Did ReadEpoch p q e)
 
 -- ---- pools
 
--- an unlinked slot isn't in hand
-unlinked_not_in_hand : {start : Start} {know : Know} {slot : ℕ} {pool : List ℕ} {hand : Option ℕ} →
-    OwnPool start know pool hand → IsUnlinked (know.own slot) → hand ≢ Some slot
-unlinked_not_in_hand {start} {know} {slot} {pool} {hand} o unlinked is =
-    neither (know.own slot) unlinked (subst (HandFits start know pool) is o.in_hand).1
-  where
-    neither : (holding : Option Holding) → IsUnlinked holding → IsInHand holding → ⊥
-    neither None a b = a
-    neither (Some (Free stamp)) a b = a
-    neither (Some (Unlinked reread)) a b = b
-    neither (Some (InHand known)) a b = a
-
--- and it is one of the shape
+-- an unlinked slot is one of the shape
 pub unlinked_in_shape : (start : Start) (passes : ℕ) (run : List Event) (who slot : ℕ) → IsStart start →
     IsRun start passes run → IsUnlinked ((know_after start run who).own slot) → slot < start.shape.slots
 unlinked_in_shape start passes run who slot is ok unlinked =
@@ -230,18 +219,15 @@ module _ {p q r : PassView} {slot gone e n : ℕ} (is : IsStart p.trace.start) (
         pool = pool ∙ ap (λ (l : List ℕ). l ++ slot ∷ []) (still.0 ∙ stays.0)
             ∙ sym (ap (λ (b : Bool). cond b (p.pool ++ slot ∷ []) p.pool) kept);
         hand = hand ∙ ap (hand_without slot) (still.1 ∙ stays.1)
-            ∙ without_it p.hand
-            (unlinked_not_in_hand own (subst (λ (s : ℕ). IsUnlinked ((knows p.trace).own s)) (sym same) unlinked));
+            ∙ hand_stays slot p.hand
+            (λ h. (hand_alone p.trace.start (knows p.trace) slot p.pool p.hand own h).1
+            (subst (λ (s : ℕ). IsUnlinked ((knows p.trace).own s)) (sym same) unlinked));
         unchanged = retired_unchanged read stamp;
         alone = λ alone. (retired_leaves is read stamp alone, retired_fresh is read stamp alone);
       })
     where
       at_end : Retires p (record t { trace = r.trace }) slot 2 → Retires p t gone 2
       at_end x = subst (λ (y : Trace × ℕ). Retires p (record t { trace = y.0 }) y.1 2) (λ i. (sym seen i, same i)) x
-
-      without_it : (h : Option ℕ) → h ≢ Some slot → hand_without slot h ≡ h
-      without_it None other = refl
-      without_it (Some s) other = ap (λ (b : Bool). cond b None (Some s)) (ne_eqb s slot (λ e. other (ap Some e)))
 
   -- or it isn't
   pub retires_raised : {t : PassView} {m : ℕ} → POOL - 1 ≤ length p.pool → Did (Raise slot) r.trace t.trace m →

@@ -1,12 +1,14 @@
 -- Steps that store or exchange, one after another, as what a call tells that stores.
-use Rattle.std.proofs.Common.{◌≡◌, ℕ, ◌+◌, ◌∙◌}
+use Rattle.std.proofs.Common.{◌≡◌, ℕ, ◌+◌, false, ◌∙◌}
 use Rattle.vbr_machine.specs.declared.event.Step.{Step}
+use Rattle.vbr_slots.specs.Expected.{FindsOther}
 use Rattle.vbr_slots.specs.Views.{Did, PassView, knows}
 use Rattle.vbr_slots.proofs.Lemmas.{did_took, took_on}
 use Rattle.vbr_at_table.specs.Exchanges.{StoresIn}
 use Rattle.vbr_at_table.specs.KeptKnowledge.{Keeps}
 use Rattle.vbr_at_table.specs.KeptSlots.{TakesNoSlot}
-use Rattle.vbr_at_table.proofs.Advancing.{none_on}
+use Rattle.vbr_at_table.specs.StepKinds.{advances_or_gives}
+use Rattle.vbr_at_table.proofs.Advancing.{did_none, none_on}
 use Rattle.vbr_at_table.proofs.KeptKnowledge.{keeps_on}
 
 pub stores_one : {p q : PassView} {step : Step} {r : ℕ} → Did step p.trace q.trace r →
@@ -26,3 +28,9 @@ pub stores_last : {p q r : PassView} {m : ℕ} {step : Step} {found : ℕ} → S
     Did step q.trace r.trace found → Keeps (knows q.trace) (knows r.trace) → r.pool ≡ q.pool → TakesNoSlot q r →
     StoresIn p r (m + 1)
 stores_last {m = m} x d keeps pool none = stores_on m 1 x (stores_one d keeps pool none)
+
+-- or one that is lost
+pub stores_lost : {p q r : PassView} {m expected found : ℕ} {step : Step} → StoresIn p q m →
+    FindsOther step q r expected found → advances_or_gives step ≡ false → Keeps (knows q.trace) (knows r.trace) →
+    StoresIn p r (m + 1)
+stores_lost x other e keeps = stores_last x other.did keeps other.keeps.0 (did_none other.did e other.keeps)

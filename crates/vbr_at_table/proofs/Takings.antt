@@ -27,6 +27,13 @@ use Rattle.vbr_at_table.proofs.Counting.{uses_on, took_all}
 use Rattle.vbr_at_table.proofs.Gained.{alone_gained, gained_on, more_lost, none_lost}
 use Rattle.vbr_at_table.proofs.Shown.{came_before}
 
+-- what the call tells, whatever its result
+pub record TakesOn (p q : PassView) (budget : ℕ) (result : Result (HandView × ℕ) (Refusal × ℕ)) : Type 0 where
+  pub took : Took p.trace q.trace (told_steps result)
+  pub takes : Takes p q budget
+  pub taken : IfOk result (λ told. IsTaken p q told.0)
+  pub refused : IfErr result (λ told. RefusesTake p q budget told.0)
+
 -- ---- no slot is won
 
 -- a refusal that says so whatever others do says so to a pass that was alone
@@ -51,7 +58,7 @@ win_enough p budget gains (EpochSpent epoch) empty short = tt
 
 module _ (p q : PassView) (budget : ℕ) (told : Refusal × ℕ) (first : LooksForSlot p q)
     (none : WinsNone p q budget told) where
-  pub unwon_takes : Takes p q budget
+  unwon_takes : Takes p q budget
   unwon_takes = record {
     steps = record { steps = told.1; within = none.uses.within; took = took_all none.uses.counts };
     quiet = first.quiet;
@@ -62,13 +69,13 @@ module _ (p q : PassView) (budget : ℕ) (told : Refusal × ℕ) (first : LooksF
     advances = inl first.count;
   }
 
-  pub unwon_took : Took p.trace q.trace told.1
+  unwon_took : Took p.trace q.trace told.1
   unwon_took = took_all none.uses.counts
 
   unwon_among : NeedsMore (steps_to_take_among p.trace.start p.pool (gained p.trace q.trace)) budget told.0
   unwon_among = win_enough p budget (gained p.trace q.trace) told.0 none.empty none.enough
 
-  pub unwon_refused : p.hand ≡ None → RefusesTake p q budget told.0
+  unwon_refused : p.hand ≡ None → RefusesTake p q budget told.0
   unwon_refused empty = record {
     why = none.why;
     pool = inl none.pool.0;
@@ -77,6 +84,9 @@ module _ (p q : PassView) (budget : ℕ) (told : Refusal × ℕ) (first : LooksF
     enough = alone_enough p q budget told.0 unwon_among;
     among = unwon_among;
   }
+
+  pub unwon : p.hand ≡ None → TakesOn p q budget (Err told)
+  unwon empty = record { took = unwon_took; takes = unwon_takes; taken = tt; refused = unwon_refused empty }
 
 -- ---- the own pool has slots
 
@@ -116,7 +126,7 @@ module _ (p q r : PassView) (budget used : ℕ) (first : LooksForSlot p q) (begu
   all_uses : {since most : ℕ} → Uses q r budget used since most → Uses p r budget 0 since (budget + most)
   all_uses uses = uses_on begun.uses uses
 
-  pub stops_takes : {since most : ℕ} → Uses q r budget used since most → Takes p r budget
+  stops_takes : {since most : ℕ} → Uses q r budget used since most → Takes p r budget
   stops_takes {since} uses = record {
     steps = record { steps = since; within = uses.within; took = took_all (all_uses uses).counts };
     quiet = quiet_all;
@@ -165,7 +175,7 @@ module _ (p q r : PassView) (budget used : ℕ) (first : LooksForSlot p q) (begu
 
   -- no slot was chosen
   module _ (told : Refusal × ℕ) (none : ChoosesNone q r budget used told) where
-    pub unchosen_took : Took p.trace r.trace told.1
+    unchosen_took : Took p.trace r.trace told.1
     unchosen_took = took_all (all_uses none.uses).counts
 
     why_none : (refusal : Refusal) → IsShortOrSpent r budget told.1 refusal → TakeIsRefused p r budget refusal
@@ -195,7 +205,7 @@ module _ (p q r : PassView) (budget used : ℕ) (first : LooksForSlot p q) (begu
     among_none NoSlot why = tt
     among_none (EpochSpent e) why = tt
 
-    pub unchosen_refused : RefusesTake p r budget told.0
+    unchosen_refused : RefusesTake p r budget told.0
     unchosen_refused = record {
       why = why_none told.0 none.why;
       pool = leaves;
@@ -204,6 +214,10 @@ module _ (p q r : PassView) (budget used : ℕ) (first : LooksForSlot p q) (begu
       enough = alone_enough p r budget told.0 (among_none told.0 none.why);
       among = among_none told.0 none.why;
     }
+
+    pub unchosen : TakesOn p r budget (Err told)
+    unchosen =
+        record { took = unchosen_took; takes = stops_takes none.uses; taken = tt; refused = unchosen_refused }
 
   -- a slot was chosen, and then an incarnation was to be born there
   module _ (t : PassView) (slot since : ℕ) (chosen : IsChosen q r budget used (slot, since)) where
@@ -245,10 +259,10 @@ module _ (p q r : PassView) (budget used : ℕ) (first : LooksForSlot p q) (begu
 
     -- it was born there
     module _ (told : HandView × ℕ) (born : IsBorn r t slot budget since told) where
-      pub born_took : Took p.trace t.trace told.1
+      born_took : Took p.trace t.trace told.1
       born_took = took_all (uses_on (all_uses chosen.uses) born.uses).counts
 
-      pub born_takes : Takes p t budget
+      born_takes : Takes p t budget
       born_takes = record {
         steps = record { steps = told.1; within = born.uses.within; took = born_took };
         quiet = quiet_on quiet_all born.leaves.quiet;
@@ -264,7 +278,7 @@ module _ (p q r : PassView) (budget used : ℕ) (first : LooksForSlot p q) (begu
           shared_then (inl same) = inl (born.leaves.flags ∙ same)
           shared_then (inr full) = inr (let one = born.leaves.one in omega (arith, full, one))
 
-      pub born_taken : IsTaken p t told.0
+      born_taken : IsTaken p t told.0
       born_taken = record {
         from = subst
             (λ (s : ℕ). IsOldest (knows t.trace) p.pool s told.0.birth ⊎ ((p.pool ≡ []) × CameByFlag p.trace t.trace s))
@@ -297,13 +311,13 @@ module _ (p q r : PassView) (budget used : ℕ) (first : LooksForSlot p q) (begu
       at_end : (P : PassView → Type 0) → P r → P t
       at_end P x = subst P (sym none.same) x
 
-      pub unborn_took : Took p.trace t.trace told.1
+      unborn_took : Took p.trace t.trace told.1
       unborn_took = took_all (uses_on (all_uses chosen.uses) none.short.uses).counts
 
-      pub unborn_takes : Takes p t budget
+      unborn_takes : Takes p t budget
       unborn_takes = at_end (λ (x : PassView). Takes p x budget) (stops_takes chosen.uses)
 
-      pub unborn_refused : RefusesTake p t budget told.0
+      unborn_refused : RefusesTake p t budget told.0
       unborn_refused = subst (RefusesTake p t budget) (sym none.short.why) (record {
         why = record { took = unborn_took; within = none.short.uses.within; short = none.short.short };
         pool = at_end (LeavesPool p) leaves;
@@ -331,36 +345,13 @@ module _ (p q r : PassView) (budget used : ℕ) (first : LooksForSlot p q) (begu
               omega (arith, lost, most, made, used, short)
 
     -- whatever came of it
-    module _ (result : Result (HandView × ℕ) (Refusal × ℕ)) (ok : IfOk result (IsBorn r t slot budget since))
-        (none : IfErr result (BearsNone r t budget since)) where
-      pub ends_took : Took p.trace t.trace (told_steps result)
-      ends_took = go result ok none
-        where
-          go : (x : Result (HandView × ℕ) (Refusal × ℕ)) → IfOk x (IsBorn r t slot budget since) →
-              IfErr x (BearsNone r t budget since) → Took p.trace t.trace (told_steps x)
-          go (Ok told) born none = born_took told born
-          go (Err told) born none = unborn_took told none
-
-      pub ends_takes : Takes p t budget
-      ends_takes = go result ok none
-        where
-          go : (x : Result (HandView × ℕ) (Refusal × ℕ)) → IfOk x (IsBorn r t slot budget since) →
-              IfErr x (BearsNone r t budget since) → Takes p t budget
-          go (Ok told) born none = born_takes told born
-          go (Err told) born none = unborn_takes told none
-
-      pub ends_taken : IfOk result (λ told. IsTaken p t told.0)
-      ends_taken = go result ok
-        where
-          go : (x : Result (HandView × ℕ) (Refusal × ℕ)) → IfOk x (IsBorn r t slot budget since) →
-              IfOk x (λ told. IsTaken p t told.0)
-          go (Ok told) born = born_taken told born
-          go (Err told) born = tt
-
-      pub ends_refused : IfErr result (λ told. RefusesTake p t budget told.0)
-      ends_refused = go result none
-        where
-          go : (x : Result (HandView × ℕ) (Refusal × ℕ)) → IfErr x (BearsNone r t budget since) →
-              IfErr x (λ told. RefusesTake p t budget told.0)
-          go (Ok told) none = tt
-          go (Err told) none = unborn_refused told none
+    pub ends : (result : Result (HandView × ℕ) (Refusal × ℕ)) → IfOk result (IsBorn r t slot budget since) →
+        IfErr result (BearsNone r t budget since) → TakesOn p t budget result
+    ends (Ok told) born none =
+        record { took = born_took told born; takes = born_takes told born; taken = born_taken told born; refused = tt }
+    ends (Err told) born none = record {
+      took = unborn_took told none;
+      takes = unborn_takes told none;
+      taken = tt;
+      refused = unborn_refused told none;
+    }

@@ -16,7 +16,7 @@ use Rattle.vbr_slots.proofs.Lemmas.{did_quiet, did_seen, quiet_on}
 use Rattle.vbr_at_table.specs.Gained.{gained, gained_by_now}
 use Rattle.vbr_at_table.specs.StepKinds.{advances}
 use Rattle.vbr_at_table.specs.KeptSlots.{KeepsSlots, PoolGrows, SharesWhereFull}
-use Rattle.vbr_at_table.specs.Pieces.{HasSlots, LooksForSlot, WinsNone}
+use Rattle.vbr_at_table.specs.Pieces.{HasSlots, LooksForSlot, Uses, WinsNone}
 use Rattle.vbr_at_table.specs.SharedPool.{WasOutside, ComesBefore, CameByFlag}
 use Rattle.vbr_at_table.specs.WithinBudget.{CountsSteps}
 use Rattle.vbr_at_table.specs.declared.budget.TheConstants.{PIECE}
@@ -297,14 +297,18 @@ pub unwon_probes : {p q : PassView} {budget used start slot end : ℕ} → Winni
     LooksForSlot p q
 unwon_probes winning = winning.tried.probes
 
+-- what the probes used is within the budget
+unwon_uses : {p q : PassView} {budget used start : ℕ} → Tried p q budget used start → Uses p q budget 0 used budget
+unwon_uses tried = record {
+  counts = tried.counts;
+  within = tried.within;
+  at_most = (let w = tried.within in omega (arith, w));
+}
+
 pub win_short : {p q : PassView} {budget used start slot end : ℕ} → Winning p q budget used start slot end →
     slot < end → p.pool ≡ [] → budget < used + PIECE → WinsNone p q budget (OutOfSteps used, used)
 win_short winning below empty short = record {
-  uses = record {
-    counts = winning.tried.counts;
-    within = winning.tried.within;
-    at_most = (let w = winning.tried.within in omega (arith, w));
-  };
+  uses = unwon_uses winning.tried;
   empty = empty;
   pool = winning.tried.pool;
   why = record { took = took_all winning.tried.counts; within = winning.tried.within; short = short };
@@ -319,11 +323,7 @@ win_no_slot {p} {q} {start = start} {slot = slot} {end = end} winning behind emp
     (let e = first.0 in let low = first.2 in absurd (omega (arith, e, low, behind)))) (λ (over : end ≡ start). over)
     winning.turn in
     record {
-      uses = record {
-        counts = winning.tried.counts;
-        within = winning.tried.within;
-        at_most = (let w = winning.tried.within in omega (arith, w));
-      };
+      uses = unwon_uses winning.tried;
       empty = empty;
       pool = winning.tried.pool;
       why = record {

@@ -29,30 +29,19 @@ pub fn run_threads<R: Threads + Wait + Clock + Sync>(
     work: &Work,
     members: Vec<Member>,
 ) -> anyhow::Result<Measured> {
-    let Work {
-        workload,
-        operations,
-        run,
-        latch,
-    } = *work;
+    let work = *work;
     thread::scope(
         thread::scope_env(),
         rt,
         move |scope| -> anyhow::Result<Measured> {
-            let work = Work {
-                workload,
-                operations,
-                run,
-                latch,
-            };
             let running = match start_all(scope, rt, alloc, &work, members) {
                 Ok(running) => running,
                 Err(error) => {
-                    latch.cancel();
+                    work.latch.cancel();
                     return Err(error);
                 }
             };
-            let start = latch.open(rt, workload.threads)?;
+            let start = work.latch.open(rt, work.workload.threads)?;
             join_all(rt, alloc, running, start)
         },
     )
@@ -80,22 +69,8 @@ fn start<'s, 'e, R: Wait + Clock + Sync>(
     work: &Work<'e>,
     member: Member,
 ) -> anyhow::Result<Running> {
-    let Work {
-        workload,
-        operations,
-        run,
-        latch,
-    } = *work;
-    let worker = move || {
-        let work = Work {
-            workload,
-            operations,
-            run,
-            latch,
-        };
-        do_work(rt, &work, member)
-    };
-    match scope.spawn(worker) {
+    let work = *work;
+    match scope.spawn(move || do_work(rt, &work, member)) {
         Ok(running) => Ok(running),
         Err(_) => Err(anyhow::anyhow!("a thread couldn't be started")),
     }

@@ -37,37 +37,40 @@ pub stored_value : AreWorked (valued one_slot) (opening (valued one_slot)) STORE
 unfolding bucket_of link_of word_of has_flag first_bits flag_word
 stored_value = search (rules, tests)
 
+-- the rows are worked where nodes have values, once those of values are added
+abbrev pub IsWorkedValued : Start → List (ℕ × Step × Effect) → List ℕ → Type 0
+IsWorkedValued start rows words = AreWorked (valued start) (opening (valued start)) (with_values rows) words
+
+-- so are those that are in parts
+valued_in_parts : (start : Start) (parts n : ℕ) (rows : List (ℕ × Step × Effect)) (words : List ℕ) →
+    InParts (valued start) parts n (with_values rows) (opening (valued start)) words → IsWorkedValued start rows words
+valued_in_parts start parts n rows words all =
+    worked_in_parts (valued start) parts n (with_values rows) (opening (valued start)) words all
+
 -- the lists that are made from others in parts, since the whole is too long for one search
-pub two_helpers_with_values : AreWorked (valued one_slot) (opening (valued one_slot)) (with_values TWO_HELPERS)
-    TWO_HELPERS_WORDS
+pub two_helpers_with_values : IsWorkedValued one_slot TWO_HELPERS TWO_HELPERS_WORDS
 unfolding bucket_of link_of word_of has_flag first_bits flag_word
 two_helpers_with_values =
-    worked_in_parts (valued one_slot) 1 10 (with_values TWO_HELPERS) (opening (valued one_slot)) TWO_HELPERS_WORDS
-    (search (rules, tests), search (rules, tests))
+    valued_in_parts one_slot 1 10 TWO_HELPERS TWO_HELPERS_WORDS (search (rules, tests), search (rules, tests))
 
-pub reborn_slot_with_values : AreWorked (valued three_slots) (opening (valued three_slots)) (with_values REBORN_SLOT)
-    REBORN_SLOT_WORDS
+pub reborn_slot_with_values : IsWorkedValued three_slots REBORN_SLOT REBORN_SLOT_WORDS
 unfolding bucket_of link_of word_of has_flag first_bits flag_word
 reborn_slot_with_values =
-    worked_in_parts (valued three_slots) 4 10 (with_values REBORN_SLOT) (opening (valued three_slots))
-    REBORN_SLOT_WORDS (
+    valued_in_parts three_slots 4 10 REBORN_SLOT REBORN_SLOT_WORDS (
       search (rules, tests),
       (search (rules, tests), (search (rules, tests), (search (rules, tests), search (rules, tests)))),
     )
 
-pub same_word_with_values : AreWorked (valued three_slots) (opening (valued three_slots)) (with_values SAME_WORD)
-    SAME_WORD_WORDS
+pub same_word_with_values : IsWorkedValued three_slots SAME_WORD SAME_WORD_WORDS
 unfolding bucket_of link_of word_of has_flag first_bits flag_word
 same_word_with_values =
-    worked_in_parts (valued three_slots) 3 10 (with_values SAME_WORD) (opening (valued three_slots)) SAME_WORD_WORDS
+    valued_in_parts three_slots 3 10 SAME_WORD SAME_WORD_WORDS
     (search (rules, tests), (search (rules, tests), (search (rules, tests), search (rules, tests))))
 
-pub raised_in_hand_with_values : AreWorked (valued one_slot) (opening (valued one_slot)) (with_values RAISED_IN_HAND)
-    RAISED_IN_HAND_WORDS
+pub raised_in_hand_with_values : IsWorkedValued one_slot RAISED_IN_HAND RAISED_IN_HAND_WORDS
 unfolding bucket_of link_of word_of has_flag first_bits flag_word
 raised_in_hand_with_values =
-    worked_in_parts (valued one_slot) 1 10 (with_values RAISED_IN_HAND) (opening (valued one_slot)) RAISED_IN_HAND_WORDS
-    (search (rules, tests), search (rules, tests))
+    valued_in_parts one_slot 1 10 RAISED_IN_HAND RAISED_IN_HAND_WORDS (search (rules, tests), search (rules, tests))
 
 pub standing_with_values : AreWorked (valued many_epochs) (opening (valued many_epochs)) STANDING_WITH_VALUES
     STANDING_WORDS

@@ -5,15 +5,23 @@ use mir.Syntax.{impl, tnil, dnil}
 use denote.RattleType.{RattleType}
 use denote.Signature.{Slot, plain}
 use Rattle.core.proofs.mem.Param.{El, R}
-use Rattle.std_alloc.proofs.BoxSteps.Form.{Bx}
+use Rattle.std_alloc.proofs.BoxSteps.Form as box
+use Rattle.std_alloc.proofs.OfVacant.{Vacant}
 use Rattle.std_heap.specs.contracts.Global as Heap
 use Rattle.std_heap.specs.contracts.GlobalAllocator.TheImpl.{ghosts, dict}
 use Rattle.std_heap.proofs.Global.TheLaws as heap
 use Rattle.vbr_handles.specs.contracts.parts.Parts as Parts
 use Rattle.vbr_handles.specs.contracts.owner.Owner as Owner
 
+-- the parts of a box, and the block that it lies in
+abbrev pub PartsOf : box.Bx → RattleType
+PartsOf B = Parts.the_row (box.R B) (box.P B) B.al.g
+
+abbrev pub BlockOf : box.Bx → RattleType
+BlockOf B = Vacant B.al (box.R B)
+
 -- a box of a member on the heap
-abbrev pub E : El → Bx
+abbrev pub E : El → box.Bx
 E F = record {
   row = F.row;
   laws = F.laws;

@@ -32,12 +32,7 @@ impl Listed<Entries> for Entry {
     }
 
     fn numbers(report: &MapReport) -> ReportNumbers {
-        ReportNumbers {
-            epoch: report.epoch,
-            live: report.live,
-            marked: report.marked,
-            free: report.free,
-        }
+        ReportNumbers::new(report.epoch, report.live, report.marked, report.free)
     }
 
     fn count(report: &MapReport) -> usize {

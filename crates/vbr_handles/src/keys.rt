@@ -27,12 +27,7 @@ impl Listed<Keys> for u64 {
     }
 
     fn numbers(report: &Report) -> ReportNumbers {
-        ReportNumbers {
-            epoch: report.epoch,
-            live: report.live,
-            marked: report.marked,
-            free: report.free,
-        }
+        ReportNumbers::new(report.epoch, report.live, report.marked, report.free)
     }
 
     fn count(report: &Report) -> usize {

@@ -1,4 +1,5 @@
 //! The numbers of a report, as they cross to C.
+ghost use Rattle.std.specs.Prelude.{◌≡◌};
 
 /// What a closed set or map held.
 #[repr(C)]
@@ -12,4 +13,18 @@ pub struct ReportNumbers {
     pub marked: u32,
     /// How many slots had no node in a list.
     pub free: u32,
+}
+
+impl ReportNumbers {
+    // Those of a report, of a set or of a map.
+    pub(crate) fn new(epoch: u64, live: u32, marked: u32, free: u32) -> ReportNumbers
+        ensures { result ≡ record { epoch = epoch; live = live; marked = marked; free = free } }
+    {
+        ReportNumbers {
+            epoch,
+            live,
+            marked,
+            free,
+        }
+    }
 }

@@ -3,13 +3,14 @@ use Rattle.vbr_list.proofs.Names.{◌≡◌, ℕ, ◌+◌, ◌^◌, ◌<◌, ◌
 use Rattle.vbr_list.proofs.Names.{None, sym, ap, ◌∙◌, subst, arith, inl, inr, append-nil, option_to_list, ◌⊎◌, Contains}
 use Rattle.vbr_list.proofs.Names.{IfSome, AllByRecursion, Contains-append_left, Contains-append_right, Contains-push}
 use Rattle.vbr_list.proofs.Names.{Contains-push_cases}
-use Rattle.vbr_list.proofs.Names.{begins_trans, bucket_of, opening_keys, opening_payloads, same_on, set_after, Start}
-use Rattle.vbr_list.proofs.Names.{Trace, values_after, WasEntry, WasSo, world_after}
+use Rattle.vbr_list.proofs.Names.{begins_trans, bucket_of, moment_after, opening_keys, opening_payloads, same_on}
+use Rattle.vbr_list.proofs.Names.{set_after, Start, Trace, values_after, WasEntry, WasSo, world_after}
 use Rattle.vbr_list.specs.Cursors.{AreInOrder, ComesFirst, HasGiven, HasGivenAll, IsToCome, IsAtEnd, IsBehindKey}
 use Rattle.vbr_list.specs.Cursors.{IsBeforeCursor, PassesBy, SeesMore, first_cursor, next_bucket}
 use Rattle.vbr_list.specs.Next.{HasNoNext, IsNextKey}
 use Rattle.vbr_list.specs.declared.cursor.Cursor.{Cursor}
 use Rattle.vbr_list.proofs.Going.{by_either}
+use Rattle.vbr_list.proofs.Moments.{later_moment, so_later}
 
 -- ---- a pass that has seen more
 
@@ -23,37 +24,20 @@ sees_on {p} {q} {r} x y =
 
 -- what was so at a moment of what the pass did was so at a moment of more
 pub so_more : {p q r : Trace} {key : ℕ} {present : Bool} → WasSo p q key present → SeesMore q r → WasSo p r key present
-so_more {p} {q} {r} x y =
-    record {
-      moment = x.moment;
-      within = record {
-        from = x.within.from;
-        to = begins_trans x.moment q.seen r.seen x.within.to y.begins;
-        is_run = y.is_run;
-      };
-      was = x.was;
-    }
+so_more x y = so_later x y.begins (λ _. y.is_run)
 
 pub so_since : {p q r : Trace} {key : ℕ} {present : Bool} → SeesMore p q → WasSo q r key present → WasSo p r key present
 so_since {p} {q} {r} {key} {present} x y = record {
   moment = y.moment;
-  within = record {
-    from = begins_trans p.seen q.seen y.moment x.begins y.within.from;
-    to = y.within.to;
-    is_run = y.within.is_run;
-  };
+  within = moment_after x.begins y.within;
   was = ap (λ (s : Start). set_after (opening_keys s) (world_after s y.moment).calls key) (sym x.same.start) ∙ y.was;
 }
 
 pub entry_more : {p q r : Trace} {key value : ℕ} → WasEntry p q key value → SeesMore q r → WasEntry p r key value
-entry_more {p} {q} {r} x y =
+entry_more x y =
     record {
       moment = x.moment;
-      within = record {
-        from = x.within.from;
-        to = begins_trans x.moment q.seen r.seen x.within.to y.begins;
-        is_run = y.is_run;
-      };
+      within = later_moment x.within y.begins (λ _. y.is_run);
       was = x.was;
       stored = x.stored;
     }
@@ -61,11 +45,7 @@ entry_more {p} {q} {r} x y =
 pub entry_since : {p q r : Trace} {key value : ℕ} → SeesMore p q → WasEntry q r key value → WasEntry p r key value
 entry_since {p} {q} {r} {key} {value} x y = record {
   moment = y.moment;
-  within = record {
-    from = begins_trans p.seen q.seen y.moment x.begins y.within.from;
-    to = y.within.to;
-    is_run = y.within.is_run;
-  };
+  within = moment_after x.begins y.within;
   was = ap (λ (s : Start). set_after (opening_keys s) (world_after s y.moment).calls key) (sym x.same.start) ∙ y.was;
   stored = ap (λ (s : Start). values_after (opening_payloads s) (world_after s y.moment).calls key) (sym x.same.start)
       ∙ y.stored;

@@ -1,9 +1,9 @@
 -- A walk of loads alone goes on from place to place, past the keys that a seek tells of.
 use Rattle.vbr_list.proofs.Names.{◌≡◌, ℕ, ◌+◌, ◌<◌, ◌≤◌, Bool, true, false, Option, Some, None, sym, ap, ◌∙◌, subst}
 use Rattle.vbr_list.proofs.Names.{arith, is_none, is_some}
-use Rattle.vbr_list.proofs.Names.{At, begins_trans, behind_kept, bucket_of, Held, held_in_kept, held_in_next, held_kept}
-use Rattle.vbr_list.proofs.Names.{held_of, IsRead, IsRun, IsSame, IsStart, itself, Keeps, keeps_on, KeyAt, knows}
-use Rattle.vbr_list.proofs.Names.{link_of, Marked, onward, PassLaw, PassView, PIECE, Quiet, quiet_on, quiet_refl}
+use Rattle.vbr_list.proofs.Names.{At, behind_kept, bucket_of, Held, held_in_kept, held_in_next, held_kept, held_of}
+use Rattle.vbr_list.proofs.Names.{IsRead, IsRun, IsSame, IsStart, itself, Keeps, keeps_on, KeyAt, knows, link_of}
+use Rattle.vbr_list.proofs.Names.{Marked, moment_after, onward, PassLaw, PassView, PIECE, Quiet, quiet_on, quiet_refl}
 use Rattle.vbr_list.proofs.Names.{ReadsIn, Slot, StandsBefore, StandsBehind, Start, stood_before, Trace, ValueAt}
 use Rattle.vbr_list.proofs.Names.{was_absent, was_absent_on, was_entry, was_present, WasSo}
 use Rattle.vbr_list.specs.Budgets.{steps_to_value_of}
@@ -255,15 +255,7 @@ tells_since {p} {q} r bucket from told a x =
     go told (subst P a.same.start x)
   where
     so : {key : ℕ} {present : Bool} → WasSo (record q { start = p.start }) r key present → WasSo p r key present
-    so w = record {
-      moment = w.moment;
-      within = record {
-        from = begins_trans p.seen q.seen w.moment a.seen w.within.from;
-        to = w.within.to;
-        is_run = w.within.is_run;
-      };
-      was = w.was;
-    }
+    so w = record { moment = w.moment; within = moment_after a.seen w.within; was = w.was }
 
     none : (from : ℕ) → HasNoNext (record q { start = p.start }) r bucket from → HasNoNext p r bucket from
     none from y = record { behind = λ other is high. so (y.behind other is high) }
@@ -280,16 +272,7 @@ tells_since {p} {q} r bucket from told a x =
           between = λ other is high low. so (y.0.0.between other is high low);
         },
         λ values. let e = y.0.1 values in
-            record {
-              moment = e.moment;
-              within = record {
-                from = begins_trans p.seen q.seen e.moment a.seen e.within.from;
-                to = e.within.to;
-                is_run = e.within.is_run;
-              };
-              was = e.was;
-              stored = e.stored;
-            },
+            record { moment = e.moment; within = moment_after a.seen e.within; was = e.was; stored = e.stored },
       ),
       λ last. none (next.key + 1) (y.1 last),
     )

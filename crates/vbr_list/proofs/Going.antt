@@ -2,8 +2,9 @@
 use Rattle.vbr_list.proofs.Names.{◌≡◌, ℕ, ◌+◌, ◌≤◌, Result, Ok, Err, refl, sym, ap, ◌∙◌, subst, arith, inl, inr, ◌⊎◌}
 use Rattle.vbr_list.proofs.Names.{IfOk}
 use Rattle.vbr_list.proofs.Names.{AtTable, counts_none, counts_on, CountsSteps, Dimensions, Ghosts, IsOf, IsSame}
-use Rattle.vbr_list.proofs.Names.{IsSameTable, Keeps, KeepsOwn, Know, LeavesRoom, PassView, PIECE, Quiet, quiet_on}
-use Rattle.vbr_list.proofs.Names.{quiet_refl, ReadsIn, Start, TableView, TakesNoSlot, Took, took_all, TookWithin, Trace}
+use Rattle.vbr_list.proofs.Names.{IsSameTable, Keeps, KeepsIn, KeepsOwn, Know, LeavesRoom, PassView, PIECE, Quiet}
+use Rattle.vbr_list.proofs.Names.{quiet_on, quiet_refl, ReadsIn, Start, TableView, TakesNoSlot, Took, took_all}
+use Rattle.vbr_list.proofs.Names.{TookWithin, Trace}
 use Rattle.vbr_words.specs.Buckets.{bucket_of}
 use Rattle.vbr_list.specs.Pieces.{Goes, GoesOn, IsSameCall, Settles, Tries, pass_in, trace_in}
 use Rattle.vbr_list.specs.declared.call.PendingCall.{PendingCall}
@@ -94,11 +95,14 @@ call_refl c = record { at = record { pass = refl; slots = refl }; key = refl; bu
 
 -- it may be answered by one step
 pub settles_step : {N : Type 0} {kind : Ghosts N} → {c d : PendingCall N kind} → IsSameCall c d → d.used ≡ c.used + 1 →
-    Took (trace_in c) (trace_in d) 1 → KeepsOwn (pass_in c) (pass_in d) → TakesNoSlot (pass_in c) (pass_in d) →
-    Settles c d
-settles_step {c = c} {d = d} same used took own none =
-    let counts = subst (CountsSteps (trace_in c) (trace_in d) c.used) (sym used) (counts_step c.used 1 took) in
-    record { call = same; counts = counts; hand = own_kept own none; more = omega (arith, used) }
+    KeepsIn (pass_in c) (pass_in d) 1 → Settles c d
+settles_step {c = c} {d = d} same used keeps =
+    record {
+      call = same;
+      counts = subst (CountsSteps (trace_in c) (trace_in d) c.used) (sym used) (counts_step c.used 1 keeps.took);
+      hand = own_kept keeps.own keeps.takes_no_slot;
+      more = omega (arith, used);
+    }
 
 -- the steps of a call are within the budget that it began with
 pub within_call : {N : Type 0} {kind : Ghosts N} → {c d : PendingCall N kind} → IsSameCall c d → d.used ≤ c.budget

@@ -1,7 +1,7 @@
 -- An insert that has taken a slot: what it promises once the slot is linked, or given back.
 use Rattle.vbr_list.proofs.Names.{◌≡◌, ◌+◌, ◌<◌, ◌≤◌, ℕ, Bool, Bor, [], Result, IfErr, IfOk, refl, sym, ap, subst}
 use Rattle.vbr_list.proofs.Names.{arith}
-use Rattle.vbr_list.proofs.Names.{AtTable, Ghosts, HandView, HasUnpublished, had_then, IsAlone, IsSameTable, longer}
+use Rattle.vbr_list.proofs.Names.{AtTable, Ghosts, had_then, HandView, HasUnpublished, IsAlone, IsSameTable, longer}
 use Rattle.vbr_list.proofs.Names.{Made, needed_before, NoSlot, PassLaw, Quiet, quiet_on, Refusal, same_on, shared_on}
 use Rattle.vbr_list.proofs.Names.{shares_more, slots_kept_on, steps_to_update, steps_to_value, TableView, TookWithin}
 use Rattle.vbr_list.specs.Budgets.{LacksSteps, enough_to_insert, listed_for}
@@ -78,6 +78,42 @@ pub same_later : {N : Type 0} {kind : Ghosts N} (d : PendingCall N kind) (at : A
     (same : IsSameTable d.at at) (start : at.stepper.now.trace.start ≡ (trace_in d).start) (within : used ≤ d.budget) →
     IsSameCall d (later d at used same start within)
 same_later d at used same start within = record { at = same; key = refl; bucket = refl; budget = refl }
+
+-- what an insert promises that was refused, or answered no, before it had a slot to link
+pub insert_unlinked : {N : Type 0} {kind : Ghosts N} {b d : PendingCall N kind} (answer : Result Bool Refusal) →
+    Prepares b d → TriesFor Absent b d → HasUnpublished (pass_in b) (pass_in d) answer →
+    IfErr answer (IsRefusedInsert (pass_in b) (pass_in d) b.key b.budget) →
+    IfErr answer (λ refusal.
+    LacksSteps (enough_to_insert_among (listed_for (trace_in b) b.key) (disturbed (trace_in b) (trace_in d) b.key)
+    (steps_for_slot (pass_in b) (trace_in d))) b.budget refusal) →
+    IfErr answer (λ refusal. refusal ≡ NoSlot → (pass_in b).pool ≡ []) →
+    IfOk answer (λ reply.
+    TookWithin (trace_in b) (trace_in d)
+    (insert_costs_among (listed_for (trace_in b) b.key) (disturbed (trace_in b) (trace_in d) b.key)
+    (steps_for_slot (pass_in b) (trace_in d)) (steps_to_value (trace_in b).start.shape.values))) →
+    BoundsOfInsert (pass_in b) (pass_in d) b.key b.budget answer
+insert_unlinked {b = b} {d = d} answer prepares tries had refused lacking none costs =
+    let p = pass_in b in
+    let q = pass_in d in
+    let n = listed_for p.trace b.key in
+    let alone_lacking =
+    each_error (λ refusal. LacksSteps (enough_to_insert_among n (disturbed p.trace q.trace b.key)
+    (steps_for_slot p q.trace)) b.budget refusal)
+    (λ refusal. IsAlone p.trace q.trace → LacksSteps (enough_to_insert p b.key) b.budget refusal) answer
+    (λ refusal. lone_lacks p q.trace b.key b.budget refusal) lacking in
+    record {
+      advances = prepares.advances;
+      kept = prepares.kept;
+      had = had;
+      shared = prepares.shared;
+      tries = tries;
+      refused = refused;
+      disturbed_within = lacking;
+      within = alone_lacking;
+      ready = λ some alone enough. answered_or_spent p q b.budget n answer some alone enough none alone_lacking;
+      costs = ok_as answer (λ reply x. lone_costs p q.trace b.key x) costs;
+      disturbed_costs = costs;
+    }
 
 pub insert_linked : {N : Type 0} {kind : Ghosts N} {b d e : PendingCall N kind} (value : ℕ)
     (answer : Result Bool Refusal) → PassLaw (pass_in b) → b.used ≡ 0 → Prepares b d → TriesFor Absent b d →

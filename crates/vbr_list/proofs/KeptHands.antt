@@ -1,10 +1,11 @@
 -- The slot in hand stays while others are read and retired.
 use Rattle.vbr_list.proofs.Names.{◌≡◌, ◌≢◌, ℕ, suc, ◌-◌, ◌<◌, Bool, true, false, cond, List, [], ◌∷◌, ◌++◌, length}
-use Rattle.vbr_list.proofs.Names.{Option, Some, None, refl, sym, ap, ◌∙◌, subst, arith, inl, inr, ◌⊎◌, ◌==◌, cases_Bool}
+use Rattle.vbr_list.proofs.Names.{Option, Some, None, refl, sym, ap, ◌∙◌, subst, arith, inl, inr, ◌⊎◌, cases_Bool}
 use Rattle.vbr_list.proofs.Names.{nat_tests}
 use Rattle.vbr_list.proofs.Names.{Free, Holding, is_kept, IsInHand, IsUnlinked, KeepsOwn, KeepsUnlinked, Know}
-use Rattle.vbr_list.proofs.Names.{know_retired, knows, none_on, none_refl, OwnPool, PassView, POOL, pool_retired}
-use Rattle.vbr_list.proofs.Names.{put_here, put_other, read_epoch, reread, StaysInTurn, TakesNoSlot, unlinks_none}
+use Rattle.vbr_list.proofs.Names.{know_retired, knows, none_on, none_refl, own_read, OwnPool, PassView, POOL}
+use Rattle.vbr_list.proofs.Names.{pool_retired, put_here, put_other, read_epoch, reread, StaysInTurn, TakesNoSlot}
+use Rattle.vbr_list.proofs.Names.{unlinks_none}
 use Rattle.vbr_list.specs.Pieces.{KeepsHand}
 use Rattle.vbr_slots.specs.Pools as pools
 
@@ -28,22 +29,6 @@ own_kept {p} {q} x none = record {
 }
 
 -- ---- a slot is retired
-
--- what is known of the slots of a pass stays when it reads the epoch, but for those that it unlinked
-own_read : (know : Know) (epoch s : ℕ) → (read_epoch know epoch).own s ≡ reread (know.own s)
-own_read know epoch s = go (epoch == know.epoch)
-  where
-    go : (b : Bool) →
-        (cond {A = Know} b
-        (record {
-          epoch = know.epoch;
-          pending = [];
-          checked = know.checked ++ know.pending;
-          own = λ t. reread (know.own t);
-        }) (record { epoch = epoch; pending = []; checked = []; own = λ t. reread (know.own t) })).own s
-        ≡ reread (know.own s)
-    go true = refl
-    go false = refl
 
 hand_reread : (holding : Option Holding) → IsInHand holding → reread holding ≡ holding
 hand_reread holding h = grind arith

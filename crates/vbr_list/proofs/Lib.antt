@@ -25,6 +25,7 @@ mod Told
 mod Expected
 mod Marks
 mod ValueReads
+mod Marking
 mod ReadFirst
 mod FoundValues
 mod Stores

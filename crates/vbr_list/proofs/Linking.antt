@@ -7,17 +7,17 @@ use Rattle.vbr_list.proofs.Names.{Quiet, quiet_on, set_call, TakesNoSlot, Took, 
 use Rattle.vbr_list.specs.Inserting.{CountsWithin, denied, AnswersNone, HasHandAndRoom, Links}
 use Rattle.vbr_list.specs.Pieces.{GoesOn, IsSameCall, pass_in, trace_in}
 use Rattle.vbr_list.specs.Places.{IsCur, IsEnd, Locates}
-use Rattle.vbr_list.specs.Traversing.{SearchFinds, LastWalk, LocatesFor}
+use Rattle.vbr_list.specs.Traversing.{SearchFinds, LocatesFor}
 use Rattle.vbr_list.specs.Walking.{LosesFound}
 use Rattle.vbr_list.specs.declared.call.PendingCall.{PendingCall}
 use Rattle.vbr_list.specs.declared.found.Found.{Found}
-use Rattle.vbr_list.proofs.Disturbing.{run_at}
 use Rattle.vbr_list.proofs.Going.{call_on, counts_step, within_call}
 use Rattle.vbr_list.proofs.KeptHands.{own_kept}
+use Rattle.vbr_list.proofs.LostWalks.{search_lost}
 use Rattle.vbr_list.proofs.Moments.{stands_before}
 use Rattle.vbr_list.proofs.Preparing.{if_went, within_on, within_same}
 use Rattle.vbr_list.proofs.Stores.{hand_kept}
-use Rattle.vbr_list.proofs.Walking.{HasRepeated, search_round_on}
+use Rattle.vbr_list.proofs.Walking.{HasRepeated}
 
 -- the call has made so many searches, with a slot in hand; so many steps for each that was lost
 abbrev pub IsLinking : {N : Type 0} {kind : Ghosts N} → ℕ → PendingCall N kind → PendingCall N kind → HandView → Type 0
@@ -86,19 +86,14 @@ pub lost_then : {N : Type 0} {kind : Ghosts N} → (each : ℕ) → {b c d e : P
     (found : Found) → SearchFinds c d found → LosesFound (trace_in d) (trace_in e) found → IsLinking (3 + each) b e back
 lost_then each {b} {c} {d} {e} law so went x few quiet has had found finds loses =
     let same = call_on (begun so went) x.call in
-    let whole = quiet_on (quiet_until so went) quiet in
-    let p = trace_in b in
-    let P : ℕ → Type 0 = λ key. LastWalk (trace_in c) (trace_in d) key c.used d.used found in (
+    let whole = quiet_on (quiet_until so went) quiet in (
       same,
       whole,
       within_on (counts_until so went) x.counts x.more (within_call same),
       none_on (none_until so went) x.takes_no_slot,
       has,
       had_on (pass_in b) (pass_in d) (pass_in e) (had_until so went) had,
-      search_round_on p (trace_in c) (trace_in d) (trace_in e) law.start
-          (run_at p (trace_in e) whole.same (whole.is_run law.is_run)) b.key each so.1.same went.goes.quiet.same
-          whole.same so.1.seen went.goes.quiet.seen quiet.seen x.takes_no_slot.count so.6 found
-          (subst P so.0.key finds.last) few loses,
+      search_lost law so.0 so.1 went each e so.6 found finds quiet x.takes_no_slot.count few loses,
     )
 
 -- ---- an answer no, and the end of the budget

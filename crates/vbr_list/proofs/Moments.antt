@@ -2,11 +2,11 @@
 use Rattle.vbr_list.proofs.Names.{◌≡◌, ℕ, ◌<◌, Bool, true, false, List, Option, Some, None, sym, subst, arith}
 use Rattle.vbr_list.proofs.Names.{nat_tests}
 use Rattle.vbr_list.proofs.Names.{At, Begins, begins_trans, Event, Held, IsRun, IsSame, IsStart, Keeps, KeyAt, Know}
-use Rattle.vbr_list.proofs.Names.{knows, link_of, moment_before, Quiet, StandsBefore, Stood, stood_before, Trace}
+use Rattle.vbr_list.proofs.Names.{knows, link_of, moment_before, Quiet, StandsBefore, Start, Stood, stood_before, Trace}
 use Rattle.vbr_list.proofs.Names.{was_absent, was_present, WasSo}
 use Rattle.vbr_slots.specs.Calls.{Moment}
 use Rattle.vbr_list.specs.Found.{CurStood, IsFound}
-use Rattle.vbr_list.specs.Places.{IsCur, IsEnd}
+use Rattle.vbr_list.specs.Places.{IsCur, IsEnd, Locates}
 use Rattle.vbr_list.specs.Traversing.{HasComeTo}
 use Rattle.vbr_list.specs.declared.found.Found.{Found}
 use Rattle.vbr_list.proofs.Reaching.{key_kept, stood_since, pred_on}
@@ -83,16 +83,20 @@ pub so_later : {p q r : Trace} {key : ℕ} {present : Bool} → WasSo p q key pr
     (IsRun q.start q.passes q.seen → IsRun r.start r.passes r.seen) → WasSo p r key present
 so_later {q = q} {r = r} x seen run = record { moment = x.moment; within = later_moment x.within seen run; was = x.was }
 
+-- a node that was found stands behind the place
+pub cur_is : {start : Start} {know : Know} {key : ℕ} {found : Found} {cur : Held} → Locates start know key found →
+    found.cur ≡ Some cur → IsCur know key found.pred cur found.present
+cur_is {know = know} {key = key} {found = found} x is =
+    let P : Option Held → Type 0 = λ o. IsEnd know key found.pred o found.present in subst P is x.end
+
 -- a key that was found present is known at the node
-pub key_found : (know : Know) (key : ℕ) (pred cur : Held) (o : Option Held) (present : Bool) →
-    IsEnd know key pred o present → o ≡ Some cur → present ≡ true → KeyAt know cur.at key
-key_found know key pred cur o present y e f =
-    let P : Option Held → Type 0 = λ o. IsEnd know key pred o present in
-    let Q : Bool → Type 0 = λ b. IsCur know key pred cur b in
-    key_known know key pred cur (subst Q f (subst P e y))
+pub key_found : {start : Start} {know : Know} {key : ℕ} {found : Found} {cur : Held} → Locates start know key found →
+    found.cur ≡ Some cur → found.present ≡ true → KeyAt know cur.at key
+key_found {know = know} {key = key} {found = found} {cur = cur} x is present =
+    let P : Bool → Type 0 = IsCur know key found.pred cur in
+    key_known know key found.pred cur (subst P present (cur_is x is))
 
 -- which it has later too
-pub key_found_since : {know later : Know} (key : ℕ) (pred cur : Held) (o : Option Held) (present : Bool) →
-    Keeps know later → IsEnd know key pred o present → o ≡ Some cur → present ≡ true → KeyAt later cur.at key
-key_found_since {know} key pred cur o present keeps y e f =
-    key_kept cur.at key keeps (key_found know key pred cur o present y e f)
+pub key_found_since : {start : Start} {know later : Know} {key : ℕ} {found : Found} {cur : Held} → Keeps know later →
+    Locates start know key found → found.cur ≡ Some cur → found.present ≡ true → KeyAt later cur.at key
+key_found_since {key = key} {cur = cur} keeps x is present = key_kept cur.at key keeps (key_found x is present)

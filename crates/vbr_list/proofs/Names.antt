@@ -109,7 +109,8 @@ pub use Rattle.vbr_at_table.proofs.Lemmas.{alone_gained, behind_kept, counts_non
 pub use Rattle.vbr_at_table.proofs.Lemmas.{grows_same, had_back, had_grown, had_on, had_spent, had_taken, had_then}
 pub use Rattle.vbr_at_table.proofs.Lemmas.{held_in_kept, held_in_next, held_kept, keeps_on, key_on, longer}
 pub use Rattle.vbr_at_table.proofs.Lemmas.{missed_after, more_lost, needed_after, needed_before, no_room, none_back}
-pub use Rattle.vbr_at_table.proofs.Lemmas.{none_lost, none_on, none_refl, reads_on, replaced_since, shared_on}
+pub use Rattle.vbr_at_table.proofs.Lemmas.{none_lost, none_on, none_refl, own_read, reads_none, reads_on}
+pub use Rattle.vbr_at_table.proofs.Lemmas.{replaced_since, shared_on}
 pub use Rattle.vbr_at_table.proofs.Lemmas.{shared_taken, shares_more, slots_kept_on, some_grown, stood_after}
 pub use Rattle.vbr_at_table.proofs.Lemmas.{stood_before, took_all, two_before, two_on, unchanged_by_none, unlinks_none}
 pub use Rattle.vbr_at_table.proofs.Lemmas.{value_on, was_absent, was_absent_on, was_entry, was_present}

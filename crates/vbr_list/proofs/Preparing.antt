@@ -4,8 +4,8 @@ use Rattle.vbr_list.proofs.Names.{Err, inl, inr, refl, sym, ◌∙◌, subst, ar
 use Rattle.vbr_list.proofs.Names.{Begins, counts_on, CountsSteps, EpochSpent, Ghosts, had_grown, had_on, IsRun, IsSame}
 use Rattle.vbr_list.proofs.Names.{IsSpent, LeavesRoom, Made, made_on, missed_after, needed_after, none_on, NoSlot, Op}
 use Rattle.vbr_list.proofs.Names.{OutOfSteps, PassView, Quiet, Refusal, set_call, shared_taken, shares_more}
-use Rattle.vbr_list.proofs.Names.{slots_kept_on, some_grown, Start, TakesNoSlot, TriesNoFlag, TriesOnlyWhere}
-use Rattle.vbr_list.proofs.Names.{TriesWhereEmpty, Took, took_all, TookWithin, Trace}
+use Rattle.vbr_list.proofs.Names.{slots_kept_on, some_grown, Start, TakesNoSlot, Took, took_all, TookWithin, Trace}
+use Rattle.vbr_list.proofs.Names.{TriesNoFlag, TriesOnlyWhere, TriesWhereEmpty}
 use Rattle.vbr_machine.specs.declared.history.Call.{Call as ListedCall}
 use Rattle.vbr_list.specs.Inserting.{CountsWithin, InsertIsShort, InsertShowsSpent, Prepares, TakesNone}
 use Rattle.vbr_list.specs.Wanted.{WasWantedFor}
@@ -117,6 +117,16 @@ takes_after p q r quiet some x more (EpochSpent epoch) y =
       counts = within_on x y.counts.counts y.counts.within.0 y.counts.within.1;
       room = y.room;
     }
+
+-- so it is of a call that went on
+pub takes_gone : {N : Type 0} {kind : Ghosts N} {c d : PendingCall N kind} → GoesOn c d → (r : PassView) →
+    Quiet (trace_in d) r.trace → (refusal : Refusal) → TakesNone (pass_in d) r d.used d.budget refusal →
+    TakesNone (pass_in c) r c.used c.budget refusal
+takes_gone {c = c} {d = d} gone r quiet refusal none =
+    let P : ℕ → Type 0 = λ budget. TakesNone (pass_in d) r d.used budget refusal in
+    takes_after (pass_in c) (pass_in d) r gone.goes.quiet
+    (some_grown (pass_in c) (pass_in d) gone.goes.hand.takes_no_slot.grows) (steps_gone gone) quiet refusal
+    (subst P gone.call.budget none)
 
 -- a refusal after no steps is one of the whole call
 pub refused_first : (p q : PassView) (key budget : ℕ) (refusal : Refusal) → TakesNone p q 0 budget refusal →

@@ -6,7 +6,7 @@ use Rattle.vbr_list.proofs.Names.{held_kept, HeldIn, IsNext, IsRead, IsSame, IsS
 use Rattle.vbr_list.proofs.Names.{know_retired, knows, link_of, PassView, Quiet, Slot, StandsBehind, Start, Stood}
 use Rattle.vbr_list.proofs.Names.{stood_after, stood_before, Trace}
 use Rattle.vbr_list.specs.Pieces.{Goes}
-use Rattle.vbr_list.specs.Places.{IsCur, IsInside, IsPlaceIn, IsPred}
+use Rattle.vbr_list.specs.Places.{IsCur, IsInside, IsPlaceBefore, IsPlaceIn, IsPred}
 use Rattle.vbr_list.specs.Traversing.{StoodBefore, HasComeTo}
 use Rattle.vbr_list.specs.Visiting.{HasKey, StartsAt}
 use Rattle.vbr_list.specs.Walking.{ReadsNext, Walks}
@@ -91,22 +91,19 @@ node_before {p} {q} bucket from key here node x keeps n k low = record {
   stood = n.stood;
 }
 
--- a place before a number of its bucket is one before that key
+-- a place before a number is one before each key of its bucket from the number on
+pred_of : {start : Start} {know : Know} {from : ℕ} {place : Held} (key : ℕ) →
+    IsPlaceBefore start know (bucket_of start.shape key) from place → from ≤ key → IsPred start know key place
+pred_of key x le =
+    record { held = x.held; unmarked = x.unmarked; inside = x.inside; behind = x.behind key refl le }
+
+-- so it is of one before that key
 pub come_to : {p q : Trace} (bucket key : ℕ) (place : Held) → IsSame p q → bucket ≡ bucket_of p.start.shape key →
     StoodBefore p q bucket key place → HasComeTo p q key place
 come_to {p} {q} bucket key place s is x =
     let P : ℕ → Type 0 = λ b. StoodBefore p q b key place in
     let y = subst P (is ∙ ap (λ (start : Start). bucket_of start.shape key) (sym s.start)) x in
-    record {
-      is =
-          record {
-            held = y.is.held;
-            unmarked = y.is.unmarked;
-            inside = y.is.inside;
-            behind = y.is.behind key refl (omega arith);
-          };
-      stood = y.stood;
-    }
+    record { is = pred_of key y.is (omega arith); stood = y.stood }
 
 -- a node with a smaller key
 pub node_reached : {p q : Trace} (key here : ℕ) (pred node : Held) → IsSame p q → IsInside p.start (knows p) key pred →

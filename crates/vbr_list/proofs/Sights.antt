@@ -1,10 +1,15 @@
 -- What a look-up came to, as what its answer asks.
-use Rattle.vbr_list.proofs.Names.{◌≡◌, ℕ, ◌≤◌, Bool, false, arith}
-use Rattle.vbr_list.proofs.Names.{At, DecidesKey, IsHeld, IsSlot, KeyAt, Know, link_of, Start}
-use Rattle.vbr_list.specs.LookUpPieces.{steps_to_answer}
+use Rattle.vbr_list.proofs.Names.{◌≡◌, ℕ, ◌≤◌, Bool, false, None, Option, is_some, arith, sym, subst}
+use Rattle.vbr_list.proofs.Names.{At, Call, DecidesKey, Ghosts, IsHeld, IsSlot, KeyAt, Know, link_of, set_call, Start}
+use Rattle.vbr_at_table.specs.Answering.{IsAnswered}
+use Rattle.vbr_list.specs.LookUpPieces.{LookUpAnswers, steps_to_answer}
+use Rattle.vbr_list.specs.Pieces.{trace_in}
 use Rattle.vbr_list.specs.Places.{IsSight, sighted, is_present}
+use Rattle.vbr_list.specs.Told.{given_by, kept_call, look_up_op}
+use Rattle.vbr_list.specs.declared.call.PendingCall.{PendingCall}
 use Rattle.vbr_list.specs.declared.looking.Sight.{Sight}
 use Rattle.vbr_list.specs.declared.looking.Sight.TheVariants.{Present, Absent}
+use Rattle.vbr_list.proofs.Told.{told_bare}
 
 pub keyed_slot : (know : Know) (place : At) (key : ℕ) → KeyAt know place key → IsSlot place
 keyed_slot know place key k = grind arith
@@ -20,6 +25,22 @@ module _ (start : Start) (know : Know) (key : ℕ) where
       DecidesKey start know key (sighted sight) (is_present sight)
   sight_answers (Present node) s = (keyed_slot know node.at key s.2, s.2)
   sight_answers (Absent pred) s = (s.0.behind, s.1)
+
+-- ---- its answer
+
+-- where it gives no value, it answers as a set does
+pub answers_bare : {N : Type 0} {kind : Ghosts N} {c d : PendingCall N kind} (gives : Bool) (answer : Option ℕ) →
+    given_by (look_up_op gives) answer ≡ None →
+    IsAnswered (trace_in c) (trace_in d) (set_call (trace_in c).who (look_up_op gives) c.key (is_some answer)) →
+    LookUpAnswers gives c d answer
+answers_bare {c = c} {d = d} gives answer none answered =
+    let p = trace_in c in
+    let op = look_up_op gives in
+    let P : Call → Type 0 = IsAnswered p (trace_in d) in
+    let Q : Option ℕ → Type 0 =
+    λ value. P (kept_call p.start (record (set_call p.who op c.key (is_some answer)) { value = value })) in
+    let x = subst Q (sym none) (subst P (told_bare p.start p.who op c.key (is_some answer)) answered) in
+    record { made = x.made; adds = x.adds }
 
 -- ---- what its answer costs
 

@@ -1,12 +1,16 @@
 -- The steps of an insert: of a slot, and of a pass that was alone.
 use Rattle.vbr_list.proofs.Names.{◌≡◌, ◌≢◌, ℕ, ◌+◌, ◌*◌, ◌<◌, ◌≤◌, List, [], Result, Ok, Err, sym, subst, arith, IfErr}
 use Rattle.vbr_list.proofs.Names.{IfOk, OnOk}
-use Rattle.vbr_list.proofs.Names.{alone_gained, Begins, gained, gained_on, gained_since, IsAlone, more_lost}
-use Rattle.vbr_list.proofs.Names.{most_to_take, most_to_take_among, none_lost, NoSlot, PassView, Quiet, Refusal, Start}
-use Rattle.vbr_list.proofs.Names.{steps_to_take_among, steps_to_value, TookWithin, Trace}
-use Rattle.vbr_list.specs.Budgets.{IsAnsweredOrSpent, LacksSteps, enough_to_insert, insert_costs, listed_for}
-use Rattle.vbr_list.specs.Disturbed.{disturbed, enough_to_insert_among, insert_costs_among, steps_for_slot}
+use Rattle.vbr_list.proofs.Names.{alone_gained, Begins, gained, gained_on, gained_since, Ghosts, IsAlone, more_lost}
+use Rattle.vbr_list.proofs.Names.{most_to_take, most_to_take_among, none_lost, NoSlot, PassView, Quiet, Refusal}
+use Rattle.vbr_list.proofs.Names.{some_grown, Start, steps_to_take_among, steps_to_value, TookWithin, Trace}
+use Rattle.vbr_list.specs.Budgets.{IsAnsweredOrSpent, LacksSteps, enough_to_insert, enough_to_look_up, enough_to_search}
+use Rattle.vbr_list.specs.Budgets.{insert_costs, listed_for}
+use Rattle.vbr_list.specs.Disturbed.{disturbed, enough_among, enough_to_insert_among, enough_to_search_among}
+use Rattle.vbr_list.specs.Disturbed.{insert_costs_among, steps_for_slot}
 use Rattle.vbr_list.specs.Inserting.{InsertIsShort, TakesNone}
+use Rattle.vbr_list.specs.Pieces.{GoesOn, pass_in, trace_in}
+use Rattle.vbr_list.specs.declared.call.PendingCall.{PendingCall}
 use Rattle.vbr_list.proofs.Disturbing.{undisturbed}
 
 -- where an own pool with slots keeps some, a slot is taken in no more steps than were allowed for before
@@ -21,6 +25,13 @@ take_after p q r quiet some =
     subst P (sym quiet.same.start)
     (take_later p.trace.start p.pool q.pool (gained q.trace r) (gained p.trace r)
     (gained_since p.trace q.trace r quiet.same quiet.seen) some)
+
+-- so it is of a call that went on
+pub taken_after : {N : Type 0} {kind : Ghosts N} {c d : PendingCall N kind} → GoesOn c d → (r : Trace) →
+    steps_to_take_among (trace_in d).start (pass_in d).pool (gained (trace_in d) r) ≤ steps_for_slot (pass_in c) r
+taken_after {c = c} {d = d} gone r =
+    take_after (pass_in c) (pass_in d) r gone.goes.quiet
+    (some_grown (pass_in c) (pass_in d) gone.goes.hand.takes_no_slot.grows)
 
 -- and in no more while others have taken more
 pub slot_later : (p : PassView) (q r : Trace) → Begins q.seen r.seen → steps_for_slot p q ≤ steps_for_slot p r
@@ -86,6 +97,24 @@ pub answered_or_spent : {A : Type 0} (p q : PassView) (budget n : ℕ) (answer :
     (λ refusal. IsAlone p.trace q.trace → LacksSteps (18 * n + most_to_take p.trace.start p.pool + 14) budget refusal) →
     IsAnsweredOrSpent answer
 answered_or_spent p q budget n answer some alone enough none few = grind arith
+
+-- what a call took that was disturbed so often, it took alone
+pub took_alone : (most : ℕ → ℕ) {p q : Trace} (key : ℕ) {least : ℕ} → TookWithin p q (most (disturbed p q key)) →
+    most 0 ≤ least → IsAlone p q → TookWithin p q least
+took_alone most {p} {q} key took le alone = took_more (undisturbed (λ t. TookWithin p q (most t)) key took alone) le
+
+-- a budget that was short where it was disturbed so often was short alone: of a search
+pub search_lacks : (p q : Trace) (key budget : ℕ) →
+    budget < enough_to_search_among (listed_for p key) (disturbed p q key) → IsAlone p q →
+    budget < enough_to_search p key
+search_lacks p q key budget short alone =
+    let x = undisturbed (λ t. budget < enough_to_search_among (listed_for p key) t) key short alone in omega (arith, x)
+
+-- and of a look-up
+pub look_up_lacks : (p q : Trace) (key budget : ℕ) → budget < enough_among (listed_for p key) (disturbed p q key) →
+    IsAlone p q → budget < enough_to_look_up p key
+look_up_lacks p q key budget short alone =
+    let x = undisturbed (λ t. budget < enough_among (listed_for p key) t) key short alone in omega (arith, x)
 
 -- what is so of each error of an answer
 pub each_error : {A E : Type 0} (P Q : E → Type 0) (x : Result A E) → ((e : E) → P e → Q e) → IfErr x P → IfErr x Q

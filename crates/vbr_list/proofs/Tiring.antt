@@ -2,16 +2,15 @@
 -- Enough is said for a pass that is alone, and for one that is disturbed.
 use Rattle.vbr_list.proofs.Names.{◌≡◌, ℕ, ◌+◌, ◌<◌, ◌≤◌, Bool, None, Result, Err, arith}
 use Rattle.vbr_list.proofs.Names.{Call, IsRun, OutOfSteps, PassLaw, PassView, PIECE, Refusal, took_all}
-use Rattle.vbr_list.specs.Budgets.{listed_for}
-use Rattle.vbr_list.specs.Disturbed.{enough_among, enough_to_search_among}
 use Rattle.vbr_list.specs.Leaving.{BoundsOfRemove}
 use Rattle.vbr_list.specs.Pieces.{Goes, Observes, Tries}
 use Rattle.vbr_list.specs.Refusals.{IsTired}
 use Rattle.vbr_list.specs.CallBounds.{CallsAs, BoundsOfLookUp}
 use Rattle.vbr_list.specs.Walking.{WalksAgain}
-use Rattle.vbr_list.proofs.Disturbing.{run_at, undisturbed}
+use Rattle.vbr_list.proofs.Disturbing.{run_at}
 use Rattle.vbr_list.proofs.Going.{goes_on, within_of}
 use Rattle.vbr_list.proofs.Observing.{observes_on}
+use Rattle.vbr_list.proofs.Sufficing.{look_up_lacks, search_lacks}
 use Rattle.vbr_list.proofs.Walking.{HasRepeated, lacks_steps}
 
 -- a call that has tried so far goes on, and then its budget has no room for one more piece
@@ -49,9 +48,7 @@ module _ {p q r : PassView} (law : PassLaw p) (key : ℕ) {a b budget : ℕ} (tr
         takes_no_slot = whole.hand.takes_no_slot;
         unlists = tt;
         refused = tired;
-        within = λ alone.
-            let x = undisturbed (λ t. budget < enough_to_search_among (listed_for p.trace key) t) key lacks alone in
-            omega (arith, x);
+        within = search_lacks p.trace r.trace key budget lacks;
         disturbed_within = lacks;
         costs = tt;
         disturbed_costs = tt;
@@ -72,9 +69,7 @@ module _ {p q r : PassView} (law : PassLaw p) (key : ℕ) {a b budget : ℕ} (tr
         adds_none = seen.adds_none;
         takes_no_slot = whole.hand.takes_no_slot;
         refused = tired;
-        within = λ alone.
-            let x = undisturbed (λ t. budget < enough_among (listed_for p.trace key) t) key lacks alone in
-            omega (arith, x);
+        within = look_up_lacks p.trace r.trace key budget lacks;
         disturbed_within = lacks;
         costs = tt;
         disturbed_costs = tt;

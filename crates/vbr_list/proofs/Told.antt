@@ -1,13 +1,14 @@
 -- The calls that answers tell, at tables of both kinds, and the same record of a call with another answer.
-use Rattle.vbr_list.proofs.Names.{◌≡◌, ℕ, Bool, true, false, Option, Some, None, Result, Ok, Err, refl, sym, ap, subst}
-use Rattle.vbr_list.proofs.Names.{is_some, if◌then◌else◌, arith}
-use Rattle.vbr_list.proofs.Names.{AddsAnswer, Call, Insert, IsSame, Made, made_on, Op, PassLaw, PassView, payload_kept}
-use Rattle.vbr_list.proofs.Names.{Quiet, Refusal, set_call, Start, Trace}
+use Rattle.vbr_list.proofs.Names.{◌≡◌, ℕ, Bool, true, false, Option, None, Result, Ok, Err, refl, sym, ap, subst}
+use Rattle.vbr_list.proofs.Names.{is_some, if◌then◌else◌, arith, ◌≤◌, IfErr, IfOk}
+use Rattle.vbr_list.proofs.Names.{AddsAnswer, AddsNone, answer_on, Call, CountsSteps, Insert, IsSame, Made, made_on, Op}
+use Rattle.vbr_list.proofs.Names.{PassLaw, PassView, payload_kept, Quiet, Refusal, set_call, Start, Trace}
 use Rattle.vbr_list.specs.LoneReplies.{AnswersAlone}
 use Rattle.vbr_list.specs.CallBounds.{CallsAs, CallsEntry, BoundsOfLookUp}
 use Rattle.vbr_list.specs.Leaving.{BoundsOfRemove}
 use Rattle.vbr_list.specs.Told.{given_call, given_in, is_yes, kept_call, stored_call, stored_in}
-use Rattle.vbr_list.proofs.LonePasses.{gives_alone}
+use Rattle.vbr_list.proofs.Going.{within_of}
+use Rattle.vbr_list.proofs.LonePasses.{alone, gives_alone}
 
 -- ---- what is kept
 
@@ -31,34 +32,29 @@ told_bare start who op key reply =
     (sym (kept_none start))
 
 -- where nodes have values, a call keeps its own
+call_kept : (start : Start) (call : Call) → start.shape.values ≡ true → kept_call start call ≡ call
+call_kept start call has = ap (λ (value : Option ℕ). record call { value = value }) (kept_all start call.value has)
+
 pub stored_kept : (p : Trace) (key value : ℕ) → p.start.shape.values ≡ true → (reply : Bool) →
     stored_in p key value reply ≡ stored_call p.who key value reply
-stored_kept p key value has reply =
-    ap (λ (payload_kept : Option ℕ).
-    record { who = p.who; op = Insert; key = key; reply = reply; value = payload_kept })
-    (kept_all p.start (if reply then Some value else None) has)
+stored_kept p key value has reply = call_kept p.start (stored_call p.who key value reply) has
 
 pub given_kept : (p : Trace) (op : Op) (key : ℕ) → p.start.shape.values ≡ true → (answer : Option ℕ) →
     given_in p op key answer ≡ given_call p.who op key answer
-given_kept p op key has answer =
-    ap (λ (payload_kept : Option ℕ).
-    record { who = p.who; op = op; key = key; reply = is_some answer; value = payload_kept })
-    (kept_all p.start (given_call p.who op key answer).value has)
+given_kept p op key has answer = call_kept p.start (given_call p.who op key answer) has
 
 -- where they have none, it is the call of a set
+call_bare : (start : Start) (call : Call) → start.shape.values ≡ false →
+    kept_call start call ≡ set_call call.who call.op call.key call.reply
+call_bare start call bare = ap (λ (value : Option ℕ). record call { value = value }) (kept_bare start call.value bare)
+
 pub stored_bare : (p : Trace) (key value : ℕ) → p.start.shape.values ≡ false → (reply : Bool) →
     stored_in p key value reply ≡ set_call p.who Insert key reply
-stored_bare p key value bare reply =
-    ap (λ (payload_kept : Option ℕ).
-    record { who = p.who; op = Insert; key = key; reply = reply; value = payload_kept })
-    (kept_bare p.start (if reply then Some value else None) bare)
+stored_bare p key value bare reply = call_bare p.start (stored_call p.who key value reply) bare
 
 pub given_bare : (p : Trace) (op : Op) (key : ℕ) → p.start.shape.values ≡ false → (answer : Option ℕ) →
     given_in p op key answer ≡ set_call p.who op key (is_some answer)
-given_bare p op key bare answer =
-    ap (λ (payload_kept : Option ℕ).
-    record { who = p.who; op = op; key = key; reply = is_some answer; value = payload_kept })
-    (kept_bare p.start (given_call p.who op key answer).value bare)
+given_bare p op key bare answer = call_bare p.start (given_call p.who op key answer) bare
 
 -- ---- a part of what the pass did
 
@@ -69,6 +65,13 @@ given_same same op key answer = λ i. kept_call (same.start i) (given_call (same
 pub stored_same : {p q : Trace} → IsSame p q → (key value : ℕ) (reply : Bool) →
     stored_in q key value reply ≡ stored_in p key value reply
 stored_same same key value reply = λ i. kept_call (same.start i) (stored_call (same.who i) key value reply)
+
+-- after what added nothing to the chronicle, it adds the same answer
+pub answer_since : {p q r : Trace} → IsSame p q → AddsNone p q → (op : Op) (key : ℕ) (answer : Option ℕ) →
+    AddsAnswer (given_in q op key answer) q r → AddsAnswer (given_in p op key answer) p r
+answer_since {p} {q} {r} same none op key answer adds =
+    let P : Start → Type 0 = λ start. AddsAnswer (kept_call start (given_call q.who op key answer)) q r in
+    answer_on (λ who. kept_call p.start (given_call who op key answer)) same none (subst P same.start adds)
 
 pub told_as : {p q : Trace} {x y : Call} → x ≡ y → Made x p q → Made y p q
 told_as {p} {q} same made = subst (λ (call : Call). Made call p q) same made
@@ -103,6 +106,21 @@ calls_refused bounds x =
       hand = x.hand;
       steps = x.steps;
       bounds = bounds x.bounds;
+    }
+
+-- the call was answered
+pub call_answered : {A : Type 0} {told : A → Call} {S : Result A Refusal → Type 0} {p q : PassView} {budget used : ℕ}
+    (reply : A) → PassLaw p → Made (told reply) p.trace q.trace → q.hand ≡ None → CountsSteps p.trace q.trace 0 used →
+    used ≤ budget → S (Ok reply) → CallsAs told S p q budget (Ok reply)
+call_answered {budget = budget} {used = used} reply law made hand counts within bounds =
+    record {
+      same = made.same;
+      made = made;
+      alone = alone law.start law.low made;
+      quiet = tt;
+      hand = hand;
+      steps = within_of used budget within counts;
+      bounds = bounds;
     }
 
 pub calls_as : {A : Type 0} {f g : A → Call} {S T : Result A Refusal → Type 0} {p q : PassView} {budget : ℕ}
@@ -171,27 +189,27 @@ pub look_up_yes : {f : Option ℕ → Call} {g : Bool → Call} {reading : ℕ} 
 look_up_yes (Ok given) x same = look_up_read given (is_some given) (same given) x
 look_up_yes (Err refusal) x same = look_up_refused x
 
+-- what follows of an answer with a value is so of whether it is yes
+ok_yes : {P : Option ℕ → Type 0} (Q : Bool → Type 0) (answer : Result (Option ℕ) Refusal) →
+    ((given : Option ℕ) → P given → Q (is_some given)) → IfOk answer P → IfOk (is_yes answer) Q
+ok_yes Q (Ok given) f x = f given x
+ok_yes Q (Err refusal) f x = tt
+
+-- and what is so of a refusal stays so
+err_yes : (P : Refusal → Type 0) (answer : Result (Option ℕ) Refusal) → IfErr answer P → IfErr (is_yes answer) P
+err_yes P (Ok given) x = tt
+err_yes P (Err refusal) x = x
+
+-- of a remove
 pub remove_yes : {p q : PassView} {key budget : ℕ} (answer : Result (Option ℕ) Refusal) →
     BoundsOfRemove is_some p q key budget answer → BoundsOfRemove (λ removed. removed) p q key budget (is_yes answer)
-remove_yes (Ok given) x =
-    record {
-      takes_no_slot = x.takes_no_slot;
-      unlists = x.unlists;
-      refused = tt;
-      within = tt;
-      disturbed_within = tt;
-      costs = x.costs;
-      disturbed_costs = x.disturbed_costs;
-      fewer = x.fewer;
-    }
-remove_yes (Err refusal) x =
-    record {
-      takes_no_slot = x.takes_no_slot;
-      unlists = tt;
-      refused = x.refused;
-      within = x.within;
-      disturbed_within = x.disturbed_within;
-      costs = tt;
-      disturbed_costs = tt;
-      fewer = tt;
-    }
+remove_yes answer x = record {
+  takes_no_slot = x.takes_no_slot;
+  unlists = ok_yes _ answer (λ given leaves. leaves) x.unlists;
+  refused = err_yes _ answer x.refused;
+  within = err_yes _ answer x.within;
+  disturbed_within = err_yes _ answer x.disturbed_within;
+  costs = ok_yes _ answer (λ given few. few) x.costs;
+  disturbed_costs = ok_yes _ answer (λ given few. few) x.disturbed_costs;
+  fewer = ok_yes _ answer (λ given fewer. fewer) x.fewer;
+}

@@ -103,6 +103,13 @@ module _ {p : PassView} {r : Trace} (law : PassLaw p) (bucket : ℕ) (quiet : Qu
       (begins_run p.trace.start p.trace.passes q.seen r.seen m.checks.to ok) m.checks.from) p.trace.who bucket in
       omega (arith, less, more)
 
+  -- and all that it made was its start
+  pub start_stops : (per : ℕ) {used now : ℕ} → now ≡ used + 3 → MovesSince p.trace r →
+      (used < now) × WalksOnce per 3 p.trace r bucket used now × IsDisturbed p.trace r bucket
+  start_stops per {used} {now} sum moves =
+      let within : (more : ℕ) → now ≤ used + 3 + more = λ more. omega (arith, sum) in
+      (omega (arith, sum), within (per * met_in p.trace r bucket), starts_none moves)
+
   -- a walk stands at the head
   pub starts_walk : (per before since_then : ℕ) (head : Held) → since_then ≡ before + 3 →
       StartsAt p.trace r bucket head → Walks per p.trace r bucket before since_then head head

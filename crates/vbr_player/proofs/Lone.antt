@@ -159,6 +159,18 @@ entry_untired set budget p q (Ok reply) one enough same called lacks = tt
 entry_untired set budget p q (Err refusal) one enough same called lacks =
     refused_untired set budget p q refusal one enough same called.quiet called.safe (lacks refusal called.bounds)
 
+-- nor is one that gives the value of an entry within so many steps
+value_untired : {told : Option ℕ → List Call} {BoundsSo : Result (Option ℕ) Refusal → Type 0} (set : TableView)
+    (budget steps : ℕ) (p q : MemberView) (answer : Result (Option ℕ) Refusal) → set.passes ≡ 1 →
+    ample set.start ≤ budget → IsSame (new_trace set 0) p.pass.trace →
+    CalledBy MapAnswersAll told BoundsSo p q budget answer → steps ≤ ample p.pass.trace.start →
+    ((refusal : Refusal) → BoundsSo (Err refusal) → IsAlone p.pass.trace q.pass.trace → budget < steps) →
+    reply_given answer ≢ Tired
+value_untired set budget steps p q answer one enough same called within bounds =
+    given_untired answer
+    (entry_untired set budget p q answer one enough same called
+    (λ refusal b alone. lacks_below steps (ample p.pass.trace.start) budget refusal within (bounds refusal b alone)))
+
 -- ---- lines
 
 -- what a call of a map tells a lone worker
@@ -170,19 +182,13 @@ map_untired set budget Insert key value reply p q one enough same called is =
     (entry_untired set budget p q called.0 one enough same called.1
     (λ refusal bounds. insert_lacks p.pass q.pass key budget refusal bounds)) (sym called.2 ∙ is)
 map_untired set budget Remove key value reply p q one enough same called is =
-    given_untired called.0
-    (entry_untired set budget p q called.0 one enough same called.1
-    (λ refusal bounds alone.
-    lacks_below (enough_to_search p.pass.trace key) (ample p.pass.trace.start) budget refusal
-    (search_ample p.pass.trace key) (bounds.within alone))) (sym called.2 ∙ is)
+    value_untired set budget (enough_to_search p.pass.trace key) p q called.0 one enough same called.1
+    (search_ample p.pass.trace key) (λ refusal bounds alone. bounds.within alone) (sym called.2 ∙ is)
 map_untired set budget Has key value reply p q one enough same called is =
     told_untired called.0 (called_untired set budget Has p q key called.0 one enough same called.1) (sym called.2 ∙ is)
 map_untired set budget Get key value reply p q one enough same called is =
-    given_untired called.0
-    (entry_untired set budget p q called.0 one enough same called.1
-    (λ refusal bounds alone.
-    lacks_below (enough_to_look_up p.pass.trace key) (ample p.pass.trace.start) budget refusal
-    (look_up_ample p.pass.trace key) (bounds.within alone))) (sym called.2 ∙ is)
+    value_untired set budget (enough_to_look_up p.pass.trace key) p q called.0 one enough same called.1
+    (look_up_ample p.pass.trace key) (λ refusal bounds alone. bounds.within alone) (sym called.2 ∙ is)
 
 -- what the call of a line does
 line_untired : (kind : Kind) (set : TableView) (budget : ℕ) (outcome : Outcome) (p q : MemberView) → set.passes ≡ 1 →

@@ -76,6 +76,14 @@ all_played {N} {kind} set budget script first from phase phases count workers is
 pub rest_of : (lines : List Line) (first : ℕ) → take (length lines - first) (drop first lines) ≡ drop first lines
 rest_of lines first = take_all (length lines - first) (drop first lines) (omega (arith, length-drop first lines))
 
+-- so are the next lines that are counted up to a phase in the rest of a script
+pub cuts_rest : (script : List Line) (first n phase : ℕ) →
+    n ≡ prefix_len (λ line. nat_le line.phase phase) (take (length script - first) (drop first script)) →
+    All (λ line. line.phase < phase) (take first script) → AscendFrom phase (drop first script) →
+    Cuts script first n phase
+cuts_rest script first n phase is early up =
+    cuts script first n phase (is ∙ ap (prefix_len (λ line. nat_le line.phase phase)) (rest_of script first)) early up
+
 -- the lines of a phase among them
 pub slice_of : (lines : List Line) (first n : ℕ) →
     take (first + n - first) (drop first lines) ≡ take n (drop first lines)

@@ -128,22 +128,22 @@ called_replied kind line p q budget (Err refusal) who stores gives called =
     refused kind line refusal budget p q called.set called.quiet called.steps
     (tells kind line.op p.pass q.pass line.key budget refusal called.safe.safe called.bounds)
 
+-- an insert of an entry that was answered
+insert_replied : (line : Line) (p q : MemberView) (budget : ℕ) (told : Bool) (reply : Reply) →
+    line.worker ≡ p.pass.trace.who → InsertsEntry p q line.key line.value budget (Ok told) →
+    stored_call line.worker line.key line.value told ∷ [] ≡ answer_of Map (record line { op = Insert }) reply →
+    TellsReply Map q.pass.trace Insert reply → Replied Map (record line { op = Insert }) reply budget p q
+insert_replied line p q budget told reply who called is shows =
+    answered Map (record line { op = Insert }) reply (stored_call p.pass.trace.who line.key line.value told) budget p q
+    called.set called.answers.answers called.steps
+    ((λ i. stored_call (sym who i) line.key line.value told ∷ []) ∙ is) shows
+
 -- an insert of an entry
 inserted : (line : Line) (p q : MemberView) (budget : ℕ) (answer : Result Bool Refusal) →
     line.worker ≡ p.pass.trace.who → InsertsEntry p q line.key line.value budget answer →
     Replied Map (record line { op = Insert }) (reply_told answer) budget p q
-inserted line p q budget (Ok true) who called =
-    let asked = record line { op = Insert } in
-    let is : stored_call p.pass.trace.who line.key line.value true ∷ [] ≡ answer_of Map asked Yes =
-    λ i. stored_call (sym who i) line.key line.value true ∷ [] in
-    answered Map asked Yes (stored_call p.pass.trace.who line.key line.value true) budget p q called.set
-    called.answers.answers called.steps is refl
-inserted line p q budget (Ok false) who called =
-    let asked = record line { op = Insert } in
-    let is : stored_call p.pass.trace.who line.key line.value false ∷ [] ≡ answer_of Map asked No =
-    λ i. stored_call (sym who i) line.key line.value false ∷ [] in
-    answered Map asked No (stored_call p.pass.trace.who line.key line.value false) budget p q called.set
-    called.answers.answers called.steps is tt
+inserted line p q budget (Ok true) who called = insert_replied line p q budget true Yes who called refl refl
+inserted line p q budget (Ok false) who called = insert_replied line p q budget false No who called refl tt
 inserted line p q budget (Err refusal) who called =
     refused Map (record line { op = Insert }) refusal budget p q called.set called.quiet called.steps
     (insert_tells Map p.pass q.pass line.key budget refusal called.safe.safe called.bounds.refused)

@@ -16,7 +16,7 @@ use Rattle.vbr_machine.specs.declared.event.Event.{Event}
 use Rattle.vbr_machine.specs.declared.history.Call.{Call}
 use Rattle.vbr_machine.proofs.Lemmas.{begins_trans, calls_by-append, calls_since}
 use Rattle.vbr_slots.specs.Calls.{made_by}
-use Rattle.vbr_slots.specs.Views.{TableView, new_pass, steps_of}
+use Rattle.vbr_slots.specs.Views.{IsOf, TableView, new_pass, steps_of}
 use Rattle.vbr_set.specs.Members.{as_member}
 use Rattle.vbr_transcript.specs.Calls.{Outcome, answered_calls, lines_by, lines_up_to}
 use Rattle.vbr_player.specs.Calling.{CallsInTurn}
@@ -51,6 +51,33 @@ room_for {N} {kind} set budget most script front slice back w whole has =
     let each = has.one_each in let enough = has.room in
     omega arith
 
+-- it has played lines where its number and its replies have what that asks of them
+has_so : {N : Type 0} {kind : Kind} (set : TableView) (budget most : ℕ) (script lines : List Line) (v : Worker N)
+    (who : ℕ) (replies : List Reply) → v.caller.pass.trace.who ≡ who → v.replies.items ≡ replies →
+    v.caller.set ≡ set → IsOf v.caller.pass.trace set → length replies ≡ length (lines_by who lines) →
+    made_by v.caller.pass.trace ≡ answered_calls kind (zip (lines_by who lines) replies) →
+    All (λ outcome. TellsReply kind v.caller.pass.trace outcome.0.op outcome.1) (zip (lines_by who lines) replies) →
+    CallsInTurn kind budget (zip (lines_by who lines) replies) (as_member set (new_pass set who)) v.caller →
+    steps_of v.caller.pass.trace ≤ budget * length replies + most →
+    length (lines_by who script) ≤ vec_capacity v.replies → HasPlayed kind set budget most script lines v
+has_so {N} {kind} set budget most script lines v who replies w r set_is of one_each calls tells in_turn steps room =
+    let are : (who, replies) ≡ (v.caller.pass.trace.who, v.replies.items) = λ i. (sym w i, sym r i) in
+    record {
+      set_is = set_is;
+      of = of;
+      one_each = rw (w, r) one_each;
+      calls = subst
+          (λ (k : ℕ × List Reply).
+          made_by v.caller.pass.trace ≡ answered_calls kind (zip (lines_by k.0 lines) k.1)) are calls;
+      tells = rw (w, r) tells;
+      in_turn = subst
+          (λ (k : ℕ × List Reply).
+          CallsInTurn kind budget (zip (lines_by k.0 lines) k.1) (as_member set (new_pass set k.0)) v.caller) are
+          in_turn;
+      steps = rw r steps;
+      room = rw w room;
+    }
+
 -- it has played them too
 pub played_more : {N : Type 0} {kind : Kind} →
     (set : TableView) (budget most : ℕ) (script front slice : List Line) (w v : Worker N) →
@@ -77,14 +104,6 @@ played_more {N} {kind} set budget most script front slice w v has played =
     subst (All told) (sym outcomes)
     (All-append told (zip (lines_by who front) w.replies.items) (zip (lines_by who slice) played.more) early
     played.tells) in
-    let are : (who, w.replies.items ++ played.more) ≡ (v.caller.pass.trace.who, v.replies.items) =
-    λ i. (sym same i, sym played.replies i) in
-    let P : ℕ × List Reply → Type 0 =
-    λ k. (length k.1 ≡ length (lines_by k.0 lines)) ×
-    (made_by v.caller.pass.trace ≡ answered_calls kind (zip (lines_by k.0 lines) k.1)) ×
-    All told (zip (lines_by k.0 lines) k.1) ×
-    CallsInTurn kind budget (zip (lines_by k.0 lines) k.1) (as_member set (new_pass set k.0)) v.caller ×
-    (steps_of v.caller.pass.trace ≤ budget * length k.1 + most) in
     let in_turn : CallsInTurn kind budget (zip (lines_by who lines) (w.replies.items ++ played.more))
     (as_member set (new_pass set who)) v.caller =
     subst (λ (some : List Outcome). CallsInTurn kind budget some (as_member set (new_pass set who)) v.caller)
@@ -95,20 +114,13 @@ played_more {N} {kind} set budget most script front slice w v has played =
     let long : length (w.replies.items ++ played.more) ≡ length w.replies.items + length played.more =
     length-append w.replies.items played.more in
     rw long (let a = has.steps in let b = played.steps in omega arith) in
-    let now = subst P are (replied, called, tells, in_turn, steps) in
-    let enough : length (lines_by v.caller.pass.trace.who script) ≡ length (lines_by who script) =
-    ap (λ (k : ℕ). length (lines_by k script)) same in
-    let had = has.room in let grows = played.room in
-    record {
-      set_is = played.set ∙ has.set_is;
-      of = (played.same.table ∙ has.of.0, played.same.start ∙ has.of.1, played.same.passes ∙ has.of.2);
-      one_each = now.0;
-      calls = now.1;
-      tells = now.2;
-      in_turn = now.3;
-      steps = now.4;
-      room = omega arith;
-    }
+    let room : length (lines_by who script) ≤ vec_capacity v.replies = let had = has.room in
+    let grows = played.room in
+    omega arith in
+    has_so set budget most script lines v who (w.replies.items ++ played.more) same played.replies
+    (played.set ∙ has.set_is)
+    (played.same.table ∙ has.of.0, played.same.start ∙ has.of.1, played.same.passes ∙ has.of.2) replied called tells
+    in_turn steps room
 
 -- it has, when it has looked
 pub played_looks : {N : Type 0} {kind : Kind} →
@@ -121,31 +133,18 @@ played_looks {N} {kind} set budget most more script lines v u has looks =
     let told = λ (outcome : Outcome). TellsReply kind u.caller.pass.trace outcome.0.op outcome.1 in
     let tells : All told (zip (lines_by who lines) v.replies.items) =
     all_tell_on kind (zip (lines_by who lines) v.replies.items) quiet.same quiet.seen has.tells in
-    let are : (who, v.replies) ≡ (u.caller.pass.trace.who, u.replies) =
-    λ i. (sym quiet.same.who i, sym looks.replies i) in
-    let P : ℕ × Vec Reply Global → Type 0 =
-    λ k. (length k.1.items ≡ length (lines_by k.0 lines)) ×
-    (made_by u.caller.pass.trace ≡ answered_calls kind (zip (lines_by k.0 lines) k.1.items)) ×
-    All told (zip (lines_by k.0 lines) k.1.items) × (length (lines_by k.0 script) ≤ vec_capacity k.1) ×
-    CallsInTurn kind budget (zip (lines_by k.0 lines) k.1.items) (as_member set (new_pass set k.0)) u.caller ×
-    (steps_of u.caller.pass.trace ≤ budget * length k.1.items + (most + more)) in
     let in_turn =
     turns_met kind budget (as_member set (new_pass set who)) v.caller u.caller
     (zip (lines_by who lines) v.replies.items) has.in_turn looks.looked.met in
     let steps : steps_of u.caller.pass.trace ≤ budget * length v.replies.items + (most + more) = let a = has.steps in
     let b = looks.looked.steps in
     omega arith in
-    let now = subst P are (has.one_each, quiet.calls ∙ has.calls, tells, has.room, in_turn, steps) in
-    record {
-      set_is = looks.looked.set ∙ has.set_is;
-      of = (quiet.same.table ∙ has.of.0, quiet.same.start ∙ has.of.1, quiet.same.passes ∙ has.of.2);
-      one_each = now.0;
-      calls = now.1;
-      tells = now.2;
-      in_turn = now.4;
-      steps = now.5;
-      room = now.3;
-    }
+    has_so set budget (most + more) script lines u who v.replies.items quiet.same.who
+    (ap (λ (replies : Vec Reply Global). replies.items) looks.replies) (looks.looked.set ∙ has.set_is)
+    (quiet.same.table ∙ has.of.0, quiet.same.start ∙ has.of.1, quiet.same.passes ∙ has.of.2) has.one_each
+    (quiet.calls ∙ has.calls) tells in_turn steps
+    (subst (λ (replies : Vec Reply Global). length (lines_by who script) ≤ vec_capacity replies) (sym looks.replies)
+    has.room)
 
 -- ---- all workers
 

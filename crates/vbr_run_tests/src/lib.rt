@@ -2,12 +2,6 @@
 #![tactic(auto)]
 
 #[cfg(test)]
-mod devices;
-#[cfg(test)]
-mod gates;
-#[cfg(test)]
-mod maps;
-#[cfg(test)]
 mod player;
 #[cfg(test)]
 mod scripts;

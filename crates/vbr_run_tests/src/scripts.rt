@@ -114,22 +114,24 @@ fn counts_phases_by_renewals_too(rt: HostRuntime) -> Result<(), Fail> {
     Ok(())
 }
 
+// Texts, and the number of the test that each fails first.
+const FAULTS: [(&[u8], u8); 11] = [
+    (b"0 insert +5", 4),
+    (b"0 insert 5 6", 1),
+    (b"sync 0", 1),
+    (b"Sync", 1),
+    (b"renew 0", 1),
+    (b"renew renew renew", 2),
+    (b"x insert 5", 2),
+    (b"9 drop x", 2),
+    (b"sync sync sync", 2),
+    (b"0 Insert 5", 3),
+    (b"0 has 5\r\r\n", 4),
+];
+
 #[test]
 fn tells_the_first_test_that_fails(rt: HostRuntime) {
-    let rows = [
-        (b"0 insert +5".as_slice(), 4),
-        (b"0 insert 5 6".as_slice(), 1),
-        (b"sync 0".as_slice(), 1),
-        (b"Sync".as_slice(), 1),
-        (b"renew 0".as_slice(), 1),
-        (b"renew renew renew".as_slice(), 2),
-        (b"x insert 5".as_slice(), 2),
-        (b"9 drop x".as_slice(), 2),
-        (b"sync sync sync".as_slice(), 2),
-        (b"0 Insert 5".as_slice(), 3),
-        (b"0 has 5\r\r\n".as_slice(), 4),
-    ];
-    for (text, number) in rows {
+    for (text, number) in FAULTS {
         expect_fault(&rt, rt.alloc(), text, (1, number));
     }
 }
@@ -202,19 +204,21 @@ fn reads_values_in_a_map(rt: HostRuntime) -> Result<(), Fail> {
     Ok(())
 }
 
+// The same of texts of a map.
+const MAP_FAULTS: [(&[u8], u8); 8] = [
+    (b"0 get", 1),
+    (b"0 insert 5 6 7", 1),
+    (b"9 get 5 6", 2),
+    (b"0 get 5 6", 3),
+    (b"0 remove x y", 3),
+    (b"0 insert x y", 4),
+    (b"0 insert 5 x", 6),
+    (b"0 insert 5 18446744073709551616", 6),
+];
+
 #[test]
 fn tells_the_first_test_that_fails_in_a_map(rt: HostRuntime) {
-    let rows = [
-        (b"0 get".as_slice(), 1),
-        (b"0 insert 5 6 7".as_slice(), 1),
-        (b"9 get 5 6".as_slice(), 2),
-        (b"0 get 5 6".as_slice(), 3),
-        (b"0 remove x y".as_slice(), 3),
-        (b"0 insert x y".as_slice(), 4),
-        (b"0 insert 5 x".as_slice(), 6),
-        (b"0 insert 5 18446744073709551616".as_slice(), 6),
-    ];
-    for (text, fault) in &rows {
+    for (text, fault) in &MAP_FAULTS {
         assert_eq!(rt; map_fault_of(rt.alloc(), text), Some((1, *fault)));
     }
     assert_eq!(rt; map_fault_of(rt.alloc(), b"0 insert 5 6"), None);

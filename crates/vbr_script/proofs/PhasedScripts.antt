@@ -104,6 +104,13 @@ all_tokens : (kind : Kind) (workers : ℕ) (lines : List (List ℕ)) →
 all_tokens kind workers [] = tt
 all_tokens kind workers (line ∷ lines) = (tokens kind workers (tokens_of line), all_tokens kind workers lines)
 
+-- a line that is one too many asks for nothing, nor do those behind it
+if_fits : (kind : Kind) (workers phase : ℕ) (line : Meaning) (rest : List Meaning) (fits : Bool) →
+    All (IsRequest kind workers) (operations_from phase (line ∷ rest)) →
+    All (IsRequest kind workers) (operations_from phase ((if fits then line else Faulty TooMany) ∷ rest))
+if_fits kind workers phase line rest true all = all
+if_fits kind workers phase line rest false all = All-nil (IsRequest kind workers)
+
 of_workers : (kind : Kind) (workers : ℕ) (lines : List Meaning) (operations syncs phase : ℕ) →
     AllByRecursion (IsOfWorker kind workers) lines →
     All (IsRequest kind workers) (operations_from phase (all_limited operations syncs lines))
@@ -112,35 +119,16 @@ of_workers kind workers (Blank ∷ lines) operations syncs phase all =
     of_workers kind workers lines operations syncs phase all.1
 of_workers kind workers (Faulty fault ∷ lines) operations syncs phase all = All-nil (IsRequest kind workers)
 of_workers kind workers (Sync ∷ lines) operations syncs phase all =
-    by_case (nat_lt syncs MAX_SYNCS) (of_workers kind workers lines operations (syncs + 1) (phase + 1) all.1)
-  where
-    by_case : (fits : Bool) →
-        All (IsRequest kind workers) (operations_from (phase + 1) (all_limited operations (syncs + 1) lines)) →
-        All (IsRequest kind workers)
-        (operations_from phase ((if fits then Sync else Faulty TooMany) ∷ all_limited operations (syncs + 1) lines))
-    by_case true rest = rest
-    by_case false rest = All-nil (IsRequest kind workers)
+    if_fits kind workers phase Sync (all_limited operations (syncs + 1) lines) (nat_lt syncs MAX_SYNCS)
+    (of_workers kind workers lines operations (syncs + 1) (phase + 1) all.1)
 of_workers kind workers (Renew ∷ lines) operations syncs phase all =
-    by_case (nat_lt syncs MAX_SYNCS) (of_workers kind workers lines operations (syncs + 1) (phase + 1) all.1)
-  where
-    by_case : (fits : Bool) →
-        All (IsRequest kind workers) (operations_from (phase + 1) (all_limited operations (syncs + 1) lines)) →
-        All (IsRequest kind workers)
-        (operations_from phase ((if fits then Renew else Faulty TooMany) ∷ all_limited operations (syncs + 1) lines))
-    by_case true rest = rest
-    by_case false rest = All-nil (IsRequest kind workers)
+    if_fits kind workers phase Renew (all_limited operations (syncs + 1) lines) (nat_lt syncs MAX_SYNCS)
+    (of_workers kind workers lines operations (syncs + 1) (phase + 1) all.1)
 of_workers kind workers (Asks worker op key value ∷ lines) operations syncs phase all =
-    by_case (nat_lt operations MAX_OPERATIONS) (of_workers kind workers lines (operations + 1) syncs phase all.1)
-  where
-    by_case : (fits : Bool) →
-        All (IsRequest kind workers) (operations_from phase (all_limited (operations + 1) syncs lines)) →
-        All (IsRequest kind workers)
-        (operations_from phase
-        ((if fits then Asks worker op key value else Faulty TooMany) ∷ all_limited (operations + 1) syncs lines))
-    by_case true rest =
-        All-cons (IsRequest kind workers) (record { phase = phase; worker = worker; op = op; key = key; value = value })
-        _ all.0 rest
-    by_case false rest = All-nil (IsRequest kind workers)
+    if_fits kind workers phase (Asks worker op key value) (all_limited (operations + 1) syncs lines)
+    (nat_lt operations MAX_OPERATIONS)
+    (All-cons (IsRequest kind workers) (record { phase = phase; worker = worker; op = op; key = key; value = value }) _
+    all.0 (of_workers kind workers lines (operations + 1) syncs phase all.1))
 
 -- ---- phases
 

@@ -51,6 +51,15 @@ abbrev pub changed : {A : Type 0} → (A → List Call) → Result A Refusal →
 changed told (Ok reply) = change_of (told reply)
 changed told (Err refusal) = pos 0
 
+-- one for an answer is one or none
+one_fits : {A : Type 0} (test : A → Bool) (answer : Result A Refusal) → FitsSigned w64 (one_where test answer)
+one_fits test (Ok reply) = go (test reply)
+  where
+    go : (b : Bool) → FitsSigned w64 (if b then pos 1 else pos 0)
+    go true = omega (arith, ints)
+    go false = omega (arith, ints)
+one_fits test (Err refusal) = omega (arith, ints)
+
 module _ {A : Type 0} {told : A → List Call} {BoundsSo : Result A Refusal → Type 0}
     {Leave : List Call → Trace → Trace → Type 0}
     (once : (calls : List Call) (p q : Trace) → Leave calls p q → made_by q ≡ made_by p ++ calls) where
@@ -63,41 +72,46 @@ module _ {A : Type 0} {told : A → List Call} {BoundsSo : Result A Refusal → 
       same_calls m n called.set called.same called.quiet.calls
       ∙ sym (ap (int_wrap w64) none ∙ int_wrap_fits w64 (balance_of m) (SFits-int_wrap w64 _))
 
-  module _ (set shared : TableView) (p q : PassView) (budget : ℕ) (answer : Result A Refusal) (is : set ≡ shared)
-      (called : CalledBy Leave told BoundsSo (as_member set p) (as_member set q) budget answer) where
-    after : balance_of (as_member shared q) ≡ int_wrap w64 (balance_of (as_member shared p) +ℤ changed told answer)
+  module _ {set shared : TableView} {p q : PassView} {budget : ℕ} {answer : Result A Refusal} {balance : ℤ}
+      (is : set ≡ shared) (called : CalledBy Leave told BoundsSo (as_member set p) (as_member set q) budget answer)
+      (counted : balance ≡ balance_of (as_member shared p)) where
+    after : balance_of (as_member shared q) ≡ int_wrap w64 (balance +ℤ changed told answer)
     after = subst
         (λ (t : TableView).
         balance_of (as_member t q) ≡ int_wrap w64 (balance_of (as_member t p) +ℤ changed told answer)) is
         (after_call (as_member set p) (as_member set q) budget answer called)
+        ∙ ap (λ (z : ℤ). int_wrap w64 (z +ℤ changed told answer)) (sym counted)
 
-    module _ (balance : ℤ) (counted : balance ≡ balance_of (as_member shared p)) where
-      -- a call that does nothing to the number of keys
-      pub kept : ((reply : A) → change_of (told reply) ≡ pos 0) → balance ≡ balance_of (as_member shared q)
-      kept none = counted
-          ∙ sym (after ∙ ap (int_wrap w64) same
-          ∙ int_wrap_fits w64 (balance_of (as_member shared p)) (SFits-int_wrap w64 _))
-        where
-          nothing : (a : Result A Refusal) → changed told a ≡ pos 0
-          nothing (Ok reply) = none reply
-          nothing (Err refusal) = refl
+    fits : FitsSigned w64 balance
+    fits = subst (FitsSigned w64) (sym counted) (SFits-int_wrap w64 _)
 
-          same : balance_of (as_member shared p) +ℤ changed told answer ≡ balance_of (as_member shared p)
-          same = let zero_is = nothing answer in omega (arith, ints, zero_is)
+    -- a call that does nothing to the number of keys
+    pub kept : ((reply : A) → change_of (told reply) ≡ pos 0) → balance ≡ balance_of (as_member shared q)
+    kept none = sym (after ∙ ap (int_wrap w64) same ∙ int_wrap_fits w64 balance fits)
+      where
+        nothing : (a : Result A Refusal) → changed told a ≡ pos 0
+        nothing (Ok reply) = none reply
+        nothing (Err refusal) = refl
 
-      -- a call that adds
-      pub added : (more : ℤ) → FitsSigned w64 balance → FitsSigned w64 more → more ≡ changed told answer →
-          int_wrapping_add w64 balance more ≡ balance_of (as_member shared q)
-      added more fits fit is =
-          wrapping_add_is w64 balance more fits fit ∙ (λ i. int_wrap w64 (counted i +ℤ is i)) ∙ sym after
+        same : balance +ℤ changed told answer ≡ balance
+        same = let zero_is = nothing answer in omega (arith, ints, zero_is)
 
-      -- a call that takes out
-      pub taken : (fewer one : ℤ) → FitsSigned w64 balance → FitsSigned w64 fewer → fewer ≡ one →
-          changed told answer +ℤ one ≡ pos 0 → int_wrapping_sub w64 balance fewer ≡ balance_of (as_member shared q)
-      taken fewer one fits fit is_one none =
-          let same : balance -ℤ fewer ≡ balance_of (as_member shared p) +ℤ changed told answer =
-          omega (arith, ints, counted, is_one, none) in
-          wrapping_sub_is w64 balance fewer fits fit ∙ ap (int_wrap w64) same ∙ sym after
+    -- a call that adds one where its answer passes a test
+    pub added : {more : ℤ} (test : A → Bool) → more ≡ one_where test answer →
+        one_where test answer ≡ changed told answer →
+        int_wrapping_add w64 balance more ≡ balance_of (as_member shared q)
+    added {more} test one is_one =
+        wrapping_add_is w64 balance more fits (subst (FitsSigned w64) (sym one) (one_fits test answer))
+        ∙ ap (λ (z : ℤ). int_wrap w64 (balance +ℤ z)) (one ∙ is_one) ∙ sym after
+
+    -- a call that takes one out
+    pub taken : {fewer : ℤ} (test : A → Bool) → fewer ≡ one_where test answer →
+        changed told answer +ℤ one_where test answer ≡ pos 0 →
+        int_wrapping_sub w64 balance fewer ≡ balance_of (as_member shared q)
+    taken {fewer} test one none =
+        let same : balance -ℤ fewer ≡ balance +ℤ changed told answer = omega (arith, ints, one, none) in
+        wrapping_sub_is w64 balance fewer fits (subst (FitsSigned w64) (sym one) (one_fits test answer))
+        ∙ ap (int_wrap w64) same ∙ sym after
 
 -- ---- answers
 

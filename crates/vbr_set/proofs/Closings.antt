@@ -42,30 +42,45 @@ closes kind shown table passes told report all e legal reports = record {
   reports = reports;
 }
 
--- the words that a table ended with are those after its run
-pub after_end : (t : TableView) (passes : List PassView) (words : List ℕ) → IsStart t.start →
-    (e : Ends t passes words) → AreAfter t.start words e.run
-after_end t passes words start e = record { passes = t.passes; is_start = start; is_run = e.is_run; are = e.are }
+-- ---- what was found of a table at its end
 
--- so there is a run that they are after, from this shape with the keys and values that the table opened with
-pub some_run : (t : TableView) (passes : List PassView) (words found : List ℕ) (bare : Dimensions) → IsStart t.start →
-    Ends t passes words → with_opened bare (opened_of t.start) ≡ t.start → found ≡ words →
-    (opened : Opened) × (run : List Event) × AreAfter (with_opened bare opened) found run
-some_run t passes words found bare start e is same = (
-  (opened_of t.start),
-  e.run,
-  subst (λ (x : Start × List ℕ). AreAfter x.0 x.1 e.run) (λ i. (sym is i, sym same i))
-      (after_end t passes words start e),
-)
+module _ {view table : TableView} {passes : List PassView} {words found : List ℕ} {bare : Dimensions}
+    (view_is : view ≡ table) (start : IsStart view.start) (shape : bare ≡ view.start.shape)
+    (ended : Ends view passes words) (same : found ≡ words) where
+  ends : Ends table passes words
+  ends = subst (λ (v : TableView). Ends v passes words) view_is ended
 
--- what the words of an ended table tell
-pub tells_end : {T : Type 0} (shown : Incarnations → ℕ → T) (t : TableView) (passes : List PassView) (words : List ℕ)
-    (told : Contents T) → IsStart t.start → Ends t passes words →
-    ((run : List Event) → AreAfter t.start words run → Holds shown t.start run told) → TellsEnd shown t passes told
-tells_end shown t passes words told start e tells =
-    record {
-      words = words;
-      ends = e;
-      after = after_end t passes words start e;
-      holds = tells e.run (after_end t passes words start e);
-    }
+  -- the words that it ended with are those after its run
+  after_end : AreAfter table.start words ends.run
+  after_end = record {
+    passes = table.passes;
+    is_start = subst (λ (v : TableView). IsStart v.start) view_is start;
+    is_run = ends.is_run;
+    are = ends.are;
+  }
+
+  -- the shape that was found, with the keys and values that it opened with, is its start
+  start_is : with_opened bare (opened_of table.start) ≡ table.start
+  start_is i = with_opened ((shape ∙ ap (λ (v : TableView). v.start.shape) view_is) i) (opened_of table.start)
+
+  -- so there is a run that the words are after
+  pub some_run : (opened : Opened) × (run : List Event) × AreAfter (with_opened bare opened) found run
+  some_run = (
+    opened_of table.start,
+    ends.run,
+    subst (λ (x : Start × List ℕ). AreAfter x.0 x.1 ends.run) (λ i. (sym start_is i, sym same i)) after_end,
+  )
+
+  -- and what they tell of each such run is told of its end
+  pub tells_end : {T : Type 0} {shown : Incarnations → ℕ → T} {told : Contents T} →
+      ((opened : Opened) (run : List Event) → AreAfter (with_opened bare opened) found run →
+      Holds shown (with_opened bare opened) run told)
+      → TellsEnd shown table passes told
+  tells_end {T} {shown} {told} tells = record {
+    words = words;
+    ends = ends;
+    after = after_end;
+    holds = subst
+        (λ (x : Start × List ℕ). (run : List Event) → AreAfter x.0 x.1 run → Holds shown x.0 run told)
+        (λ i. (start_is i, same i)) (tells (opened_of table.start)) ends.run after_end;
+  }

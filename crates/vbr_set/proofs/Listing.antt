@@ -110,6 +110,12 @@ lists_none set p budget law hand = record {
 goes_on_safe : {m n o : MemberView} → GoesOnSafe m n → GoesOnSafe n o → GoesOnSafe m o
 goes_on_safe x y = record { set = y.set ∙ x.set; hand = y.hand; safe = y.safe; sees = sees_on x.sees y.sees }
 
+-- a call tells the same by another name of its answer
+pub answered_as : {m n : MemberView} {c d : Cursor} {budget : ℕ} {answer again : Result (Option (ℕ × ℕ)) Refusal} →
+    answer ≡ again → CallsNextWhere m n c d budget answer → CallsNextWhere m n c d budget again
+answered_as {m} {n} {c} {d} {budget} is called =
+    subst (λ (answer : Result (Option (ℕ × ℕ)) Refusal). CallsNextWhere m n c d budget answer) is called
+
 module _ {m n : MemberView} (o : MemberView) {c d : Cursor} {entries : List (ℕ × ℕ)} (budget : ℕ)
     (x : Lists m n c budget entries) where
   -- with one more call

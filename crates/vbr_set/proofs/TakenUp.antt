@@ -41,26 +41,21 @@ record ToldNone (m n : MemberView) : Type 0 where
   shared : SharesWhereFull 2 m.pass n.pass
   kept : KeepsSlots m.pass n.pass
 
-found_none : {p q : PassView} {key : ℕ} → FoundNoSlot p q key → HasNoSlot p q
-found_none x = record { empty = x.empty; still = x.still; outside = x.outside }
+-- of one that looked for a slot in vain
+found_none : {m n : MemberView} {key : ℕ} → IsSame m.pass.trace n.pass.trace → n.pass.hand ≡ None →
+    FoundNoSlot m.pass n.pass key → SharesWhereFull 2 m.pass n.pass → KeepsSlots m.pass n.pass → ToldNone m n
+found_none same hand found shared kept = record {
+  same = same;
+  hand = hand;
+  none = record { empty = found.empty; still = found.still; outside = found.outside };
+  shared = shared;
+  kept = kept;
+}
 
 told_none : (m n : MemberView) (key budget : ℕ) → InsertRefused m n key budget NoSlot → ToldNone m n
-told_none m n key budget (inl c) =
-    record {
-      same = c.same;
-      hand = c.hand;
-      none = found_none c.bounds.refused;
-      shared = c.bounds.shared;
-      kept = c.bounds.kept;
-    }
+told_none m n key budget (inl c) = found_none c.same c.hand c.bounds.refused c.bounds.shared c.bounds.kept
 told_none m n key budget (inr (inl (value, c))) =
-    record {
-      same = c.same;
-      hand = c.hand;
-      none = found_none c.bounds.refused;
-      shared = c.bounds.shared;
-      kept = c.bounds.kept;
-    }
+    found_none c.same c.hand c.bounds.refused c.bounds.shared c.bounds.kept
 told_none m n key budget (inr (inr (value, wanted, c))) =
     record {
       same = c.same;

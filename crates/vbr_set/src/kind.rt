@@ -27,6 +27,9 @@ use std::alloc::Global;
 use vbr_slots::{OpenManyError, Pass, Slots};
 use vbr_words::{Nodes, Shape};
 
+// What an opening of slots gives: the slots with their passes, or why there are none.
+pub(crate) type OpenedSlots<N> = Result<(Slots<N>, Vec<Pass>), OpenManyError>;
+
 /// What the kind of nodes decides: [`vbr_words::Keys`] are those of a set, and [`vbr_words::Entries`] those
 /// of a map. All that a set and a map have in common is written once, over a kind.
 pub trait Kind: Nodes + Sized {
@@ -47,7 +50,7 @@ pub trait Kind: Nodes + Sized {
         shape: Shape,
         passes: u32,
         items: &[Self::Item],
-    ) -> Result<(Slots<Self>, Vec<Pass>), OpenManyError>
+    ) -> OpenedSlots<Self>
         requires ascending { IsStrictlyIncreasing (kind.keys items.now) }
         requires few { length items.now ≤ shape.slots }
         ensures opened { IfOk result (λ r.

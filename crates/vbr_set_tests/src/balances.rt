@@ -1,10 +1,9 @@
 //! The balances of members, and members that are renewed.
-ghost use Rattle.std.specs.Prelude.{◌≡◌, IfSome};
+ghost use Rattle.std.specs.Prelude.{◌≡◌};
 ghost use Rattle.vbr_set.specs.AllMembers.{AreOfOneSet};
 
-use crate::members::{both, expect_insert, expect_remove, open_two};
+use crate::members::{both, expect_insert, expect_remove, fill_two, open_two};
 use std::alloc::Global;
-use std::process::Abort;
 use std::test::Fail;
 use vbr_set::{Member, RenewAllError, Shape};
 
@@ -52,16 +51,6 @@ fn renew_both(alloc: Global, one: Member, other: Member, slots: u32) -> Option<(
     };
     let [first, second] = <[Member; 2]>::try_from(fresh).ok()?;
     Some((first, second))
-}
-
-// Two members that have put a key each into a set of two slots.
-fn fill_two(rt: &impl Abort, alloc: Global) -> Option<(Member, Member)>
-    ensures { IfSome result (λ r. r.1.set ≡ r.0.set) }
-{
-    let (mut one, mut other) = open_two(alloc)?;
-    expect_insert(rt, &mut one, 7, true);
-    expect_insert(rt, &mut other, 5, true);
-    Some((one, other))
 }
 
 /// Members that are renewed have the keys, in a set of another shape, and the first one counts them.

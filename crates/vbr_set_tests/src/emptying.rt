@@ -54,13 +54,10 @@ fn four_threads_empty_a_list(rt: HostRuntime) -> Result<(), Fail> {
     let shape = Shape::new(64, 1, MAX_EPOCH)?;
     for _ in 0..300 {
         let members = Member::open(rt.alloc(), shape, 4)?;
-        let mut emptiers = Vec::with_capacity(rt.alloc(), 4)?;
-        for member in members {
-            emptiers
-                .push(Emptier { member, removed: 0 })
-                .ok()
-                .ok_or("no room")?;
-        }
+        let mut emptiers: Vec<Emptier> = members
+            .into_iter()
+            .map(|member| Emptier { member, removed: 0 })
+            .collect(rt.alloc())?;
         if let Some(first) = emptiers.first_mut() {
             first.fill()?;
         }

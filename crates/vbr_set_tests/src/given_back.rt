@@ -18,6 +18,28 @@ fn open_members<N: Kind>(
     member::Member::<N>::open(alloc, shape, count).expect(rt, "memory")
 }
 
+// The two members of a set or a map of so many slots.
+fn open_two<N: Kind>(
+    rt: &impl Abort,
+    alloc: Global,
+    slots: u32,
+) -> (member::Member<N>, member::Member<N>) {
+    let members = open_members(rt, alloc, slots, 2);
+    let [one, other] = <[member::Member<N>; 2]>::try_from(members)
+        .ok()
+        .expect(rt, "two members");
+    (one, other)
+}
+
+// The only member of a set or a map of so many slots.
+fn open_alone<N: Kind>(rt: &impl Abort, alloc: Global, slots: u32) -> member::Member<N> {
+    let members = open_members(rt, alloc, slots, 1);
+    let [alone] = <[member::Member<N>; 1]>::try_from(members)
+        .ok()
+        .expect(rt, "a member");
+    alone
+}
+
 // The member gives back so many slots, a step for each, and keeps none.
 fn expect_given<N: Kind>(rt: &impl Abort, one: &mut member::Member<N>, wanted: u32) {
     let before = one.pass().steps();
@@ -43,13 +65,45 @@ fn expect_reserved<N: Kind>(
     assert_eq!(rt; one.pass().pool().len(), kept);
 }
 
+// The other member has no slot for these keys until the first one gives its slots back, and then the first one has none
+// for its key.
+fn expect_handed_over(
+    rt: &impl Abort,
+    one: &mut Member,
+    other: &mut Member,
+    keys: &[u64],
+    refused: u64,
+) {
+    for key in keys {
+        assert_eq!(rt; other.insert(*key, 100), Err(Refusal::NoSlot));
+    }
+    expect_given(rt, one, u32::try_from(keys.len()).unwrap_or(u32::MAX));
+    expect_given(rt, one, 0);
+    for key in keys {
+        expect_insert(rt, other, *key, true);
+    }
+    assert_eq!(rt; one.insert(refused, 100), Err(Refusal::NoSlot));
+}
+
+// The same of one slot of a map, for this key with 71.
+fn expect_entry_handed_over(
+    rt: &impl Abort,
+    one: &mut MapMember,
+    other: &mut MapMember,
+    key: u64,
+    refused: u64,
+) {
+    assert_eq!(rt; other.insert(key, 71, 100), Err(Refusal::NoSlot));
+    expect_given(rt, one, 1);
+    expect_given(rt, one, 0);
+    assert_eq!(rt; other.insert(key, 71, 100), Ok(true));
+    assert_eq!(rt; one.insert(refused, 72, 100), Err(Refusal::NoSlot));
+}
+
 // Two slots are the first member's. It gives them back, and then the other one has them.
 #[test]
 fn slots_of_a_set_are_given_back(rt: HostRuntime) -> Result<(), Fail> {
-    let members = open_members(&rt, rt.alloc(), 2, 2);
-    let [mut one, mut other] = <[Member; 2]>::try_from(members)
-        .ok()
-        .expect(&rt, "two members");
+    let (mut one, mut other): (Member, Member) = open_two(&rt, rt.alloc(), 2);
     for key in 1..3 {
         expect_insert(&rt, &mut one, key, true);
         expect_remove(&rt, &mut one, key, true);
@@ -59,27 +113,16 @@ fn slots_of_a_set_are_given_back(rt: HostRuntime) -> Result<(), Fail> {
     expect_remove(&rt, &mut one, 3, true);
     expect_remove(&rt, &mut one, 4, true);
     assert_eq!(rt; one.pass().pool().len(), 2);
-    assert_eq!(rt; other.insert(5, 100), Err(Refusal::NoSlot));
-    expect_given(&rt, &mut one, 2);
-    expect_given(&rt, &mut one, 0);
-    expect_insert(&rt, &mut other, 5, true);
-    expect_insert(&rt, &mut other, 6, true);
-    assert_eq!(rt; one.insert(7, 100), Err(Refusal::NoSlot));
+    expect_handed_over(&rt, &mut one, &mut other, &[5, 6], 7);
     Ok(())
 }
 
 #[test]
 fn slots_of_a_map_are_given_back(rt: HostRuntime) -> Result<(), Fail> {
-    let members = open_members(&rt, rt.alloc(), 1, 2);
-    let [mut one, mut other] = <[MapMember; 2]>::try_from(members)
-        .ok()
-        .expect(&rt, "two members");
+    let (mut one, mut other): (MapMember, MapMember) = open_two(&rt, rt.alloc(), 1);
     assert_eq!(rt; one.insert(1, 70, 100), Ok(true));
     assert_eq!(rt; one.remove(1, 100), Ok(Some(70)));
-    assert_eq!(rt; other.insert(2, 71, 100), Err(Refusal::NoSlot));
-    expect_given(&rt, &mut one, 1);
-    assert_eq!(rt; other.insert(2, 71, 100), Ok(true));
-    assert_eq!(rt; one.insert(1, 72, 100), Err(Refusal::NoSlot));
+    expect_entry_handed_over(&rt, &mut one, &mut other, 2, 1);
     Ok(())
 }
 
@@ -87,41 +130,24 @@ fn slots_of_a_map_are_given_back(rt: HostRuntime) -> Result<(), Fail> {
 // gives that slot back as any other.
 #[test]
 fn a_slot_of_a_set_that_was_in_hand_is_given_back(rt: HostRuntime) -> Result<(), Fail> {
-    let members = open_members(&rt, rt.alloc(), 1, 2);
-    let [mut one, mut other] = <[Member; 2]>::try_from(members)
-        .ok()
-        .expect(&rt, "two members");
+    let (mut one, mut other): (Member, Member) = open_two(&rt, rt.alloc(), 1);
     assert_eq!(rt; one.insert(5, 14), Err(Refusal::OutOfSteps { used: 7 }));
-    assert_eq!(rt; other.insert(6, 100), Err(Refusal::NoSlot));
-    expect_given(&rt, &mut one, 1);
-    expect_given(&rt, &mut one, 0);
-    expect_insert(&rt, &mut other, 6, true);
-    assert_eq!(rt; one.insert(5, 100), Err(Refusal::NoSlot));
+    expect_handed_over(&rt, &mut one, &mut other, &[6], 5);
     Ok(())
 }
 
 #[test]
 fn a_slot_of_a_map_that_was_in_hand_is_given_back(rt: HostRuntime) -> Result<(), Fail> {
-    let members = open_members(&rt, rt.alloc(), 1, 2);
-    let [mut one, mut other] = <[MapMember; 2]>::try_from(members)
-        .ok()
-        .expect(&rt, "two members");
+    let (mut one, mut other): (MapMember, MapMember) = open_two(&rt, rt.alloc(), 1);
     assert_eq!(rt; one.insert(5, 70, 14), Err(Refusal::OutOfSteps { used: 7 }));
-    assert_eq!(rt; other.insert(6, 71, 100), Err(Refusal::NoSlot));
-    expect_given(&rt, &mut one, 1);
-    expect_given(&rt, &mut one, 0);
-    assert_eq!(rt; other.insert(6, 71, 100), Ok(true));
-    assert_eq!(rt; one.insert(5, 72, 100), Err(Refusal::NoSlot));
+    expect_entry_handed_over(&rt, &mut one, &mut other, 6, 5);
     Ok(())
 }
 
 // A member that is dropped leaves its slots to the others.
 #[test]
 fn a_dropped_member_leaves_its_slots(rt: HostRuntime) -> Result<(), Fail> {
-    let members = open_members(&rt, rt.alloc(), 1, 2);
-    let [mut one, mut other] = <[Member; 2]>::try_from(members)
-        .ok()
-        .expect(&rt, "two members");
+    let (mut one, mut other): (Member, Member) = open_two(&rt, rt.alloc(), 1);
     expect_insert(&rt, &mut one, 1, true);
     expect_remove(&rt, &mut one, 1, true);
     assert_eq!(rt; other.insert(2, 100), Err(Refusal::NoSlot));
@@ -133,10 +159,7 @@ fn a_dropped_member_leaves_its_slots(rt: HostRuntime) -> Result<(), Fail> {
 // Two slots are the first member's. It is closed, and then the other one has both.
 #[test]
 fn a_closed_member_leaves_its_slots(rt: HostRuntime) -> Result<(), Fail> {
-    let members = open_members(&rt, rt.alloc(), 2, 2);
-    let [mut one, mut other] = <[Member; 2]>::try_from(members)
-        .ok()
-        .expect(&rt, "two members");
+    let (mut one, mut other): (Member, Member) = open_two(&rt, rt.alloc(), 2);
     expect_reserved(&rt, &mut one, 2, 2, 2);
     assert_eq!(rt; other.insert(5, 100), Err(Refusal::NoSlot));
     assert!(rt; one.close(rt.alloc())?.is_none());
@@ -148,10 +171,7 @@ fn a_closed_member_leaves_its_slots(rt: HostRuntime) -> Result<(), Fail> {
 // A reserve is what is wanted, what there is, and never more than 63.
 #[test]
 fn members_reserve_slots(rt: HostRuntime) -> Result<(), Fail> {
-    let members = open_members(&rt, rt.alloc(), 4, 2);
-    let [mut one, mut other] = <[Member; 2]>::try_from(members)
-        .ok()
-        .expect(&rt, "two members");
+    let (mut one, mut other): (Member, Member) = open_two(&rt, rt.alloc(), 4);
     let reserved = one.reserve(3);
     assert_eq!(rt; reserved, 3);
     expect_reserved(&rt, &mut one, 3, 0, 3);
@@ -161,16 +181,10 @@ fn members_reserve_slots(rt: HostRuntime) -> Result<(), Fail> {
     expect_given(&rt, &mut one, 3);
     expect_insert(&rt, &mut other, 2, true);
 
-    let members = open_members(&rt, rt.alloc(), 100, 1);
-    let [mut alone] = <[MapMember; 1]>::try_from(members)
-        .ok()
-        .expect(&rt, "a member");
+    let mut alone: MapMember = open_alone(&rt, rt.alloc(), 100);
     expect_reserved(&rt, &mut alone, 100, 63, 63);
 
-    let members = open_members(&rt, rt.alloc(), 1, 2);
-    let [mut one, mut other] = <[MapMember; 2]>::try_from(members)
-        .ok()
-        .expect(&rt, "two members");
+    let (mut one, mut other): (MapMember, MapMember) = open_two(&rt, rt.alloc(), 1);
     expect_reserved(&rt, &mut one, 0, 0, 0);
     expect_reserved(&rt, &mut one, 5, 1, 1);
     expect_reserved(&rt, &mut other, 5, 0, 0);
@@ -196,10 +210,7 @@ fn expect_topped_up<N: Kind>(
 // its third try, as the second goes on after slot 1, where it tried first, and shows that no slot from there on is free.
 #[test]
 fn top_ups_go_on_where_they_stopped(rt: HostRuntime) -> Result<(), Fail> {
-    let members = open_members(&rt, rt.alloc(), 4, 2);
-    let [mut one, mut other] = <[Member; 2]>::try_from(members)
-        .ok()
-        .expect(&rt, "two members");
+    let (mut one, mut other): (Member, Member) = open_two(&rt, rt.alloc(), 4);
     let taken = one.top_up(3, 2);
     assert_eq!(rt; taken, 2);
     expect_topped_up(&rt, &mut one, (3, 2), (1, 1), 3);
@@ -215,10 +226,7 @@ fn top_ups_go_on_where_they_stopped(rt: HostRuntime) -> Result<(), Fail> {
 #[test]
 fn a_reserve_makes_the_epoch_last(rt: HostRuntime) -> Result<(), Fail> {
     for (reserve, epoch) in [(0, 9), (3, 3)] {
-        let members = open_members(&rt, rt.alloc(), 4, 1);
-        let [mut one] = <[Member; 1]>::try_from(members)
-            .ok()
-            .expect(&rt, "a member");
+        let mut one: Member = open_alone(&rt, rt.alloc(), 4);
         expect_reserved(&rt, &mut one, reserve, reserve, reserve as usize);
         for key in 0..9 {
             expect_insert(&rt, &mut one, key, true);

@@ -1,10 +1,12 @@
 //! Going over the keys of a set, and the entries of a map, bucket by bucket, with exact steps.
-ghost use Rattle.std.specs.Prelude.{◌≡◌};
+ghost use Rattle.std.specs.Prelude.{◌≡◌, None, IfOk};
+ghost use Rattle.vbr_slots.specs.Views.{IsOf};
 
 use crate::alone::open_alone;
+use std::alloc::Global;
 use std::process::Abort;
 use std::test::Fail;
-use vbr_set::{Cursor, ListError, Refusal, Shape, VbrMapRef, VbrSetRef};
+use vbr_set::{Cursor, ListError, Pass, Refusal, Shape, VbrMapRef, VbrSet, VbrSetRef};
 use vbr_words::{Entries, Keys};
 
 // The next key is this one, and then so many steps were made.
@@ -55,38 +57,48 @@ fn the_greatest_key_is_given(rt: HostRuntime) -> Result<(), Fail> {
     Ok(())
 }
 
+// A set with 1 and 5 in one bucket, and its pass, of which a remove with so many steps has marked this key, and left its
+// node in the list.
+fn open_marked(
+    rt: &impl Abort,
+    alloc: Global,
+    key: u64,
+    budget: u32,
+) -> Result<(VbrSet, Pass), Fail>
+    ensures own { IfOk result (λ r. IsOf r.1.trace r.0) }
+    ensures empty_hand { IfOk result (λ r. r.1.hand ≡ None) }
+{
+    let (set, mut pass) = open_alone::<Keys>(alloc, Shape::new(8, 4, 10)?, &[1, 5])?;
+    assert_eq!(rt; set.remove(&mut pass, key, budget), Ok(true));
+    Ok((set, pass))
+}
+
 /// A refusal keeps how far the cursor has come, and a node that is marked and still in its list is passed
-/// in three steps: a remove with 16 steps marks the node and leaves it.
+/// in three steps: a remove with 16 steps marks the node and leaves it, after 9.
 #[test]
 fn a_marked_node_is_passed(rt: HostRuntime) -> Result<(), Fail> {
-    let (set, pass) = open_alone::<Keys>(rt.alloc(), Shape::new(8, 4, 10)?, &[1, 5])?;
+    let (set, pass) = open_marked(&rt, rt.alloc(), 1, 16)?;
     let mut caller = set.with_pass(pass);
-    assert_eq!(rt; caller.remove(1, 16), Ok(true));
-    let before = caller.pass().steps();
     let mut cursor = Cursor::first();
     assert_eq!(rt;
         caller.next_key(&mut cursor, 8),
         Err(Refusal::OutOfSteps { used: 3 })
     );
     assert_eq!(rt; cursor, Cursor { bucket: 1, from: 0 });
-    assert_eq!(rt; caller.next_key(&mut cursor, 100), Ok(Some(5)));
-    assert_eq!(rt; caller.pass().steps().checked_sub(before), Some(14));
+    gives(&rt, &mut caller, &mut cursor, Some(5), 9 + 14);
     Ok(())
 }
 
-/// After the last key a marked node can stand in its list, as a remove with 21 steps leaves it: then the
-/// next call enters the bucket once more, and passes the key in five steps and the node in three.
+/// After the last key a marked node can stand in its list, as a remove with 21 steps leaves it, after 14: then
+/// the next call enters the bucket once more, and passes the key in five steps and the node in three.
 #[test]
 fn a_marked_node_after_the_last_key_is_passed(rt: HostRuntime) -> Result<(), Fail> {
-    let (set, pass) = open_alone::<Keys>(rt.alloc(), Shape::new(8, 4, 10)?, &[1, 5])?;
+    let (set, pass) = open_marked(&rt, rt.alloc(), 5, 21)?;
     let mut caller = set.with_pass(pass);
-    assert_eq!(rt; caller.remove(5, 21), Ok(true));
-    let before = caller.pass().steps();
     let mut cursor = Cursor::first();
-    assert_eq!(rt; caller.next_key(&mut cursor, 100), Ok(Some(1)));
+    gives(&rt, &mut caller, &mut cursor, Some(1), 14 + 11);
     assert_eq!(rt; cursor, Cursor { bucket: 1, from: 2 });
-    assert_eq!(rt; caller.next_key(&mut cursor, 100), Ok(None));
-    assert_eq!(rt; caller.pass().steps().checked_sub(before), Some(28));
+    gives(&rt, &mut caller, &mut cursor, None, 14 + 28);
     Ok(())
 }
 

@@ -124,49 +124,59 @@ fn expect(
     expect_left(rt, alloc, map, a, b, left)
 }
 
+// Inserts 7 with 107 and removes it with so many steps, which leaves its node marked, and then makes these rows.
+fn expect_marked(
+    rt: &impl Abort,
+    alloc: Global,
+    budget: u32,
+    rows: &[Row],
+    left: Left,
+) -> Result<(), Fail> {
+    let mut all = Vec::new(alloc);
+    all.extend_from_slice(&[
+        Row::Call(0, 100, Made::Insert(7, 107, Ok(true))),
+        Row::Steps(14),
+        Row::Call(0, budget, Made::Remove(7, Ok(Some(107)))),
+        Row::Steps(11),
+    ])?;
+    all.extend_from_slice(rows)?;
+    expect(rt, alloc, (1, 1, 10), &all, left)
+}
+
 /// A remove that can't unlink within its budget leaves the node to the next call that meets it.
 #[test]
 fn a_marked_node_is_left_to_others(rt: HostRuntime) -> Result<(), Fail> {
     let rows = [
-        Row::Call(0, 100, Made::Insert(7, 107, Ok(true))),
-        Row::Steps(14),
-        Row::Call(0, 18, Made::Remove(7, Ok(Some(107)))),
-        Row::Steps(11),
         Row::Call(1, 100, Made::Remove(7, Ok(None))),
         Row::Steps(10),
         Row::Pool(&[0]),
     ];
-    expect(&rt, rt.alloc(), (1, 1, 10), &rows, (&[], 1, (0, 0, 1)))
+    expect_marked(&rt, rt.alloc(), 18, &rows, (&[], 1, (0, 0, 1)))
 }
 
 /// The same, closed while the node is marked: its entry isn't reported.
 #[test]
 fn a_marked_node_is_counted(rt: HostRuntime) -> Result<(), Fail> {
-    let rows = [
-        Row::Call(0, 100, Made::Insert(7, 107, Ok(true))),
-        Row::Call(0, 16, Made::Remove(7, Ok(Some(107)))),
-    ];
-    expect(&rt, rt.alloc(), (1, 1, 10), &rows, (&[], 1, (0, 1, 0)))
+    expect_marked(&rt, rt.alloc(), 16, &[], (&[], 1, (0, 1, 0)))
 }
 
 /// Gets pass marked nodes, however many, and leave them.
 #[test]
 fn gets_pass_marked_nodes(rt: HostRuntime) -> Result<(), Fail> {
-    let rows = [
-        Row::Call(0, 100, Made::Insert(30, 130, Ok(true))),
-        Row::Call(0, 100, Made::Insert(20, 120, Ok(true))),
-        Row::Call(0, 100, Made::Insert(10, 110, Ok(true))),
-        Row::Call(0, 26, Made::Remove(30, Ok(Some(130)))),
-        Row::Steps(21),
-        Row::Call(0, 21, Made::Remove(20, Ok(Some(120)))),
-        Row::Steps(16),
-        Row::Call(0, 16, Made::Remove(10, Ok(Some(110)))),
-        Row::Steps(11),
+    let mut rows = Vec::new(rt.alloc());
+    for (key, value) in [(30, 130), (20, 120), (10, 110)] {
+        rows.push(Row::Call(0, 100, Made::Insert(key, value, Ok(true))))?;
+    }
+    for (budget, key, value, steps) in [(26, 30, 130, 21), (21, 20, 120, 16), (16, 10, 110, 11)] {
+        rows.push(Row::Call(0, budget, Made::Remove(key, Ok(Some(value)))))?;
+        rows.push(Row::Steps(steps))?;
+    }
+    rows.extend_from_slice(&[
         Row::Call(1, 100, Made::Get(20, Ok(None))),
         Row::Steps(13),
         Row::Call(1, 100, Made::Has(20, Ok(false))),
         Row::Steps(13),
-    ];
+    ])?;
     expect(&rt, rt.alloc(), (3, 1, 10), &rows, (&[], 1, (0, 3, 0)))
 }
 

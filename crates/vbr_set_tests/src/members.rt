@@ -43,6 +43,16 @@ pub(crate) fn expect_remove(rt: &impl Abort, member: &mut Member, key: u64, was_
     assert_eq!(rt; member.remove(key, 100), Ok(was_there));
 }
 
+// Two members that have put a key each into a set of two slots: 7 and 5.
+pub(crate) fn fill_two(rt: &impl Abort, alloc: Global) -> Option<(Member, Member)>
+    ensures { IfSome result (λ r. r.1.set ≡ r.0.set) }
+{
+    let (mut one, mut other) = open_two(alloc)?;
+    expect_insert(rt, &mut one, 7, true);
+    expect_insert(rt, &mut other, 5, true);
+    Some((one, other))
+}
+
 // One member adds a key, and then another meets it: so the other has seen the insert.
 fn add_and_show(one: &mut Member, other: &mut Member, key: u64) -> Result<bool, Refusal>
     requires { other.old.set ≡ one.old.set }

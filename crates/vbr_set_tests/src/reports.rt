@@ -1,7 +1,7 @@
 //! Members that are closed all at once, or dropped, and reports of those that go on.
 ghost use Rattle.std.specs.Prelude.{◌≡◌};
 
-use crate::members::{both, expect_insert, expect_remove, open_two};
+use crate::members::{both, expect_insert, expect_remove, fill_two, open_two};
 use std::alloc::Global;
 use std::process::Abort;
 use std::test::Fail;
@@ -21,9 +21,7 @@ fn close_both(alloc: Global, one: Member, other: Member) -> Result<Report, Close
 /// All members get what all of them did.
 #[test]
 fn all_members_are_closed(rt: HostRuntime) -> Result<(), Fail> {
-    let (mut one, mut other) = open_two(rt.alloc()).expect(&rt, "there is memory");
-    expect_insert(&rt, &mut one, 7, true);
-    expect_insert(&rt, &mut other, 5, true);
+    let (one, mut other) = fill_two(&rt, rt.alloc()).expect(&rt, "there is memory");
     expect_remove(&rt, &mut other, 7, true);
     let Ok(report) = close_both(rt.alloc(), one, other) else {
         panic!(rt; "not closed")

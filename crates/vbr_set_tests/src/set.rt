@@ -162,59 +162,55 @@ fn compare(rt: &impl Abort, report: &Report, left: Left) {
     assert_eq!(rt; (report.live, report.marked, report.free), counts);
 }
 
+// Inserts 7 and removes it with 16 steps, which leaves its node marked, and then makes these rows.
+fn expect_marked(rt: &impl Abort, alloc: Global, rows: &[Row], left: Left) -> Result<(), Fail> {
+    let mut all = Vec::new(alloc);
+    all.extend_from_slice(&[
+        Row::Call(0, Op::Insert, 7, 100, Ok(true)),
+        Row::Call(0, Op::Remove, 7, 16, Ok(true)),
+        Row::Steps(9),
+    ])?;
+    all.extend_from_slice(rows)?;
+    expect(rt, alloc, (1, 1, 10), &all, left)
+}
+
 /// A remove that can't unlink within its budget leaves the node to the next call that meets it.
 #[test]
 fn a_marked_node_is_left_to_others(rt: HostRuntime) -> Result<(), Fail> {
     let rows = [
-        Row::Call(0, Op::Insert, 7, 100, Ok(true)),
-        Row::Call(0, Op::Remove, 7, 16, Ok(true)),
-        Row::Steps(9),
         Row::Call(1, Op::Remove, 7, 100, Ok(false)),
         Row::Steps(10),
         Row::Pool(&[0]),
     ];
-    expect(&rt, rt.alloc(), (1, 1, 10), &rows, (&[], 1, (0, 0, 1)))
+    expect_marked(&rt, rt.alloc(), &rows, (&[], 1, (0, 0, 1)))
 }
 
 /// The same, closed while the node is marked.
 #[test]
 fn a_marked_node_is_counted(rt: HostRuntime) -> Result<(), Fail> {
-    let rows = [
-        Row::Call(0, Op::Insert, 7, 100, Ok(true)),
-        Row::Call(0, Op::Remove, 7, 16, Ok(true)),
-    ];
-    expect(&rt, rt.alloc(), (1, 1, 10), &rows, (&[], 1, (0, 1, 0)))
-}
-
-/// A look-up passes marked nodes, however many, and leaves them.
-#[test]
-fn look_ups_pass_marked_nodes(rt: HostRuntime) -> Result<(), Fail> {
-    let rows = [
-        Row::Call(0, Op::Insert, 30, 100, Ok(true)),
-        Row::Call(0, Op::Insert, 20, 100, Ok(true)),
-        Row::Call(0, Op::Insert, 10, 100, Ok(true)),
-        Row::Call(0, Op::Remove, 30, 26, Ok(true)),
-        Row::Steps(19),
-        Row::Call(0, Op::Remove, 20, 21, Ok(true)),
-        Row::Steps(14),
-        Row::Call(0, Op::Remove, 10, 16, Ok(true)),
-        Row::Steps(9),
-        Row::Call(1, Op::Has, 20, 100, Ok(false)),
-        Row::Steps(13),
-    ];
-    expect(&rt, rt.alloc(), (3, 1, 10), &rows, (&[], 1, (0, 3, 0)))
+    expect_marked(&rt, rt.alloc(), &[], (&[], 1, (0, 1, 0)))
 }
 
 /// A look-up doesn't unlink, nor help in any other way.
 #[test]
 fn a_look_up_leaves_a_marked_node(rt: HostRuntime) -> Result<(), Fail> {
-    let rows = [
-        Row::Call(0, Op::Insert, 7, 100, Ok(true)),
-        Row::Call(0, Op::Remove, 7, 16, Ok(true)),
-        Row::Call(1, Op::Has, 7, 100, Ok(false)),
-        Row::Steps(7),
-    ];
-    expect(&rt, rt.alloc(), (1, 1, 10), &rows, (&[], 1, (0, 1, 0)))
+    let rows = [Row::Call(1, Op::Has, 7, 100, Ok(false)), Row::Steps(7)];
+    expect_marked(&rt, rt.alloc(), &rows, (&[], 1, (0, 1, 0)))
+}
+
+/// A look-up passes marked nodes, however many, and leaves them.
+#[test]
+fn look_ups_pass_marked_nodes(rt: HostRuntime) -> Result<(), Fail> {
+    let mut rows = Vec::new(rt.alloc());
+    for key in [30, 20, 10] {
+        rows.push(Row::Call(0, Op::Insert, key, 100, Ok(true)))?;
+    }
+    for (key, budget, steps) in [(30, 26, 19), (20, 21, 14), (10, 16, 9)] {
+        rows.push(Row::Call(0, Op::Remove, key, budget, Ok(true)))?;
+        rows.push(Row::Steps(steps))?;
+    }
+    rows.extend_from_slice(&[Row::Call(1, Op::Has, 20, 100, Ok(false)), Row::Steps(13)])?;
+    expect(&rt, rt.alloc(), (3, 1, 10), &rows, (&[], 1, (0, 3, 0)))
 }
 
 #[test]
@@ -282,21 +278,15 @@ fn no_pass_and_too_many_are_refused(rt: HostRuntime) -> Result<(), Fail> {
 
 #[test]
 fn keys_of_many_buckets_ascend(rt: HostRuntime) -> Result<(), Fail> {
-    let rows = [
-        Row::Call(0, Op::Insert, 9, 1_000, Ok(true)),
-        Row::Call(0, Op::Insert, 64, 1_000, Ok(true)),
-        Row::Call(0, Op::Insert, 1, 1_000, Ok(true)),
-        Row::Call(0, Op::Insert, 3, 1_000, Ok(true)),
-        Row::Call(0, Op::Insert, 17, 1_000, Ok(true)),
-        Row::Call(0, Op::Insert, u64::MAX, 1_000, Ok(true)),
-        Row::Call(0, Op::Insert, 8, 1_000, Ok(true)),
-        Row::Call(0, Op::Insert, 0, 1_000, Ok(true)),
-        Row::Call(0, Op::Insert, 23, 1_000, Ok(true)),
-        Row::Call(0, Op::Insert, 16, 1_000, Ok(true)),
+    let mut rows = Vec::new(rt.alloc());
+    for key in [9, 64, 1, 3, 17, u64::MAX, 8, 0, 23, 16] {
+        rows.push(Row::Call(0, Op::Insert, key, 1_000, Ok(true)))?;
+    }
+    rows.extend_from_slice(&[
         Row::Call(0, Op::Remove, 17, 1_000, Ok(true)),
         Row::Call(0, Op::Has, 17, 1_000, Ok(false)),
         Row::Call(0, Op::Has, u64::MAX, 1_000, Ok(true)),
-    ];
+    ])?;
     let ascending = [0, 1, 3, 8, 9, 16, 23, 64, u64::MAX];
     let left = (ascending.as_slice(), 1, (9, 0, 55));
     expect(&rt, rt.alloc(), (64, 8, 10), &rows, left)

@@ -14,27 +14,20 @@ const KEYS: u64 = 35;
 // The steps that a call may make.
 const BUDGET: u32 = 100_000;
 
-// Inserts all keys of a bucket, and says whether each was absent.
-fn fill(caller: &mut VbrSetRef, bucket: u64) -> bool
+// Inserts all keys of a bucket, or removes them, and says whether each was absent before, or present.
+fn turn(caller: &mut VbrSetRef, bucket: u64, fills: bool) -> bool
     ensures { caller.new.set ≡ caller.old.set }
 {
     for i in 0..KEYS {
         let key = (2 * i).saturating_add(bucket);
-        if caller.insert(key, BUDGET) != Ok(true) {
-            return false;
-        }
-    }
-    true
-}
-
-// Removes all keys of a bucket, and says whether each was present.
-fn empty(caller: &mut VbrSetRef, bucket: u64) -> bool
-    ensures { caller.new.set ≡ caller.old.set }
-{
-    for i in 0..KEYS {
-        let key = (2 * i).saturating_add(bucket);
-        if caller.remove(key, BUDGET) != Ok(true) {
-            return false;
+        if fills {
+            if caller.insert(key, BUDGET) != Ok(true) {
+                return false;
+            }
+        } else {
+            if caller.remove(key, BUDGET) != Ok(true) {
+                return false;
+            }
         }
     }
     true
@@ -47,7 +40,9 @@ fn turn_over(set: &VbrSet, pass: Pass, bucket: u64) -> (Pass, bool)
     ensures { IsOf result.0.trace set.now }
 {
     let mut caller = set.with_pass(pass);
-    let done = fill(&mut caller, bucket) && empty(&mut caller, bucket) && fill(&mut caller, bucket);
+    let done = turn(&mut caller, bucket, true)
+        && turn(&mut caller, bucket, false)
+        && turn(&mut caller, bucket, true);
     (caller.into_pass(), done)
 }
 

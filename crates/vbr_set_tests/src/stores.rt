@@ -2,6 +2,7 @@
 ghost use Rattle.std.specs.Prelude.{◌≡◌};
 
 use crate::alone::{expect_left, open_alone};
+use std::alloc::Global;
 use std::process::Abort;
 use std::test::Fail;
 use vbr_set::{Refusal, Shape, VbrMap, VbrMapRef};
@@ -77,16 +78,6 @@ fn store_without_a_slot(rt: &impl Abort, caller: &mut VbrMapRef)
     assert_eq!(rt; caller.get_or_insert(5, 71, 200), Ok(Some(70)));
 }
 
-/// A map with one slot keeps its one value.
-#[test]
-fn a_full_map_keeps_its_value(rt: HostRuntime) -> Result<(), Fail> {
-    let (map, pass) = open_alone::<Entries>(rt.alloc(), Shape::new(1, 1, 20)?, &[])?;
-    let mut caller = map.with_pass(pass);
-    store_without_a_slot(&rt, &mut caller);
-    let pass = caller.into_pass();
-    expect_left(&rt, rt.alloc(), map, pass, &[(5, 70)], (1, 0, 0))
-}
-
 // One slot more than there are keys is enough for one replacement after another.
 fn replace_thrice(rt: &impl Abort, caller: &mut VbrMapRef)
     ensures { caller.new.set ≡ caller.old.set }
@@ -97,14 +88,30 @@ fn replace_thrice(rt: &impl Abort, caller: &mut VbrMapRef)
     assert_eq!(rt; caller.compare_exchange(5, 72, 73, 200), Ok(Some(72)));
 }
 
+// Stores 5 in a map of so many slots: of one, or of two, where it is replaced. Compares the value that is left.
+fn expect_stored(rt: &impl Abort, alloc: Global, slots: u32, value: u64) -> Result<(), Fail> {
+    let (map, pass) = open_alone::<Entries>(alloc, Shape::new(slots, 1, 20)?, &[])?;
+    let mut caller = map.with_pass(pass);
+    if slots == 1 {
+        store_without_a_slot(rt, &mut caller);
+    } else {
+        replace_thrice(rt, &mut caller);
+    }
+    let pass = caller.into_pass();
+    let free = slots.saturating_sub(1);
+    expect_left(rt, alloc, map, pass, &[(5, value)], (1, 0, free))
+}
+
+/// A map with one slot keeps its one value.
+#[test]
+fn a_full_map_keeps_its_value(rt: HostRuntime) -> Result<(), Fail> {
+    expect_stored(&rt, rt.alloc(), 1, 70)
+}
+
 /// The slot of a node that was replaced is back when the call returns.
 #[test]
 fn replaced_slots_come_back(rt: HostRuntime) -> Result<(), Fail> {
-    let (map, pass) = open_alone::<Entries>(rt.alloc(), Shape::new(2, 1, 20)?, &[])?;
-    let mut caller = map.with_pass(pass);
-    replace_thrice(&rt, &mut caller);
-    let pass = caller.into_pass();
-    expect_left(&rt, rt.alloc(), map, pass, &[(5, 73)], (1, 0, 1))
+    expect_stored(&rt, rt.alloc(), 2, 73)
 }
 
 // Two callers change one key in turn, and each finds what the other stored.

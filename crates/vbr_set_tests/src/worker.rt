@@ -64,9 +64,7 @@ impl Worker {
         requires { place < KEYS }
     {
         let added = self.member.insert(key, BUDGET)?;
-        if added {
-            self.inserted[place] = self.inserted[place].saturating_add(1);
-        }
+        count(&mut self.inserted, place, added);
         Ok(added)
     }
 
@@ -74,9 +72,16 @@ impl Worker {
         requires { place < KEYS }
     {
         let removed = self.member.remove(key, BUDGET)?;
-        if removed {
-            self.removed[place] = self.removed[place].saturating_add(1);
-        }
+        count(&mut self.removed, place, removed);
         Ok(removed)
+    }
+}
+
+// Counts an answer that is yes.
+fn count(counts: &mut [u32; KEYS], place: usize, is_yes: bool)
+    requires { place < KEYS }
+{
+    if is_yes {
+        counts[place] = counts[place].saturating_add(1);
     }
 }

@@ -54,8 +54,7 @@ record PassesEach (r : Rule) : Type 0 where
   free : r.is_free ≡ true
   exact : not r.ignore_case ≡ true
   named : not (is_empty r.id) ≡ true
-  no_help : not (bytes_eq r.id (codes "help")) ≡ true
-  no_version : not (bytes_eq r.id (codes "version")) ≡ true
+  not_shown : (not (bytes_eq r.id (codes "help")) && not (bytes_eq r.id (codes "version"))) ≡ true
 
 each_of : (r : Rule) → is_sound r ≡ true → PassesEach r
 unfolding is_sound
@@ -64,14 +63,12 @@ each_of r sound =
     let exact = both _ _ free.1 in
     let named = both _ _ exact.1 in
     let help = both _ _ named.1 in
-    let version = both _ _ help.1 in
     record {
       simple = free.0;
       free = exact.0;
       exact = named.0;
       named = help.0;
-      no_help = version.0;
-      no_version = version.1;
+      not_shown = help.1;
     }
 
 -- no rule has the name of another
@@ -171,8 +168,8 @@ option_at old rules k d parser has inside reads =
       named = not_empty a.id.now each.named;
       own = λ auto.
           elim auto [
-            | inl is ↦ not_same a.id.now (codes "help") each.no_help is
-            | inr is ↦ not_same a.id.now (codes "version") each.no_version is
+            | inl is ↦ not_same a.id.now (codes "help") (both _ _ each.not_shown).0 is
+            | inr is ↦ not_same a.id.now (codes "version") (both _ _ each.not_shown).1 is
           ];
       reads = sym (ap (λ (r : Rule). r.parser) here) ∙ reads;
       exact = false_of a.ignore_case each.exact;

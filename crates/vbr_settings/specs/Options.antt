@@ -7,6 +7,7 @@ use Rattle.clap.specs.Words.{App, Rule, Row, Text, new_app, new_rule, with_rule,
 use Rattle.clap.specs.Words.{Kinds, fault_of}
 use Rattle.clap.specs.declared.builder.action.ArgAction.TheVariants.{Set, SetTrue}
 use Rattle.clap.specs.declared.builder.value_parser.ValueParser.TheVariants as value
+use Rattle.clap.specs.declared.error.kind.ErrorKind.{ErrorKind}
 use Rattle.vbr_settings.specs.declared.config.TheConstants.{MAX_WORKERS}
 use Rattle.vbr_words.specs.Shapes.{shape_error}
 use Rattle.vbr_words.specs.declared.shape.ShapeError.{ShapeError}
@@ -72,6 +73,10 @@ AreOptions arguments = takes command_line arguments ≡ true
 -- the kinds of error that the command answers a command line with: none where it takes it
 unfoldable pub faults : List Text → Kinds
 faults arguments = fault_of command_line arguments
+
+-- these arguments after the program's name have this fault, and no other
+abbrev pub HasFault : List Text → ErrorKind → Type 0
+HasFault arguments fault = (name : Text) → faults (name ∷ arguments) ≡ fault ∷ []
 
 -- ---- what a command line gives
 

@@ -1,7 +1,7 @@
 //! The command of the program: its options, its texts, and how the arguments are read.
 ghost use Rattle.std.specs.Prelude.{◌≡◌, ℕ, List, [], ◌∷◌, Some, None, true, false, IfOk, IfErr, map, fold, codes};
 ghost use Rattle.clap.specs.Words.{app_of, rule_of, with_rule, kind_of};
-ghost use Rattle.vbr_settings.specs.Options.{AreOptions, faults, own_settings, each_option, settings_of_each, number_option, switch, lone_argument, shape_options, asked_options, command_line, settings_of, asks_map, file_of, explained_of};
+ghost use Rattle.vbr_settings.specs.Options.{AreOptions, HasFault, faults, own_settings, each_option, settings_of_each, number_option, switch, lone_argument, shape_options, asked_options, command_line, settings_of, asks_map, file_of, explained_of};
 ghost use Rattle.vbr_settings.specs.Given.{IsReadOff, IsOptionsErrorOf};
 
 use crate::config::MAX_WORKERS;
@@ -186,22 +186,14 @@ pub fn knows_its_options()
 /// limits is one that can't be taken, an option that there isn't and a second file are unknown, and
 /// the help and the version are printed where they are asked for.
 pub fn knows_its_faults()
-    ensures workers { (name : List ℕ) → faults (name ∷ codes "--workers" ∷ codes "17" ∷ [])
-        ≡ ErrorKind.ValueValidation ∷ [] }
-    ensures no_number { (name : List ℕ) → faults (name ∷ codes "--slots=many" ∷ [])
-        ≡ ErrorKind.ValueValidation ∷ [] }
-    ensures no_value { (name : List ℕ) → faults (name ∷ codes "--budget" ∷ [])
-        ≡ ErrorKind.InvalidValue ∷ [] }
-    ensures twice { (name : List ℕ) → faults (name ∷ codes "--epoch" ∷ codes "--epoch" ∷ [])
-        ≡ ErrorKind.ArgumentConflict ∷ [] }
-    ensures unknown { (name : List ℕ) → faults (name ∷ codes "--worker=4" ∷ [])
-        ≡ ErrorKind.UnknownArgument ∷ [] }
-    ensures stray { (name : List ℕ) → faults (name ∷ codes "a.script" ∷ codes "b.script" ∷ [])
-        ≡ ErrorKind.UnknownArgument ∷ [] }
-    ensures help { (name : List ℕ) → faults (name ∷ codes "--help" ∷ [])
-        ≡ ErrorKind.DisplayHelp ∷ [] }
-    ensures version { (name : List ℕ) → faults (name ∷ codes "--version" ∷ [])
-        ≡ ErrorKind.DisplayVersion ∷ [] }
+    ensures workers { HasFault (codes "--workers" ∷ codes "17" ∷ []) ErrorKind.ValueValidation }
+    ensures no_number { HasFault (codes "--slots=many" ∷ []) ErrorKind.ValueValidation }
+    ensures no_value { HasFault (codes "--budget" ∷ []) ErrorKind.InvalidValue }
+    ensures twice { HasFault (codes "--epoch" ∷ codes "--epoch" ∷ []) ErrorKind.ArgumentConflict }
+    ensures unknown { HasFault (codes "--worker=4" ∷ []) ErrorKind.UnknownArgument }
+    ensures stray { HasFault (codes "a.script" ∷ codes "b.script" ∷ []) ErrorKind.UnknownArgument }
+    ensures help { HasFault (codes "--help" ∷ []) ErrorKind.DisplayHelp }
+    ensures version { HasFault (codes "--version" ∷ []) ErrorKind.DisplayVersion }
 {}
 
 // The command, with its options.

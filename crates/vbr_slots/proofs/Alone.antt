@@ -109,6 +109,13 @@ module _ {step : Step} {p q : Trace} {r : ℕ} (d : Did step p q r) (alone : IsA
 value_was : (r n : ℕ) → Value r ≡ Value n → n ≡ r
 value_was r n e = cc
 
+-- the link of a place is the one that the incarnations show there
+link_image : (p : Trace) (place : At) →
+    Agrees p.start (world_after p.start p.seen) (incarnations_after p.start p.seen) (notes_after p.start p.seen) →
+    machine.link_at (world_after p.start p.seen) place ≡ link_shown_at (nodes p) place
+link_image p (Head b) g = g.image.head b
+link_image p (Slot s) g = g.image.link s
+
 -- the link that was read stands there
 pub link_now : {p q : Trace} {place : At} {word : ℕ} → IsStart p.start → Did (LoadLink place) p q word → IsAlone p q →
     link_shown_at (nodes p) place ≡ link_of word
@@ -117,14 +124,9 @@ link_now {p} {q} {place} {word} is d alone =
     let w : word ≡ found p.start (world_after p.start p.seen) (LoadLink place) =
     sym (value_was word _ d.shows.answers)
     ∙ ap (λ l. found p.start (world_after p.start l) (LoadLink place)) (before_it d alone) in
-    sym (image place (run_agrees p.start p.passes p.seen is ok)) ∙ link_loaded p.start p.passes p.seen is ok p.who place
+    sym (link_image p place (run_agrees p.start p.passes p.seen is ok))
+    ∙ link_loaded p.start p.passes p.seen is ok p.who place
     ∙ ap link_of (sym w)
-  where
-    image : (place : At) →
-        Agrees p.start (world_after p.start p.seen) (incarnations_after p.start p.seen) (notes_after p.start p.seen) →
-        machine.link_at (world_after p.start p.seen) place ≡ link_shown_at (incarnations_after p.start p.seen) place
-    image (Head b) g = g.image.head b
-    image (Slot s) g = g.image.link s
 
 -- the epoch that was read is the one that stands
 pub epoch_now : {p q : Trace} {epoch : ℕ} → IsStart p.start → Did ReadEpoch p q epoch → IsAlone p q →
@@ -168,13 +170,7 @@ fresh_read {p} {q} {epoch} is d knew =
 pub stands_found : (p : Trace) (place : At) (word : ℕ) → IsStart p.start → IsRun p.start p.passes p.seen →
     link_shown_at (nodes p) place ≡ link_of word → word_of (machine.link_at (world_after p.start p.seen) place) ≡ word
 stands_found p place word is ok stands =
-    ap word_of (image place (run_agrees p.start p.passes p.seen is ok) ∙ stands) ∙ word_of-link_of word
-  where
-    image : (place : At) →
-        Agrees p.start (world_after p.start p.seen) (incarnations_after p.start p.seen) (notes_after p.start p.seen) →
-        machine.link_at (world_after p.start p.seen) place ≡ link_shown_at (incarnations_after p.start p.seen) place
-    image (Head b) g = g.image.head b
-    image (Slot s) g = g.image.link s
+    ap word_of (link_image p place (run_agrees p.start p.passes p.seen is ok) ∙ stands) ∙ word_of-link_of word
 
 -- a step that was made alone found what stood after all that the pass had seen
 pub found_now : {step : Step} {p q : Trace} {r : ℕ} (d : Did step p q r) → IsAlone p q →

@@ -20,6 +20,9 @@ use Rattle.vbr_machine.specs.Chronicles.{Confirms}
 use Rattle.vbr_machine.specs.Accounts.{just, happens, incarnations_after, own_entries}
 use Rattle.vbr_machine.proofs.Lemmas.{begins_trans, others_leave_calls, others_leave_entries, own_calls-snoc}
 use Rattle.vbr_machine.proofs.Lemmas.{own_entries-snoc}
+use Rattle.vbr_words.specs.declared.nodes.Nodes.{Ghosts}
+use Rattle.vbr_slots.specs.AtTables.{IsSameTable}
+use Rattle.vbr_slots.specs.declared.at_table.AtTable.{AtTable}
 use Rattle.vbr_slots.specs.Views.{Trace, Did, counted_steps, event_of, steps_in, steps_of}
 use Rattle.vbr_slots.specs.Calls.{IsSame, made_by, Quiet, Made, entries_of, AddsNone, AddsAnswer, OnlyLoads, Moment}
 use Rattle.vbr_slots.specs.Calls.{Took}
@@ -32,6 +35,10 @@ same_refl p = record { table = refl; start = refl; passes = refl; who = refl }
 pub same_on : {p q r : Trace} → IsSame p q → IsSame q r → IsSame p r
 same_on a b =
     record { table = b.table ∙ a.table; start = b.start ∙ a.start; passes = b.passes ∙ a.passes; who = b.who ∙ a.who }
+
+pub table_on : {N : Type 0} {kind : Ghosts N} {a b c : AtTable N kind} → IsSameTable a b → IsSameTable b c →
+    IsSameTable a c
+table_on x y = record { pass = y.pass ∙ x.pass; slots = y.slots ∙ x.slots }
 
 -- ---- one after another
 

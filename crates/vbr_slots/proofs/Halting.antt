@@ -114,12 +114,14 @@ none_taken [] halted kept none = refl
 none_taken (p ∷ ps) halted (others, last, is, keeps, more) none =
     absurd (let lengths = ap (λ l. length l) is in let one = length-append others (last ∷ []) in omega (arith, none))
 
--- a runner with the first witness of the joined seat, and what was kept last
+-- a runner of the seat with the first witness of the joined one, and of what was kept last
 module _ {t : TableView} {all left : List PassView} {joined : Seat (Unit {0}) (List Witness)} {halted : List Halted}
     (rest : List Halted) (kept : Halted) (of_table : AllOf t all) (h : IsHalting t all left joined halted)
-    (popped : halted ≡ rest ++ kept ∷ []) (q : RunnerInside)
-    (table : q.seat.table_id ≡ joined.table_id) (me : q.seat.me ≡ (head_of joined.me.0, joined.me.1))
-    (fields : (q.who ≡ kept.who) × (q.opening ≡ kept.opening) × (q.epoch ≡ kept.epoch)) where
+    (popped : halted ≡ rest ++ kept ∷ []) (seat : Seat (Unit {0}) (List Witness))
+    (table : seat.table_id ≡ joined.table_id) (me : seat.me ≡ (head_of joined.me.0, joined.me.1)) where
+  abbrev runner : RunnerInside
+  runner = record { seat = seat; opening = kept.opening; who = kept.who; epoch = kept.epoch }
+
   next : IsNext h.taken rest kept
   next = next_kept h.taken halted rest kept h.kept popped
 
@@ -136,33 +138,25 @@ module _ {t : TableView} {all left : List PassView} {joined : Seat (Unit {0}) (L
       )
   joined_is = h.me ∙ ap (λ (ps : List PassView). (witnesses_of ps, [])) next.taken_is
 
-  again : IsSoundRunner q × (trace_of_runner q ≡ next.pass.trace)
+  again : IsSoundRunner runner × (trace_of_runner runner ≡ next.pass.trace)
   again =
       let keeps = next.keeps in
-      same_again keeps.runner next.pass.trace keeps.sound keeps.trace q
-      (left_alone joined.me q.seat.me _ (witnesses_of next.others) joined_is me)
-      (fields.0 ∙ keeps.same.0, fields.1 ∙ keeps.same.1, fields.2 ∙ keeps.same.2)
-      (table ∙ h.table ∙ sym of.0)
+      same_again keeps.runner next.pass.trace keeps.sound keeps.trace runner
+      (left_alone joined.me seat.me _ (witnesses_of next.others) joined_is me)
+      keeps.same (table ∙ h.table ∙ sym of.0)
 
-  pub sound_again : IsSoundRunner q
+  pub sound_again : IsSoundRunner runner
   sound_again = again.0
 
-  pub well_again : IsWell (stepper_with (trace_of_runner q) kept)
+  pub well_again : IsWell (stepper_with (trace_of_runner runner) kept)
   well_again = subst (λ (w : Trace). IsWell (stepper_with w kept)) (sym again.1) next.keeps.well
 
-  pub exact_again : kept.steps ≡ counted_steps (steps_of (trace_of_runner q))
+  pub exact_again : kept.steps ≡ counted_steps (steps_of (trace_of_runner runner))
   exact_again = next.keeps.steps ∙ ap (λ (w : Trace). counted_steps (steps_of w)) (sym again.1)
-
-  -- there is room for it
-  pub one_less : length left < length all
-  one_less =
-      let whole = ap (λ (ps : List PassView). length ps) parts_now in
-      let parts = length-append left (next.pass ∷ next.others) in
-      omega arith
 
   -- and then it is one of those that are as they were
   pub one_again : {left' : List PassView} {others : Seat (Unit {0}) (List Witness)} →
-      left' ≡ left ++ record { trace = trace_of_runner q; pool = kept.pool.items; hand = kept.hand } ∷ [] →
+      left' ≡ left ++ record { trace = trace_of_runner runner; pool = kept.pool.items; hand = kept.hand } ∷ [] →
       others.table_id ≡ joined.table_id → others.me ≡ (tail_of joined.me.0, []) → IsHalting t all left' others rest
   one_again {left'} {others} pushed others_table others_me = record {
     taken = next.others;

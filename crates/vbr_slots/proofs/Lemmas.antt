@@ -7,7 +7,7 @@ pub use Rattle.vbr_slots.proofs.Calls.{adds_on, adds_refl, answer_on, did_adds_n
 pub use Rattle.vbr_slots.proofs.Calls.{did_moment, did_quiet}
 pub use Rattle.vbr_slots.proofs.Calls.{did_run, did_same, did_seen, did_took, loads_on, loads_refl, made_on, made_then}
 pub use Rattle.vbr_slots.proofs.Calls.{moment_after, moment_before}
-pub use Rattle.vbr_slots.proofs.Calls.{quiet_on, quiet_refl, same_on, same_refl, took_none, took_on}
+pub use Rattle.vbr_slots.proofs.Calls.{quiet_on, quiet_refl, same_on, same_refl, table_on, took_none, took_on}
 -- The steps of a pass that was alone: nothing was done before each but what the pass had seen.
 pub use Rattle.vbr_slots.proofs.Alone.{accepted_now, alone_first, alone_then, alone_three, alone_two, before_it}
 pub use Rattle.vbr_slots.proofs.Alone.{epoch_now, found_now, fresh_read}
@@ -15,5 +15,7 @@ pub use Rattle.vbr_slots.proofs.Alone.{key_stored_leaves, leaves_on, link_now, l
 pub use Rattle.vbr_slots.proofs.Alone.{quiet_adds_none, value_stored_leaves}
 pub use Rattle.vbr_slots.proofs.Alone.{raise_leaves_lists, run_was, same_leaves, seen_next, stamp_leaves_lists}
 pub use Rattle.vbr_slots.proofs.Alone.{stands_found}
+-- The slot in the hand of a pass, by what its own pool says of it, and where another is let go.
+pub use Rattle.vbr_slots.proofs.Pools.{hand_alone, hand_stays}
 -- A list that was written back through a slice of it.
 pub use Rattle.vbr_slots.proofs.Openings.{whole}

@@ -11,9 +11,10 @@ use Rattle.vbr_words.specs.Dimensions.{Dimensions}
 use Rattle.vbr_machine.specs.Start.{Start, empty_start, start_with}
 use Rattle.vbr_words.specs.Words.{IsLink, word_of}
 use Rattle.vbr_words.specs.Flags.{word_of_flag, all_but, flag_words, flag_word}
-use Rattle.vbr_words.specs.Places.{IsIn, index_of, words_in}
+use Rattle.vbr_words.specs.Places.{IsIn, index_of, place_of, words_in}
 use Rattle.vbr_words.specs.declared.link.TheConstants.{MARK, MAX_SLOTS, MAX_VERSION}
 use Rattle.vbr_words.specs.declared.link.Link.{Link}
+use Rattle.vbr_words.specs.declared.place.At.{At}
 use Rattle.vbr_words.specs.declared.place.At.TheVariants as holder
 use Rattle.vbr_words.specs.declared.place.Place.{Place}
 use Rattle.vbr_words.specs.declared.place.Place.TheVariants.{Epoch, ShapeWord, Head, LinkOf, Birth, Key, Value, Flags}
@@ -128,27 +129,23 @@ written_at start w v words place i value index_is here is others are =
     (record { count = laid_on.count; each = laid_on.each })
 
 module _ (start : Start) (w : World) (words : List ℕ) (are : AreWordsOf start w words) where
-  link_laid : (s i value : ℕ) (link : Link) → i ≡ index_of start.shape (LinkOf s) → s < start.shape.slots →
-      value ≡ word_of link → AreWordsOf start (with_link_at w (holder.Slot s) link) (set words i value)
-  link_laid s i value link place low is =
-      written_at start w (with_link_at w (holder.Slot s) link) words (LinkOf s) i value place low
-      (ap word_of (put_here w.link s link) ∙ sym is) others are
+  link_laid : (place : At) (i value : ℕ) (link : Link) → i ≡ index_of start.shape (place_of place) →
+      IsIn start.shape (place_of place) → value ≡ word_of link →
+      AreWordsOf start (with_link_at w place link) (set words i value)
+  link_laid place i value link at low is =
+      written_at start w (with_link_at w place link) words (place_of place) i value at low (here place ∙ sym is)
+      (others place) are
     where
-      others : (q : Place) → q ≢ LinkOf s →
-          machine.word_at start (with_link_at w (holder.Slot s) link) q ≡ machine.word_at start w q
-      others (LinkOf t) ne = ap word_of (put_other w.link s link t (λ e. ne (ap LinkOf e)))
-      others _ ne = refl
+      here : (place : At) → machine.word_at start (with_link_at w place link) (place_of place) ≡ word_of link
+      here (holder.Head b) = ap word_of (put_here w.head b link)
+      here (holder.Slot s) = ap word_of (put_here w.link s link)
 
-  head_laid : (b i value : ℕ) (link : Link) → i ≡ index_of start.shape (Head b) → b < start.shape.buckets →
-      value ≡ word_of link → AreWordsOf start (with_link_at w (holder.Head b) link) (set words i value)
-  head_laid b i value link place low is =
-      written_at start w (with_link_at w (holder.Head b) link) words (Head b) i value place low
-      (ap word_of (put_here w.head b link) ∙ sym is) others are
-    where
-      others : (q : Place) → q ≢ Head b →
-          machine.word_at start (with_link_at w (holder.Head b) link) q ≡ machine.word_at start w q
-      others (Head c) ne = ap word_of (put_other w.head b link c (λ e. ne (ap Head e)))
-      others _ ne = refl
+      others : (place : At) (q : Place) → q ≢ place_of place →
+          machine.word_at start (with_link_at w place link) q ≡ machine.word_at start w q
+      others (holder.Head b) (Head c) ne = ap word_of (put_other w.head b link c (λ e. ne (ap Head e)))
+      others (holder.Head b) _ ne = refl
+      others (holder.Slot s) (LinkOf t) ne = ap word_of (put_other w.link s link t (λ e. ne (ap LinkOf e)))
+      others (holder.Slot s) _ ne = refl
 
   birth_laid : (s i : ℕ) → i ≡ index_of start.shape (Birth s) → s < start.shape.slots →
       AreWordsOf start (record w { birth = put w.birth s 1; births = counted w.births }) (set words i 1)
@@ -254,8 +251,8 @@ key_ahead start w words valued number key value link first bits i j k m n are in
     clear
     value_is =
     let b = bucket_of start.shape key in
-    let one = link_laid start w words are number i link _ indices.link_at low link_is in
-    let two = head_laid start _ _ one b j first _ indices.head_at in_shape first_is in
+    let one = link_laid start w words are (holder.Slot number) i link _ indices.link_at low link_is in
+    let two = link_laid start _ _ one (holder.Head b) j first _ indices.head_at in_shape first_is in
     let three = birth_laid start _ _ two number k indices.birth_at low in
     let four = key_laid start _ _ three number m key indices.key_at low in
     let five = value_written start _ _ number value four valued low value_is in

@@ -2,6 +2,7 @@
 use Rattle.std.proofs.Common.{◌≡◌, ◌≢◌, ℕ, ◌<◌, ◌==◌, Bool, true, false, not, List, [], ◌∷◌, ◌++◌, get_or, Option, Some}
 use Rattle.std.proofs.Common.{None, cond, refl, sym, ap, ◌∙◌, subst, ⊎_elim, eq-eqb, arith}
 use Rattle.std.specs.Prelude.{Contains, filter, ◌⊎◌}
+use Rattle.std.proofs.lemmas.Bool.{ne_eqb}
 use Rattle.std.proofs.lemmas.Bool.Decides.{nat_tests}
 use Rattle.std.proofs.lemmas.List.Elements.{All-filter, All-contains, All-contains_itself, Contains-get_or}
 use Rattle.std.proofs.lemmas.List.Elements.{Contains-push_cases, filter_passes, All-push}
@@ -10,7 +11,7 @@ use Rattle.std.proofs.lemmas.List.Quantifiers.{all_pairs_push}
 use mathlib.Core.Logic.{dite}
 use native.Mathlib.Decide.{ℕ_discrete}
 use Rattle.vbr_machine.specs.Start.{Start}
-use Rattle.vbr_machine.specs.Acceptance.{MayBear, IsInHand, IsFree}
+use Rattle.vbr_machine.specs.Acceptance.{MayBear, IsInHand, IsFree, IsUnlinked}
 use Rattle.vbr_machine.specs.Knowledge.{Know}
 use Rattle.vbr_machine.specs.Put.{put}
 use Rattle.vbr_machine.specs.declared.knowledge.Holding.{Holding}
@@ -113,6 +114,11 @@ let_gone slot (Some s) is = go (s == slot) refl is
     go true e is = absurd (cc)
     go false e is = let same : (s == slot) ≡ true = eq-eqb s slot (let t : s ≡ slot = cc in t) in absurd (cc)
 
+-- a hand with another slot, or none, lets nothing go
+pub hand_stays : (slot : ℕ) (hand : Option ℕ) → hand ≢ Some slot → hand_without slot hand ≡ hand
+hand_stays slot None other = refl
+hand_stays slot (Some s) other = ap (λ (b : Bool). cond b None (Some s)) (ne_eqb s slot (λ e. other (ap Some e)))
+
 hand_let_go : (start : Start) (know : Know) (slot : ℕ) (pool : List ℕ) (hand : Option ℕ) →
     HandFits start know pool hand → HandFits start know pool (hand_without slot hand)
 hand_let_go start know slot pool None h = tt
@@ -128,17 +134,16 @@ pub lets_go : (start : Start) (know : Know) (slot : ℕ) (pool : List ℕ) (hand
 lets_go start know slot pool hand o =
     record { pooled = o.pooled; apart = o.apart; in_hand = hand_let_go start know slot pool hand o.in_hand }
 
--- a free slot isn't in hand
-pub free_apart : (start : Start) (know : Know) (slot : ℕ) (pool : List ℕ) (hand : Option ℕ) →
-    OwnPool start know pool hand → IsFree (know.own slot) → hand ≢ Some slot
-free_apart start know slot pool hand o free is =
-    not_both (know.own slot) free (held_in_hand start know slot pool hand o is)
+-- a slot in hand is neither free nor unlinked
+pub hand_alone : (start : Start) (know : Know) (slot : ℕ) (pool : List ℕ) (hand : Option ℕ) →
+    OwnPool start know pool hand → hand ≡ Some slot → ¬ (IsFree (know.own slot)) × ¬ (IsUnlinked (know.own slot))
+hand_alone start know slot pool hand o is = neither (know.own slot) (held_in_hand start know slot pool hand o is)
   where
-    not_both : (holding : Option Holding) → IsFree holding → IsInHand holding → ⊥
-    not_both None a b = a
-    not_both (Some (Free stamp)) a b = b
-    not_both (Some (Unlinked reread)) a b = a
-    not_both (Some (InHand known)) a b = a
+    neither : (holding : Option Holding) → IsInHand holding → ¬ (IsFree holding) × ¬ (IsUnlinked holding)
+    neither None in_hand = (λ free. free, λ unlinked. unlinked)
+    neither (Some (Free stamp)) in_hand = absurd in_hand
+    neither (Some (Unlinked reread)) in_hand = absurd in_hand
+    neither (Some (InHand known)) in_hand = (λ free. free, λ unlinked. unlinked)
 
 hand_joined : (start : Start) (know : Know) (slot : ℕ) (pool : List ℕ) (hand : Option ℕ) →
     HandFits start know pool hand → HandFits start know (pool ++ slot ∷ []) (hand_without slot hand)

@@ -122,10 +122,10 @@ tries_none _ before leaves = refl
 
 -- a stepper is well after a step that tries to take no slot, where its pool and its hand are as the pass then knows
 -- its slots
-pub well_after : {step : Step} {q : Trace} {r : ℕ} (p : Inside) (hand : Option ℕ) → Did step p.runner q r →
+pub well_after : {step : Step} {q : Trace} {r : ℕ} {hand : Option ℕ} (p : Inside) → Did step p.runner q r →
     tried_by step (last_tried p.runner) ≡ last_tried p.runner → OwnPool q.start (knows q) p.pool.items hand → IsWell p →
     IsWell (record p { runner = q; hand = hand })
-well_after {step} {q} p hand d tries pool well = record {
+well_after {step} {q} p d tries pool well = record {
   start = subst IsStart (sym d.same.1) well.start;
   pool = pool;
   tried = keeps_tried d tries well.tried;
@@ -136,7 +136,7 @@ well_after {step} {q} p hand d tries pool well = record {
 pub stays_well : {step : Step} {q : Trace} {r : ℕ} (p : Inside) → Did step p.runner q r → LeavesPools step → IsWell p →
     IsWell (record p { runner = q })
 stays_well {step} {q} {r} p d leaves well =
-    well_after p p.hand d (tries_none step _ leaves)
+    well_after p d (tries_none step _ leaves)
     (pool_after p.runner q step r d p.pool.items p.hand
     (pool_still p.runner.start (knows p.runner) _ p.pool.items p.hand (owns_still step r _ (knows p.runner) leaves)
     well.pool)) well

@@ -2,6 +2,7 @@
 use Rattle.std.proofs.Common.{Bool, ◌≡◌, ◌≢◌, ℕ, ◌<◌, ◌≤◌, List, [], ◌∷◌, ◌++◌, refl, sym, ap, ◌∙◌, subst, arith}
 use Rattle.atomic_table.specs.Table.{Me, Allows}
 use Rattle.atomic_table.specs.Seated.{TableId}
+use Rattle.atomic_table.specs.declared.shared.Seat.{Seat}
 use Rattle.vbr_machine.specs.Start.{Start, IsStart}
 use Rattle.vbr_words.specs.Places.{index_of, words_in}
 use Rattle.vbr_words.specs.declared.place.Place.{Place}
@@ -201,21 +202,22 @@ module _ (p : RunnerInside) (w : Trace) (sound : IsSoundRunner p) (p_is : trace_
         steps = ap (steps_in w.who) end.run_is ∙ steps_next w.who w.seen end.rest step end.none;
       })
 
--- a runner that made a step alone in its seat
-pub record Stepped (w : Trace) (step : Step) (r : ℕ) (q : RunnerInside) : Type 0 where
-  pub sound : IsSoundRunner q
-  pub did : Did step w (trace_of_runner q) r
+-- a runner that made a step alone in its seat, whose seat and epoch alone are new
+module _ (p : RunnerInside) (w : Trace) (table : TableView) (step : Step) (e : Event) (opening : TableStart) (r : ℕ)
+    (seat : Seat (Unit {0}) (List Witness)) (epoch : ℕ) (sound : IsSoundRunner p) (is : trace_of_runner p ≡ w)
+    (own : IsOf w table) (named : NamesStep e opening w table step) (told : Told opening e p.seat.me r seat.me)
+    (home : seat.table_id ≡ p.seat.table_id) (kept : epoch ≡ epoch_after step r p.epoch) where
+  end : Done w step r [] seat.me
+  end = done w table own p.seat.me seat.me [] (known p w sound is) step e opening named r told
 
-pub stepped : {p : RunnerInside} {w : Trace} {table : TableView} {step : Step} {e : Event} {opening : TableStart}
-    {r : ℕ} → IsSoundRunner p → trace_of_runner p ≡ w → IsOf w table → NamesStep e opening w table step
-    → (q : RunnerInside) → Told opening e p.seat.me r q.seat.me → q.seat.table_id ≡ p.seat.table_id →
-    (q.who ≡ p.who) × (q.opening ≡ p.opening) × (q.epoch ≡ epoch_after step r p.epoch) → Stepped w step r q
-stepped {p} {w} {table} {step} {e} {opening} {r} sound is own named q told home fields =
-    let end = done w table own p.seat.me q.seat.me [] (known p w sound is) step e opening named r told in
-    record {
-      sound = stays_sound p w sound is step r [] q.seat.me end q end.now fields;
-      did = did p w sound is step r [] q.seat.me end q end.now fields home;
-    }
+  pub steps_sound : IsSoundRunner (record p { seat = seat; epoch = epoch })
+  steps_sound =
+      stays_sound p w sound is step r [] seat.me end (record p { seat = seat; epoch = epoch }) end.now
+      (refl, refl, kept)
+
+  pub steps_did : Did step w (trace_of_runner (record p { seat = seat; epoch = epoch })) r
+  steps_did =
+      did p w sound is step r [] seat.me end (record p { seat = seat; epoch = epoch }) end.now (refl, refl, kept) home
 
 -- two seats made one
 pub together : (u v : Witness) (pm om given pm' : Sat) → pm ≡ (u ∷ [], []) → om ≡ (v ∷ [], []) → given ≡ (om.0, []) →

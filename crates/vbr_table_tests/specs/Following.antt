@@ -1,8 +1,9 @@
 -- A running table of two passes on which a worked list of events is made: what a row asks, and where the passes stand in the list.
-use Rattle.std.specs.Prelude.{◌≡◌, ℕ, List}
+use Rattle.std.specs.Prelude.{◌≡◌, ℕ, List, Bool, None}
 use Rattle.vbr_machine.specs.Acceptance.{Accepts}
 use Rattle.vbr_machine.specs.Learning.{effect_of, learn}
-use Rattle.vbr_machine.specs.Machine.{World}
+use Rattle.vbr_machine.specs.Machine.{World, opening}
+use Rattle.vbr_machine.specs.Start.{empty_start}
 use Rattle.vbr_machine.specs.declared.event.Effect.{Effect}
 use Rattle.vbr_machine.specs.declared.event.Step.{Step}
 use Rattle.vbr_slots.specs.Views.{Trace, TableView, IsOf, knows}
@@ -33,3 +34,15 @@ pub record Learned (step : Step) (p q : Trace) (effect : Effect) : Type 0 where
   pub answers : effect ≡ effect_of step found
   pub learned : knows q ≡ learn step found 0 (knows p)
   pub same : (q.table ≡ p.table) × (q.start ≡ p.start) × (q.passes ≡ p.passes) × (q.who ≡ p.who)
+
+-- the rows are worked, with the words, from the opening of an empty table on, of so many slots and one bucket, up to the last epoch, whose nodes have values or not
+abbrev pub IsWorkedOn : ℕ → ℕ → Bool → List (ℕ × Step × Effect) → List ℕ → Type 0
+IsWorkedOn slots last_epoch values rows words =
+    let start = empty_start (record {
+      slots = slots;
+      buckets = 1;
+      spread = None;
+      last_epoch = last_epoch;
+      values = values;
+    }) in
+    AreWorked start (opening start) rows words

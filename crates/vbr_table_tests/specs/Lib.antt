@@ -1,4 +1,5 @@
 pub mod Buckets
 pub mod Following
+pub mod Names
 pub mod OnlyPass
 pub mod Taking

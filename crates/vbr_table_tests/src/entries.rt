@@ -2,7 +2,9 @@
 ghost use Rattle.std.specs.Prelude.{◌≡◌, None};
 ghost use Rattle.vbr_slots.specs.Views.{IsOf};
 
-use crate::rows::{Call, Row, expect, expect_answer, words_after};
+use crate::rows::{
+    Call, Row, expect, expect_alone, expect_answer, expect_left, helped_away, with_17_steps,
+};
 use std::alloc::Global;
 use std::process::Abort;
 use std::test::Fail;
@@ -71,6 +73,31 @@ impl Call for Made {
     }
 }
 
+/// Makes a store of the first of these passes with each budget that is too few and with the least that is enough, each
+/// time on a table of its own, by rows that are played there: refused it leaves the map as it was, as the other pass
+/// finds, and else it answers the value that is there, in so many steps.
+pub fn expect_stored<F: Fn(&[Row<Made>]) -> Result<(), Fail>>(
+    play: F,
+    passes: [u32; 2],
+    store: (u64, u64, Wanted),
+    there: Option<u64>,
+    enough: (u32, u64),
+) -> Result<(), Fail>
+    requires { F.IsAlwaysCallable play }
+{
+    let ([who, other], (key, value, wanted), (least, steps)) = (passes, store, enough);
+    for budget in 0..least {
+        play(&[
+            Row::Call(who, budget, Made::Tired(key, value, wanted)),
+            Row::Call(other, 100, Made::Get(key, Ok(there))),
+        ])?;
+    }
+    play(&[
+        Row::Call(who, least, Made::Store(key, value, wanted, Ok(there))),
+        Row::Steps(steps),
+    ])
+}
+
 /// A value stays that of its insert: an insert of a present key is answered no, and changes nothing.
 #[test]
 fn values_come_back(rt: HostRuntime) -> Result<(), Fail> {
@@ -93,43 +120,39 @@ fn values_come_back(rt: HostRuntime) -> Result<(), Fail> {
 /// A slot is used again after its stamp, with another key and another value.
 #[test]
 fn a_slot_is_used_again(rt: HostRuntime) -> Result<(), Fail> {
-    let rows = [
-        Row::Call(0, 100, Made::Insert(1, u64::MAX, Ok(true))),
-        Row::Call(0, 100, Made::Remove(1, Ok(Some(u64::MAX)))),
-        Row::Call(0, 100, Made::Insert(2, 102, Ok(true))),
-        Row::Call(0, 100, Made::Get(1, Ok(None))),
-        Row::Call(0, 100, Made::Get(2, Ok(Some(102)))),
-        Row::Epoch(0, 2),
+    let calls = [
+        Made::Insert(1, u64::MAX, Ok(true)),
+        Made::Remove(1, Ok(Some(u64::MAX))),
+        Made::Insert(2, 102, Ok(true)),
+        Made::Get(1, Ok(None)),
+        Made::Get(2, Ok(Some(102))),
     ];
-    expect(&rt, rt.alloc(), (1, 1, 10), &rows)
+    expect_alone(&rt, rt.alloc(), 10, &calls, 2, &[])
 }
 
 /// In the last epoch a slot that is stamped with it isn't used again.
 #[test]
 fn the_last_epoch_is_spent(rt: HostRuntime) -> Result<(), Fail> {
     let spent = Err(Refusal::EpochSpent { epoch: 1 });
-    let rows = [
-        Row::Call(0, 100, Made::Insert(1, 0, Ok(true))),
-        Row::Call(0, 100, Made::Remove(1, Ok(Some(0)))),
-        Row::Call(0, 100, Made::Insert(2, 0, spent)),
-        Row::Call(0, 100, Made::Get(1, Ok(None))),
-        Row::Pool(0, &[0]),
-        Row::Epoch(0, 1),
+    let calls = [
+        Made::Insert(1, 0, Ok(true)),
+        Made::Remove(1, Ok(Some(0))),
+        Made::Insert(2, 0, spent),
+        Made::Get(1, Ok(None)),
     ];
-    expect(&rt, rt.alloc(), (1, 1, 1), &rows)
+    expect_alone(&rt, rt.alloc(), 1, &calls, 1, &[0])
 }
 
 /// In a full map an absent key is refused, and a present one is answered no and keeps its value.
 #[test]
 fn a_present_key_in_a_full_map(rt: HostRuntime) -> Result<(), Fail> {
-    let rows = [
-        Row::Call(0, 100, Made::Insert(1, 101, Ok(true))),
-        Row::Call(0, 100, Made::Insert(2, 102, Err(Refusal::NoSlot))),
-        Row::Call(0, 100, Made::Insert(1, 201, Ok(false))),
-        Row::Call(0, 100, Made::Get(1, Ok(Some(101)))),
-        Row::Pool(0, &[]),
+    let calls = [
+        Made::Insert(1, 101, Ok(true)),
+        Made::Insert(2, 102, Err(Refusal::NoSlot)),
+        Made::Insert(1, 201, Ok(false)),
+        Made::Get(1, Ok(Some(101))),
     ];
-    expect(&rt, rt.alloc(), (1, 1, 10), &rows)
+    expect_alone(&rt, rt.alloc(), 10, &calls, 1, &[])
 }
 
 /// With budgets below a piece no step is made.
@@ -176,29 +199,17 @@ fn the_steps_of_a_get(rt: HostRuntime) -> Result<(), Fail> {
 #[test]
 fn a_budget_of_17(rt: HostRuntime) -> Result<(), Fail> {
     let tired = Err(Refusal::OutOfSteps { used: 10 });
-    let rows = [
-        Row::Call(0, 17, Made::Insert(1, 101, tired)),
-        Row::Steps(10),
-        Row::Pool(0, &[0]),
-        Row::Call(0, 17, Made::Insert(1, 101, Ok(true))),
-        Row::Steps(13),
-        Row::Epoch(0, 1),
-    ];
-    let words = words_after(&rt, rt.alloc(), (1, 1, 10), &rows)?;
-    assert_eq!(rt;
-        words.as_slice(),
-        [1, 167_772_161, 33_554_433, 33_554_432, 1, 0, 1, 101, 0].as_slice()
-    );
-    Ok(())
+    let (refused, insert) = (Made::Insert(1, 101, tired), Made::Insert(1, 101, Ok(true)));
+    let rows = with_17_steps(refused, insert, 13);
+    let words = [1, 167_772_161, 33_554_433, 33_554_432, 1, 0, 1, 101, 0];
+    expect_left(&rt, rt.alloc(), &rows, &words)
 }
 
 /// With 18 steps it is enough for the first one, which makes 14.
 #[test]
 fn a_budget_of_18(rt: HostRuntime) -> Result<(), Fail> {
-    let rows = [
-        Row::Call(0, 18, Made::Insert(1, 101, Ok(true))),
-        Row::Steps(14),
-    ];
+    let insert = Made::Insert(1, 101, Ok(true));
+    let rows = [Row::Call(0, 18, insert), Row::Steps(14)];
     expect(&rt, rt.alloc(), (1, 1, 10), &rows)
 }
 
@@ -206,21 +217,11 @@ fn a_budget_of_18(rt: HostRuntime) -> Result<(), Fail> {
 /// another pass unlinks it.
 #[test]
 fn a_marked_node_is_helped_away(rt: HostRuntime) -> Result<(), Fail> {
-    let rows = [
-        Row::Call(0, 100, Made::Insert(7, 107, Ok(true))),
-        Row::Call(0, 16, Made::Remove(7, Ok(Some(107)))),
-        Row::Steps(11),
-        Row::Pool(0, &[]),
-        Row::Call(1, 100, Made::Remove(7, Ok(None))),
-        Row::Steps(10),
-        Row::Pool(1, &[0]),
-    ];
-    let words = words_after(&rt, rt.alloc(), (1, 1, 10), &rows)?;
-    assert_eq!(rt;
-        words.as_slice(),
-        [1, 167_772_161, 0, 50_331_648, 1, 1, 7, 107, 0].as_slice()
-    );
-    Ok(())
+    let insert = Made::Insert(7, 107, Ok(true));
+    let (remove, absent) = (Made::Remove(7, Ok(Some(107))), Made::Remove(7, Ok(None)));
+    let rows = helped_away(insert, remove, 11, absent);
+    let words = [1, 167_772_161, 0, 50_331_648, 1, 1, 7, 107, 0];
+    expect_left(&rt, rt.alloc(), &rows, &words)
 }
 
 /// A look-up and a get pass three marked nodes by, in 13 steps each.

@@ -91,18 +91,15 @@ fn a_lost_flag_shows_the_others_of_its_word(rt: HostRuntime) {
     lose_a_flag::<HostRuntime, Entries>(&rt, rt.alloc());
 }
 
-// Pass 0 takes the first slots, so many, and then pass 1 takes one and gives it back to its own pool:
-// compares what it gets and how many steps that took, and the flag words of the closing.
-fn take_behind<R: Abort, N: Opened>(
-    rt: &R,
-    alloc: Global,
-    count: u32,
-    wanted: Result<(u32, u64), TakeRefusal>,
-    steps: u64,
-    flags: (u64, u64),
-)
-    requires { count ≤ 70 }
+// How many slots pass 0 takes, the first ones; what pass 1 then gets when it takes a slot, which it gives back to its own
+// pool, and in how many steps; and the flag words of the closing.
+type Behind = (u32, Result<(u32, u64), TakeRefusal>, u64, (u64, u64));
+
+// Makes the takes, and compares what comes of them.
+fn take_behind<R: Abort, N: Opened>(rt: &R, alloc: Global, row: Behind)
+    requires { row.0 ≤ 70 }
 {
+    let (count, wanted, steps, flags) = row;
     let (slots, mut a, mut b) = two_passes::<R, N>(rt, alloc, 70, 10);
     assert!(rt; take_all(&slots, &mut a, 0, count));
     expect_taken(rt, &slots, &mut b, 100, wanted, steps);
@@ -110,48 +107,38 @@ fn take_behind<R: Abort, N: Opened>(
 }
 
 // The same on a set and on a map.
-fn expect_behind<R: Abort>(
-    rt: &R,
-    alloc: Global,
-    count: u32,
-    wanted: Result<(u32, u64), TakeRefusal>,
-    steps: u64,
-    flags: (u64, u64),
-)
-    requires { count ≤ 70 }
+fn expect_behind<R: Abort>(rt: &R, alloc: Global, row: Behind)
+    requires { row.0 ≤ 70 }
 {
-    take_behind::<R, Keys>(rt, alloc, count, wanted, steps, flags);
-    take_behind::<R, Entries>(rt, alloc, count, wanted, steps, flags);
+    take_behind::<R, Keys>(rt, alloc, row);
+    take_behind::<R, Entries>(rt, alloc, row);
 }
 
 #[test]
 fn the_lowest_flag_that_was_found_is_taken(rt: HostRuntime) {
     let flags = (18_446_744_073_709_551_608, 63);
-    expect_behind(&rt, rt.alloc(), 2, Ok((2, 1)), 5, flags);
+    expect_behind(&rt, rt.alloc(), (2, Ok((2, 1)), 5, flags));
 }
 
 #[test]
 fn an_empty_word_leads_to_the_next(rt: HostRuntime) {
-    expect_behind(&rt, rt.alloc(), 64, Ok((64, 1)), 5, (0, 62));
+    expect_behind(&rt, rt.alloc(), (64, Ok((64, 1)), 5, (0, 62)));
 }
 
 /// The bits past the last slot are no slots.
 #[test]
 fn no_slot_is_past_the_last(rt: HostRuntime) {
-    expect_behind(&rt, rt.alloc(), 70, Err(TakeRefusal::NoSlot), 2, (0, 0));
+    let none = Err(TakeRefusal::NoSlot);
+    expect_behind(&rt, rt.alloc(), (70, none, 2, (0, 0)));
 }
 
-// Pass 0 takes the slots from `first` up to 70, and pass 1 tries slot 66 and then takes one and gives it
-// back to its own pool: compares what pass 1 gets and how many steps that took.
-fn take_from_the_second_word<R: Abort, N: Opened>(
-    rt: &R,
-    alloc: Global,
-    first: u32,
-    wanted: Result<(u32, u64), TakeRefusal>,
-    steps: u64,
-)
-    requires { first ≤ 70 }
-{
+// The first of the slots that pass 0 takes, which are those up to 70; and what pass 1 then gets, once it has tried slot 66,
+// when it takes a slot, which it gives back to its own pool, and in how many steps.
+type FromTheSecond = (u32, Result<(u32, u64), TakeRefusal>, u64);
+
+// Makes the takes, and compares what comes of them.
+fn take_from_the_second_word<R: Abort, N: Opened>(rt: &R, alloc: Global, row: FromTheSecond) {
+    let (first, wanted, steps) = row;
     let (slots, mut a, mut b) = two_passes::<R, N>(rt, alloc, 70, 10);
     assert!(rt; take_all(&slots, &mut a, first, 70));
     assert_eq!(rt; slots.take_flag(&mut b, 66).is_ok(), first == 70);
@@ -159,32 +146,25 @@ fn take_from_the_second_word<R: Abort, N: Opened>(
 }
 
 // The same on a set and on a map.
-fn expect_from_the_second_word<R: Abort>(
-    rt: &R,
-    alloc: Global,
-    first: u32,
-    wanted: Result<(u32, u64), TakeRefusal>,
-    steps: u64,
-)
-    requires { first ≤ 70 }
-{
-    take_from_the_second_word::<R, Keys>(rt, alloc, first, wanted, steps);
-    take_from_the_second_word::<R, Entries>(rt, alloc, first, wanted, steps);
+fn expect_from_the_second_word<R: Abort>(rt: &R, alloc: Global, row: FromTheSecond) {
+    take_from_the_second_word::<R, Keys>(rt, alloc, row);
+    take_from_the_second_word::<R, Entries>(rt, alloc, row);
 }
 
 #[test]
 fn a_search_begins_with_the_word_that_was_tried_last(rt: HostRuntime) {
-    expect_from_the_second_word(&rt, rt.alloc(), 70, Ok((64, 1)), 4);
+    expect_from_the_second_word(&rt, rt.alloc(), (70, Ok((64, 1)), 4));
 }
 
 #[test]
 fn behind_the_last_word_comes_the_first(rt: HostRuntime) {
-    expect_from_the_second_word(&rt, rt.alloc(), 64, Ok((0, 1)), 5);
+    expect_from_the_second_word(&rt, rt.alloc(), (64, Ok((0, 1)), 5));
 }
 
 #[test]
 fn a_search_ends_where_it_began(rt: HostRuntime) {
-    expect_from_the_second_word(&rt, rt.alloc(), 0, Err(TakeRefusal::NoSlot), 2);
+    let none = Err(TakeRefusal::NoSlot);
+    expect_from_the_second_word(&rt, rt.alloc(), (0, none, 2));
 }
 
 fn search_twice<R: Abort, N: Opened>(rt: &R, alloc: Global) {

@@ -6,7 +6,9 @@ ghost use Rattle.vbr_at_table.specs.Held.{IsHeld, HoldsMarked, Names};
 
 use crate::entries;
 use crate::retiring::{read_one, read_value};
-use crate::rows::{Call, Row, expect, expect_answer, words_after};
+use crate::rows::{
+    Call, Row, expect, expect_alone, expect_answer, expect_left, helped_away, with_17_steps,
+};
 use crate::running_table::{expect_pass, open_two, shape_of};
 use std::alloc::Global;
 use std::process::Abort;
@@ -71,42 +73,38 @@ impl Call for Made {
 /// A slot is used again after its stamp: the epoch rises to 2.
 #[test]
 fn a_slot_is_used_again(rt: HostRuntime) -> Result<(), Fail> {
-    let rows = [
-        Row::Call(0, 100, Made::Insert(1, Ok(true))),
-        Row::Call(0, 100, Made::Remove(1, Ok(true))),
-        Row::Call(0, 100, Made::Insert(2, Ok(true))),
-        Row::Call(0, 100, Made::Has(1, Ok(false))),
-        Row::Call(0, 100, Made::Has(2, Ok(true))),
-        Row::Epoch(0, 2),
+    let calls = [
+        Made::Insert(1, Ok(true)),
+        Made::Remove(1, Ok(true)),
+        Made::Insert(2, Ok(true)),
+        Made::Has(1, Ok(false)),
+        Made::Has(2, Ok(true)),
     ];
-    expect(&rt, rt.alloc(), (1, 1, 10), &rows)
+    expect_alone(&rt, rt.alloc(), 10, &calls, 2, &[])
 }
 
 /// In the last epoch a slot that is stamped with it isn't used again.
 #[test]
 fn the_last_epoch_is_spent(rt: HostRuntime) -> Result<(), Fail> {
     let spent = Err(Refusal::EpochSpent { epoch: 1 });
-    let rows = [
-        Row::Call(0, 100, Made::Insert(1, Ok(true))),
-        Row::Call(0, 100, Made::Remove(1, Ok(true))),
-        Row::Call(0, 100, Made::Insert(2, spent)),
-        Row::Call(0, 100, Made::Has(1, Ok(false))),
-        Row::Pool(0, &[0]),
-        Row::Epoch(0, 1),
+    let calls = [
+        Made::Insert(1, Ok(true)),
+        Made::Remove(1, Ok(true)),
+        Made::Insert(2, spent),
+        Made::Has(1, Ok(false)),
     ];
-    expect(&rt, rt.alloc(), (1, 1, 1), &rows)
+    expect_alone(&rt, rt.alloc(), 1, &calls, 1, &[0])
 }
 
 /// In a full set an absent key is refused, and a present one is answered no.
 #[test]
 fn a_present_key_in_a_full_set(rt: HostRuntime) -> Result<(), Fail> {
-    let rows = [
-        Row::Call(0, 100, Made::Insert(1, Ok(true))),
-        Row::Call(0, 100, Made::Insert(2, Err(Refusal::NoSlot))),
-        Row::Call(0, 100, Made::Insert(1, Ok(false))),
-        Row::Pool(0, &[]),
+    let calls = [
+        Made::Insert(1, Ok(true)),
+        Made::Insert(2, Err(Refusal::NoSlot)),
+        Made::Insert(1, Ok(false)),
     ];
-    expect(&rt, rt.alloc(), (1, 1, 10), &rows)
+    expect_alone(&rt, rt.alloc(), 10, &calls, 1, &[])
 }
 
 /// A thousand rounds on one slot advance the epoch to a thousand.
@@ -180,20 +178,9 @@ fn budgets_below_two_pieces(rt: HostRuntime) -> Result<(), Fail> {
 #[test]
 fn a_budget_of_17(rt: HostRuntime) -> Result<(), Fail> {
     let tired = Err(Refusal::OutOfSteps { used: 10 });
-    let rows = [
-        Row::Call(0, 17, Made::Insert(1, tired)),
-        Row::Steps(10),
-        Row::Pool(0, &[0]),
-        Row::Call(0, 17, Made::Insert(1, Ok(true))),
-        Row::Steps(12),
-        Row::Epoch(0, 1),
-    ];
-    let words = words_after(&rt, rt.alloc(), (1, 1, 10), &rows)?;
-    assert_eq!(rt;
-        words.as_slice(),
-        [1, 167_772_161, 33_554_433, 33_554_432, 1, 0, 1, 0].as_slice()
-    );
-    Ok(())
+    let rows = with_17_steps(Made::Insert(1, tired), Made::Insert(1, Ok(true)), 12);
+    let words = [1, 167_772_161, 33_554_433, 33_554_432, 1, 0, 1, 0];
+    expect_left(&rt, rt.alloc(), &rows, &words)
 }
 
 /// With 18 steps it is enough for the first one, which makes 13.
@@ -206,21 +193,11 @@ fn a_budget_of_18(rt: HostRuntime) -> Result<(), Fail> {
 /// A remove that can't unlink within its budget leaves the marked node, and another pass unlinks it.
 #[test]
 fn a_marked_node_is_helped_away(rt: HostRuntime) -> Result<(), Fail> {
-    let rows = [
-        Row::Call(0, 100, Made::Insert(7, Ok(true))),
-        Row::Call(0, 16, Made::Remove(7, Ok(true))),
-        Row::Steps(9),
-        Row::Pool(0, &[]),
-        Row::Call(1, 100, Made::Remove(7, Ok(false))),
-        Row::Steps(10),
-        Row::Pool(1, &[0]),
-    ];
-    let words = words_after(&rt, rt.alloc(), (1, 1, 10), &rows)?;
-    assert_eq!(rt;
-        words.as_slice(),
-        [1, 167_772_161, 0, 50_331_648, 1, 1, 7, 0].as_slice()
-    );
-    Ok(())
+    let insert = Made::Insert(7, Ok(true));
+    let (remove, absent) = (Made::Remove(7, Ok(true)), Made::Remove(7, Ok(false)));
+    let rows = helped_away(insert, remove, 9, absent);
+    let words = [1, 167_772_161, 0, 50_331_648, 1, 1, 7, 0];
+    expect_left(&rt, rt.alloc(), &rows, &words)
 }
 
 // Reads the one node, which has key 7, and 107 where it has a value, and marks it. The head comes with it, as it was

@@ -6,10 +6,11 @@ ghost use Rattle.vbr_machine.specs.Start.{empty_start};
 ghost use Rattle.vbr_machine.specs.Machine.{opening};
 ghost use Rattle.vbr_slots.specs.Views.{IsOf};
 ghost use Rattle.vbr_event_lists.specs.Worked.{AreWorked, first_of, names_link, others_of};
-ghost use Rattle.vbr_table_tests.specs.Following.{Learned, May, BothFollow};
+ghost use Rattle.vbr_event_lists.specs.Valued.{with_values};
+ghost use Rattle.vbr_table_tests.specs.Following.{Learned, May, BothFollow, IsWorkedOn};
 
-use crate::running_table::{Opened, close_two, open_two};
-use std::alloc::Global;
+use crate::running_table::{Opened, expect_words, open_two, shape_of};
+use std::alloc::{AllocError, Global};
 use std::process::Abort;
 use std::test::Fail;
 use vbr_event_lists::{
@@ -229,7 +230,7 @@ fn follow<N: Nodes>(
 }
 
 // A table of this shape on which two passes made the steps of a list.
-pub(crate) fn table_after<R: Abort, N: Opened>(
+fn table_of<R: Abort, N: Opened>(
     rt: &R,
     alloc: Global,
     shape: Shape,
@@ -247,224 +248,213 @@ pub(crate) fn table_after<R: Abort, N: Opened>(
     Some((slots, a, b))
 }
 
-// The words of a table of this shape once a list was made on it.
-fn words_after<R: Abort, N: Opened>(
+// The same, of so many slots and one bucket and up to this last epoch.
+pub(crate) fn table_after<R: Abort, N: Opened>(
     rt: &R,
     alloc: Global,
-    shape: Shape,
+    numbers: (u32, u64),
     rows: &[Row],
     words: &[u64],
-) -> Option<Vec<u64>>
-    requires kind { shape.values ≡ N.VALUES }
-    requires worked { let start = empty_start shape in
-        AreWorked start (opening start) rows.now words.now }
+) -> Option<(Slots<N>, Pass, Pass)>
+    requires { IsWorkedOn numbers.0 numbers.1 N.VALUES rows.now words.now }
+    ensures bucket { IfSome result (λ r. r.0.start.shape.buckets ≡ 1) }
+    ensures own { IfSome result (λ r. IsOf r.1.trace r.0 × IsOf r.2.trace r.0) }
 {
-    let (slots, a, b) = table_after::<R, N>(rt, alloc, shape, rows, words)?;
-    close_two(alloc, slots, a, b)
+    let (slots, last_epoch) = numbers;
+    match shape_of::<N>((slots, 1, last_epoch)) {
+        Ok(shape) => table_of::<R, N>(rt, alloc, shape, rows, words),
+        Err(_) => None,
+    }
 }
 
-// Compares words with these, which stand one after another, and the flag word behind them.
-fn expect_words(
-    rt: &impl Abort,
+// Makes a list on such a table, and compares the words of the closing.
+fn expect_listed<R: Abort, N: Opened>(
+    rt: &R,
     alloc: Global,
-    words: Option<Vec<u64>>,
+    numbers: (u32, u64),
+    rows: &[Row],
+    words: &[u64],
+    left: &[u64],
+)
+    requires { IsWorkedOn numbers.0 numbers.1 N.VALUES rows.now words.now }
+{
+    let table = table_after::<R, N>(rt, alloc, numbers, rows, words);
+    let (slots, a, b) = table.expect(rt, "there is memory");
+    expect_words(rt, alloc, slots, a, b, left);
+}
+
+// The words of a table: first the epoch, the shape and the head, and then those of each slot, its link, birth, stamp and
+// key. A value comes behind them, of a hundred more than the key, where there are any. The flags come last.
+fn words_of(
+    alloc: Global,
     parts: &[&[u64]],
+    has_values: bool,
     flags: u64,
-) -> Result<(), Fail> {
-    let words = words.expect(rt, "there are words");
-    let mut wanted = Vec::new(alloc);
+) -> Result<Vec<u64>, AllocError> {
+    let mut words = Vec::new(alloc);
     for part in parts {
-        wanted.extend_from_slice(part)?;
+        words.extend_from_slice(part)?;
+        if let (true, Some(key)) = (has_values, part.get(3)) {
+            words.push(key.saturating_add(100))?;
+        }
     }
-    wanted.push(flags)?;
-    assert_eq!(rt; words.as_slice(), wanted.as_slice());
+    words.push(flags)?;
+    Ok(words)
+}
+
+// Makes a list on a table of so many slots and up to epoch 10, and the list with values on one whose nodes have values.
+// Compares the words of the closings.
+fn expect_both<R: Abort>(
+    rt: &R,
+    alloc: Global,
+    slots: u32,
+    rows: &[Row],
+    words: &[u64],
+    left: &[&[u64]],
+) -> Result<(), Fail>
+    requires bare { IsWorkedOn slots 10 false rows.now words.now }
+    requires valued { IsWorkedOn slots 10 true (with_values rows.now) words.now }
+{
+    let wanted = words_of(alloc, left, false, 0)?;
+    expect_listed::<R, Keys>(rt, alloc, (slots, 10), rows, words, &wanted);
+    let wanted = words_of(alloc, left, true, 0)?;
+    let valued = with_values(alloc, rows)?;
+    expect_listed::<R, Entries>(rt, alloc, (slots, 10), &valued, words, &wanted);
     Ok(())
 }
 
+// What the lists leave, but for the flags and, in the first four, for values.
+const TWO_HELPERS_LEFT: [&[u64]; 2] = [&[1, 167_772_161, 0], &[50_331_648, 1, 0, 7]];
+
+const REBORN_SLOT_LEFT: [&[u64]; 4] = [
+    &[2, 167_772_163, 67_108_866],
+    &[33_554_432, 1, 0, 30],
+    &[67_108_865, 2, 1, 10],
+    &[33_554_433, 1, 0, 25],
+];
+
+const SAME_WORD_LEFT: [&[u64]; 4] = [
+    &[5, 167_772_163, 67_108_866],
+    &[67_108_864, 2, 0, 30],
+    &[67_108_865, 2, 0, 20],
+    &[184_549_377, 5, 0, 10],
+];
+
+const RAISED_LEFT: [&[u64]; 2] = [&[2, 167_772_161, 33_554_433], &[33_554_432, 1, 0, 7]];
+
+const STORED_LEFT: [&[u64]; 2] = [&[1, 167_772_161, 33_554_433], &[50_331_648, 1, 0, 7, 107]];
+
+const REPLACED_LEFT: [&[u64]; 4] = [
+    &[1, 167_772_160_003, 33_554_434],
+    &[50_331_650, 1, 1, 7, 107],
+    &[50_331_651, 1, 0, 7, 207],
+    &[33_554_432, 1, 0, 7, 307],
+];
+
+const STANDING_LEFT: [&[u64]; 4] = [
+    &[2, 167_772_160_003, 33_554_434],
+    &[50_331_650, 1, 1, 7, 107],
+    &[33_554_432, 1, 0, 8, 108],
+    &[16_777_216, 0, 0, 0, 0],
+];
+
 #[test]
 fn two_passes_unlink_one_node(rt: HostRuntime) -> Result<(), Fail> {
-    let shape = Shape::new(1, 1, 10)?;
-    let words = words_after::<HostRuntime, Keys>(
+    expect_both(
         &rt,
         rt.alloc(),
-        shape,
+        1,
         &TWO_HELPERS,
         &TWO_HELPERS_WORDS,
-    );
-    let wanted: [&[u64]; 2] = [&[1, 167_772_161, 0], &[50_331_648, 1, 0, 7]];
-    expect_words(&rt, rt.alloc(), words, &wanted, 0)
+        &TWO_HELPERS_LEFT,
+    )
 }
 
 #[test]
 fn a_slot_is_reborn(rt: HostRuntime) -> Result<(), Fail> {
-    let shape = Shape::new(3, 1, 10)?;
-    let words = words_after::<HostRuntime, Keys>(
+    expect_both(
         &rt,
         rt.alloc(),
-        shape,
+        3,
         &REBORN_SLOT,
         &REBORN_SLOT_WORDS,
-    );
-    let wanted: [&[u64]; 4] = [
-        &[2, 167_772_163, 67_108_866],
-        &[33_554_432, 1, 0, 30],
-        &[67_108_865, 2, 1, 10],
-        &[33_554_433, 1, 0, 25],
-    ];
-    expect_words(&rt, rt.alloc(), words, &wanted, 0)
+        &REBORN_SLOT_LEFT,
+    )
 }
 
 #[test]
 fn a_word_comes_back(rt: HostRuntime) -> Result<(), Fail> {
-    let shape = Shape::new(3, 1, 10)?;
-    let words = words_after::<HostRuntime, Keys>(
+    expect_both(
         &rt,
         rt.alloc(),
-        shape,
+        3,
         &SAME_WORD,
         &SAME_WORD_WORDS,
-    );
-    let wanted: [&[u64]; 4] = [
-        &[5, 167_772_163, 67_108_866],
-        &[67_108_864, 2, 0, 30],
-        &[67_108_865, 2, 0, 20],
-        &[184_549_377, 5, 0, 10],
-    ];
-    expect_words(&rt, rt.alloc(), words, &wanted, 0)
+        &SAME_WORD_LEFT,
+    )
 }
 
 #[test]
 fn a_slot_is_raised_in_hand(rt: HostRuntime) -> Result<(), Fail> {
-    let shape = Shape::new(1, 1, 10)?;
-    let words = words_after::<HostRuntime, Keys>(
+    expect_both(
         &rt,
         rt.alloc(),
-        shape,
+        1,
         &RAISED_IN_HAND,
         &RAISED_IN_HAND_WORDS,
-    );
-    let wanted: [&[u64]; 2] = [&[2, 167_772_161, 33_554_433], &[33_554_432, 1, 0, 7]];
-    expect_words(&rt, rt.alloc(), words, &wanted, 0)
+        &RAISED_LEFT,
+    )
 }
 
-#[test]
-fn two_passes_unlink_one_node_with_a_value(rt: HostRuntime) -> Result<(), Fail> {
-    let shape = Shape::new(1, 1, 10)?.with_values();
-    let rows = with_values(rt.alloc(), &TWO_HELPERS)?;
-    let words = words_after::<HostRuntime, Entries>(
-        &rt,
-        rt.alloc(),
-        shape,
-        &rows,
-        &TWO_HELPERS_WORDS,
-    );
-    let wanted: [&[u64]; 2] = [&[1, 167_772_161, 0], &[50_331_648, 1, 0, 7, 107]];
-    expect_words(&rt, rt.alloc(), words, &wanted, 0)
-}
-
-#[test]
-fn a_slot_is_reborn_with_values(rt: HostRuntime) -> Result<(), Fail> {
-    let shape = Shape::new(3, 1, 10)?.with_values();
-    let rows = with_values(rt.alloc(), &REBORN_SLOT)?;
-    let words = words_after::<HostRuntime, Entries>(
-        &rt,
-        rt.alloc(),
-        shape,
-        &rows,
-        &REBORN_SLOT_WORDS,
-    );
-    let wanted: [&[u64]; 4] = [
-        &[2, 167_772_163, 67_108_866],
-        &[33_554_432, 1, 0, 30, 130],
-        &[67_108_865, 2, 1, 10, 110],
-        &[33_554_433, 1, 0, 25, 125],
-    ];
-    expect_words(&rt, rt.alloc(), words, &wanted, 0)
-}
-
-#[test]
-fn a_word_comes_back_with_values(rt: HostRuntime) -> Result<(), Fail> {
-    let shape = Shape::new(3, 1, 10)?.with_values();
-    let rows = with_values(rt.alloc(), &SAME_WORD)?;
-    let words = words_after::<HostRuntime, Entries>(
-        &rt,
-        rt.alloc(),
-        shape,
-        &rows,
-        &SAME_WORD_WORDS,
-    );
-    let wanted: [&[u64]; 4] = [
-        &[5, 167_772_163, 67_108_866],
-        &[67_108_864, 2, 0, 30, 130],
-        &[67_108_865, 2, 0, 20, 120],
-        &[184_549_377, 5, 0, 10, 110],
-    ];
-    expect_words(&rt, rt.alloc(), words, &wanted, 0)
-}
-
-#[test]
-fn a_slot_is_raised_in_hand_with_a_value(rt: HostRuntime) -> Result<(), Fail> {
-    let shape = Shape::new(1, 1, 10)?.with_values();
-    let rows = with_values(rt.alloc(), &RAISED_IN_HAND)?;
-    let words = words_after::<HostRuntime, Entries>(
-        &rt,
-        rt.alloc(),
-        shape,
-        &rows,
-        &RAISED_IN_HAND_WORDS,
-    );
-    let wanted: [&[u64]; 2] = [&[2, 167_772_161, 33_554_433], &[33_554_432, 1, 0, 7, 107]];
-    expect_words(&rt, rt.alloc(), words, &wanted, 0)
+// Makes a list with values of its own, and compares the words of the closing.
+fn expect_valued<R: Abort>(
+    rt: &R,
+    alloc: Global,
+    numbers: (u32, u64),
+    rows: &[Row],
+    words: &[u64],
+    left: (&[&[u64]], u64),
+) -> Result<(), Fail>
+    requires { IsWorkedOn numbers.0 numbers.1 true rows.now words.now }
+{
+    let (parts, flags) = left;
+    let left = words_of(alloc, parts, false, flags)?;
+    expect_listed::<R, Entries>(rt, alloc, numbers, rows, words, &left);
+    Ok(())
 }
 
 #[test]
 fn a_stored_value_is_read_back(rt: HostRuntime) -> Result<(), Fail> {
-    let shape = Shape::new(1, 1, 10)?.with_values();
-    let words = words_after::<HostRuntime, Entries>(
+    expect_valued(
         &rt,
         rt.alloc(),
-        shape,
+        (1, 10),
         &STORED_VALUE,
         &STORED_VALUE_WORDS,
-    );
-    let wanted: [&[u64]; 2] = [&[1, 167_772_161, 33_554_433], &[50_331_648, 1, 0, 7, 107]];
-    expect_words(&rt, rt.alloc(), words, &wanted, 0)
+        (&STORED_LEFT, 0),
+    )
 }
 
 #[test]
 fn a_value_is_replaced_twice(rt: HostRuntime) -> Result<(), Fail> {
-    let shape = Shape::new(3, 1, 10_000)?.with_values();
-    let words = words_after::<HostRuntime, Entries>(
+    expect_valued(
         &rt,
         rt.alloc(),
-        shape,
+        (3, 10_000),
         &REPLACED_VALUE,
         &REPLACED_VALUE_WORDS,
-    );
-    let wanted: [&[u64]; 4] = [
-        &[1, 167_772_160_003, 33_554_434],
-        &[50_331_650, 1, 1, 7, 107],
-        &[50_331_651, 1, 0, 7, 207],
-        &[33_554_432, 1, 0, 7, 307],
-    ];
-    expect_words(&rt, rt.alloc(), words, &wanted, 0)
+        (&REPLACED_LEFT, 0),
+    )
 }
 
 #[test]
 fn a_step_of_each_kind_with_values(rt: HostRuntime) -> Result<(), Fail> {
-    let shape = Shape::new(3, 1, 10_000)?.with_values();
-    let words = words_after::<HostRuntime, Entries>(
+    expect_valued(
         &rt,
         rt.alloc(),
-        shape,
+        (3, 10_000),
         &STANDING_WITH_VALUES,
         &STANDING_WORDS,
-    );
-    let wanted: [&[u64]; 4] = [
-        &[2, 167_772_160_003, 33_554_434],
-        &[50_331_650, 1, 1, 7, 107],
-        &[33_554_432, 1, 0, 8, 108],
-        &[16_777_216, 0, 0, 0, 0],
-    ];
-    expect_words(&rt, rt.alloc(), words, &wanted, 5)
+        (&STANDING_LEFT, 5),
+    )
 }

@@ -1,15 +1,11 @@
 //! Stores that lose their exchange: pass 1 stands before it, with a slot in hand, while pass 0 is first, and goes on
 //! over what that left.
 ghost use Rattle.std.specs.Prelude.{◌≡◌, None, IfOk, IfErr};
-ghost use Rattle.vbr_slots.specs.AtTables.{IsSameTable, pass_of, trace_of};
-ghost use Rattle.vbr_slots.specs.Calls.{Took};
-ghost use Rattle.vbr_slots.specs.Views.{IsOf, knows};
-ghost use Rattle.vbr_at_table.specs.Exchanges.{GivesBack};
-ghost use Rattle.vbr_at_table.specs.Hands.{IsHandOf};
-ghost use Rattle.vbr_at_table.specs.KeptKnowledge.{Keeps, KeepsOwn};
-ghost use Rattle.vbr_at_table.specs.Replacing.{IsReplaceable, ReplacesHeld};
+ghost use Rattle.vbr_table_tests.specs.Names.{GivesBack, IsHandOf, IsOf, IsReplaceable, IsSameTable, Keeps};
+ghost use Rattle.vbr_table_tests.specs.Names.{KeepsOwn, ReplacesHeld, Took, knows, pass_of, trace_of};
 ghost use Rattle.vbr_table_tests.specs.Buckets.{HasEntryLists};
 
+use crate::entries;
 use crate::entries::Made;
 use crate::lost_stores::{one_entry, read_entry};
 use crate::rows::{Call, Row, play};
@@ -144,10 +140,10 @@ fn stand_before_exchange(rt: &impl Abort, slots: &Slots<Entries>, pass: &mut Pas
     ensures node { IsReplaceable pass.new.trace result.0 7 0 }
     ensures hand { IsHandOf pass.new result.1 }
 {
-    read_entry(rt, slots, pass, 0, 107);
+    read_entry(rt, slots, pass, (0, 107));
     let hand = take(slots, pass, 100).expect(rt, "a slot is in the shared pool");
     assert_eq!(rt; (hand.slot(), hand.birth()), (1, 1));
-    let (_, node) = read_entry(rt, slots, pass, 0, 107);
+    let (_, node) = read_entry(rt, slots, pass, (0, 107));
     (node, hand)
 }
 
@@ -231,8 +227,7 @@ fn words_left(
 // enough, and the steps that it makes with that.
 type Stored<'a> = (First<'a>, u32, u64);
 
-// Makes the store after the lost exchange, with each budget that is too few and with the least that is enough:
-// refused it leaves the map as it was, and else it answers the value that is there.
+// Makes the store after the lost exchange, which answers the value that is there.
 fn expect_stored(
     rt: &impl Abort,
     alloc: Global,
@@ -241,19 +236,16 @@ fn expect_stored(
     stored: Stored,
 ) -> Result<(), Fail> {
     let (first, least, steps) = stored;
-    for budget in 0..least {
-        let rows = [
-            Row::Call(1, budget, Made::Tired(7, 307, wanted)),
-            Row::Call(0, 100, Made::Get(7, Ok(there))),
-        ];
-        words_left(rt, alloc, first, &rows)?;
-    }
-    let rows = [
-        Row::Call(1, least, Made::Store(7, 307, wanted, Ok(there))),
-        Row::Steps(steps),
-    ];
-    words_left(rt, alloc, first, &rows)?;
-    Ok(())
+    entries::expect_stored(
+        |rows| {
+            words_left(rt, alloc, first, rows)?;
+            Ok(())
+        },
+        [1, 0],
+        (7, 307, wanted),
+        there,
+        (least, steps),
+    )
 }
 
 /// A replacement that was lost to another goes on over the new node: a search takes 8 steps, the slot that was given
@@ -376,69 +368,27 @@ fn expect_left(
     Ok(())
 }
 
-/// What was in hand goes back to the own pool, and the old node's slot is with the pass that unlinked it.
+/// After a lost compare_exchange what was in hand goes back to the own pool. After a lost replacement the new node is in
+/// that slot; with 8 steps more than the least budget its old node leaves too, and its slot is with the pass that unlinked
+/// it. So is the slot of the first node.
 #[test]
-fn what_a_lost_compare_exchange_leaves(rt: HostRuntime) -> Result<(), Fail> {
-    let made = Made::Store(7, 307, Wanted::Value(107), Ok(Some(207)));
-    let pools: [&[u32]; 2] = [&[0], &[1]];
-    expect_left(&rt, rt.alloc(), REPLACED, (16, made), pools, REPLACED_ONCE)?;
-    let pools: [&[u32]; 2] = [&[], &[1, 0]];
-    expect_left(
-        &rt,
-        rt.alloc(),
-        STILL_LINKED,
-        (24, made),
-        pools,
-        REPLACED_ONCE,
-    )
-}
-
-/// The new node is in the slot that was in hand. With 8 steps more than the least budget its old node leaves too, and
-/// its slot is with the pass that unlinked it.
-#[test]
-fn what_a_lost_replacement_leaves(rt: HostRuntime) -> Result<(), Fail> {
-    let made = Made::Store(7, 307, Wanted::Present, Ok(Some(207)));
-    let pools: [&[u32]; 2] = [&[0], &[2]];
-    expect_left(&rt, rt.alloc(), REPLACED, (33, made), pools, REPLACED_TWICE)?;
-    let pools: [&[u32]; 2] = [&[], &[0, 2]];
-    expect_left(
-        &rt,
-        rt.alloc(),
-        STILL_LINKED,
-        (41, made),
-        pools,
-        REPLACED_TWICE,
-    )
-}
-
-// Pass 1 goes on with its slot in hand: it finds 207 in slot 2, in 10 steps, replaces that in 4, and takes the old
-// node out of its list in 5.
-fn replace_another(rt: &impl Abort, slots: &Slots<Entries>, pass: &mut Pass, hand: Hand)
-    requires own { IsOf pass.old.trace slots.now }
-    requires shape { HasEntryLists slots.now }
-    requires hand { IsHandOf pass.old hand }
-    ensures own { IsOf pass.new.trace slots.now }
-{
-    let (head, node) = read_entry(rt, slots, pass, 2, 207);
-    let marked = match replace_entry(slots, pass, &node, 307, hand) {
-        Ok(marked) => marked,
-        Err(_refused) => panic!(rt; "not replaced"),
-    };
-    let (unlinked, _) = unlink(slots, pass, &head, marked).expect(rt, "the node is linked");
-    assert_eq!(rt; unlinked.slot(), 2);
-    retire(slots, pass, unlinked);
-    expect_pass(rt, pass, (1, 1, 48));
-    expect_pool(rt, pass, &[2]);
-}
-
-/// Step by step, with the slot in hand: the exchange is lost, and the next one, over the new node, is won.
-#[test]
-fn a_lost_replacement_step_by_step(rt: HostRuntime) -> Result<(), Fail> {
-    let (slots, mut a, mut b) = one_entry(&rt, rt.alloc(), 3)?;
-    let hand = lose(&rt, &slots, &mut a, &mut b, REPLACED);
-    replace_another(&rt, &slots, &mut b, hand);
-    assert_eq!(rt; get(&slots, &mut a, 7, 100), Ok(Some(307)));
-    expect_words(&rt, rt.alloc(), slots, a, b, &REPLACED_TWICE);
+fn what_a_lost_store_leaves(rt: HostRuntime) -> Result<(), Fail> {
+    let exchange = Made::Store(7, 307, Wanted::Value(107), Ok(Some(207)));
+    let replacement = Made::Store(7, 307, Wanted::Present, Ok(Some(207)));
+    let rows: [(First, (u32, Made), [&[u32]; 2], [u64; 19]); 4] = [
+        (REPLACED, (16, exchange), [&[0], &[1]], REPLACED_ONCE),
+        (STILL_LINKED, (24, exchange), [&[], &[1, 0]], REPLACED_ONCE),
+        (REPLACED, (33, replacement), [&[0], &[2]], REPLACED_TWICE),
+        (
+            STILL_LINKED,
+            (41, replacement),
+            [&[], &[0, 2]],
+            REPLACED_TWICE,
+        ),
+    ];
+    for (first, call, pools, words) in rows {
+        expect_left(&rt, rt.alloc(), first, call, pools, words)?;
+    }
     Ok(())
 }
 
@@ -453,28 +403,59 @@ fn answer_get(rt: &impl Abort, slots: &Slots<Entries>, pass: &mut Pass, node: &H
     assert_eq!(rt; told, Ok(()));
 }
 
-// Pass 1 goes on with its slot in hand: it finds 207 in slot 2, in 10 steps, and so answers a get, in one.
-fn tell_another(rt: &impl Abort, slots: &Slots<Entries>, pass: &mut Pass, hand: Hand)
+// Pass 1 goes on with its slot in hand: it finds 207 in slot 2, in 10 steps. Either it replaces that in 4, and takes the
+// old node out of its list in 5; or it answers a get, in one, and gives its slot back.
+fn go_on(rt: &impl Abort, slots: &Slots<Entries>, pass: &mut Pass, hand: Hand, replaces: bool)
     requires own { IsOf pass.old.trace slots.now }
     requires shape { HasEntryLists slots.now }
     requires hand { IsHandOf pass.old hand }
     ensures own { IsOf pass.new.trace slots.now }
 {
-    let (_, node) = read_entry(rt, slots, pass, 2, 207);
-    answer_get(rt, slots, pass, &node);
-    put_back(rt, pass, hand);
-    expect_pass(rt, pass, (1, 1, 40));
-    expect_pool(rt, pass, &[1]);
+    let (head, node) = read_entry(rt, slots, pass, (2, 207));
+    if !replaces {
+        answer_get(rt, slots, pass, &node);
+        put_back(rt, pass, hand);
+        expect_pass(rt, pass, (1, 1, 40));
+        expect_pool(rt, pass, &[1]);
+        return;
+    }
+    let marked = match replace_entry(slots, pass, &node, 307, hand) {
+        Ok(marked) => marked,
+        Err(_refused) => panic!(rt; "not replaced"),
+    };
+    let (unlinked, _) = unlink(slots, pass, &head, marked).expect(rt, "the node is linked");
+    assert_eq!(rt; unlinked.slot(), 2);
+    retire(slots, pass, unlinked);
+    expect_pass(rt, pass, (1, 1, 48));
+    expect_pool(rt, pass, &[2]);
+}
+
+// Pass 1 loses its exchange and goes on, step by step. Compares the value that a get of pass 0 then finds, and the words
+// of the closing.
+fn expect_step_by_step(
+    rt: &impl Abort,
+    alloc: Global,
+    replaces: bool,
+    value: u64,
+    words: &[u64],
+) -> Result<(), Fail> {
+    let (slots, mut a, mut b) = one_entry(rt, alloc, 3)?;
+    let hand = lose(rt, &slots, &mut a, &mut b, REPLACED);
+    go_on(rt, &slots, &mut b, hand, replaces);
+    assert_eq!(rt; get(&slots, &mut a, 7, 100), Ok(Some(value)));
+    expect_words(rt, alloc, slots, a, b, words);
+    Ok(())
+}
+
+/// Step by step, with the slot in hand: the exchange is lost, and the next one, over the new node, is won.
+#[test]
+fn a_lost_replacement_step_by_step(rt: HostRuntime) -> Result<(), Fail> {
+    expect_step_by_step(&rt, rt.alloc(), true, 307, &REPLACED_TWICE)
 }
 
 /// Step by step, with the slot in hand: the value that was expected has gone, so nothing is changed, and the slot goes
 /// back.
 #[test]
 fn a_lost_compare_exchange_step_by_step(rt: HostRuntime) -> Result<(), Fail> {
-    let (slots, mut a, mut b) = one_entry(&rt, rt.alloc(), 3)?;
-    let hand = lose(&rt, &slots, &mut a, &mut b, REPLACED);
-    tell_another(&rt, &slots, &mut b, hand);
-    assert_eq!(rt; get(&slots, &mut a, 7, 100), Ok(Some(207)));
-    expect_words(&rt, rt.alloc(), slots, a, b, &REPLACED_ONCE);
-    Ok(())
+    expect_step_by_step(&rt, rt.alloc(), false, 207, &REPLACED_ONCE)
 }

@@ -1,48 +1,19 @@
 //! A reader stands on a node while another pass replaces its value: what its next calls tell.
 ghost use Rattle.std.specs.Prelude.{◌≡◌, true, None, IfOk};
 ghost use Rattle.vbr_words.specs.declared.place.At.TheVariants.{Slot};
-ghost use Rattle.vbr_slots.specs.Views.{IsOf, knows};
-ghost use Rattle.vbr_at_table.specs.Exchanges.{IsUnmarked};
-ghost use Rattle.vbr_at_table.specs.Held.{IsHeld, Names};
-ghost use Rattle.vbr_at_table.specs.KeptKnowledge.{KeepsOwn};
-ghost use Rattle.vbr_at_table.specs.Replacing.{IsReplaceable};
+ghost use Rattle.vbr_table_tests.specs.Names.{IsHeld, IsOf, IsReplaceable, IsUnmarked, KeepsOwn, Names, knows};
 ghost use Rattle.vbr_table_tests.specs.Buckets.{HasEntryLists};
 
-use crate::retiring::head_of;
+use crate::retiring::{head_of, last_node};
 use crate::running_table::{expect_words, open_two};
 use std::alloc::Global;
 use std::process::Abort;
 use std::test::Fail;
-use vbr_access::{Held, Rollback, confirm_present_entry, key_of, next, value_of};
+use vbr_access::{Held, Rollback, confirm_present_entry, key_of, value_of};
 use vbr_list::{Wanted, get, insert_entry, store};
 use vbr_machine::Op;
 use vbr_slots::{Pass, Slots};
-use vbr_words::{At, Entries, Shape};
-
-// The node that a head names, which stands in this slot and is the last. The head was held before.
-fn last_node(
-    rt: &impl Abort,
-    slots: &Slots<Entries>,
-    pass: &mut Pass,
-    head: &Held,
-    slot: u32,
-) -> Held
-    requires own { IsOf pass.old.trace slots.now }
-    requires head { IsHeld (knows pass.old.trace) head.now }
-    ensures own { IsOf pass.new.trace slots.now }
-    ensures keeps { KeepsOwn pass.old pass.new }
-    ensures head { IsHeld (knows pass.new.trace) head.now }
-    ensures node { IsHeld (knows pass.new.trace) result }
-    ensures named { Names head.now slot × (result.at ≡ Slot slot) }
-    ensures word { result.word ≡ 33_554_432 }
-{
-    let node = next(slots, pass, head)
-        .expect(rt, "the epoch has not moved")
-        .expect(rt, "a node");
-    assert!(rt; node.word == 33_554_432);
-    assert!(rt; node.at == At::Slot(slot));
-    node
-}
+use vbr_words::{Entries, Shape};
 
 // The one node, which stands in this slot and has key 7 and this value, behind the head that names it: 3 steps to the
 // head, 3 to the node, 2 for the key and 2 for the value.
@@ -50,8 +21,7 @@ pub fn read_entry(
     rt: &impl Abort,
     slots: &Slots<Entries>,
     pass: &mut Pass,
-    slot: u32,
-    value: u64,
+    there: (u32, u64),
 ) -> (Held, Held)
     requires own { IsOf pass.old.trace slots.now }
     requires shape { HasEntryLists slots.now }
@@ -59,9 +29,10 @@ pub fn read_entry(
     ensures keeps { KeepsOwn pass.old pass.new }
     ensures head { IsUnmarked (knows pass.new.trace) result.0 }
     ensures node { IsReplaceable pass.new.trace result.1 7 0 }
-    ensures place { result.1.at ≡ Slot slot }
-    ensures names { Names result.0 slot }
+    ensures place { result.1.at ≡ Slot there.0 }
+    ensures names { Names result.0 there.0 }
 {
+    let (slot, value) = there;
     let head = head_of(rt, slots, pass, 33_554_433 + u64::from(slot));
     let node = last_node(rt, slots, pass, &head, slot);
     let key = key_of(slots, pass, &node).expect(rt, "the epoch has not moved");
@@ -98,7 +69,7 @@ fn stand_on_replaced(rt: &impl Abort, slots: &Slots<Entries>, a: &mut Pass, b: &
     ensures first { IsOf a.new.trace slots.now }
     ensures second { IsOf b.new.trace slots.now }
 {
-    let (_, node) = read_entry(rt, slots, b, 0, 107);
+    let (_, node) = read_entry(rt, slots, b, (0, 107));
     assert_eq!(rt;
         store(slots, a, 7, 207, Wanted::Present, 100),
         Ok(Some(107))

@@ -1,14 +1,8 @@
 //! Retiring: the stamp of a slot is an epoch that was read after the slot was unlinked.
 ghost use Rattle.std.specs.Prelude.{◌≡◌, ℕ, ◌<◌, false, None};
-ghost use Rattle.vbr_words.specs.Words.{link_of};
 ghost use Rattle.vbr_words.specs.declared.place.At.TheVariants.{Head, Slot};
-ghost use Rattle.vbr_machine.specs.Acceptance.{IsUnlinked};
-ghost use Rattle.vbr_slots.specs.Views.{IsOf, knows};
-ghost use Rattle.vbr_at_table.specs.Answering.{IsPresent};
-ghost use Rattle.vbr_at_table.specs.Exchanges.{IsUnmarked};
-ghost use Rattle.vbr_at_table.specs.Held.{IsHeld, Names};
-ghost use Rattle.vbr_at_table.specs.KeptKnowledge.{Keeps, KeepsOwn};
-ghost use Rattle.vbr_at_table.specs.Values.{IsValued};
+ghost use Rattle.vbr_table_tests.specs.Names.{IsHeld, IsOf, IsPresent, IsUnlinked, IsUnmarked, IsValued, Keeps};
+ghost use Rattle.vbr_table_tests.specs.Names.{KeepsOwn, Names, knows, link_of};
 
 use crate::running_table::{Opened, expect_pass, expect_words, two_passes};
 use std::alloc::Global;
@@ -36,22 +30,28 @@ pub fn head_of<N: Nodes>(rt: &impl Abort, slots: &Slots<N>, pass: &mut Pass, wor
     head
 }
 
-// The one node, in slot 0, which was born in epoch 1. The head that names it was held before.
-fn node_behind<N: Nodes>(rt: &impl Abort, slots: &Slots<N>, pass: &mut Pass, head: &Held) -> Held
+// The node that a head names, which stands in this slot and is the last. The head was held before.
+pub fn last_node<N: Nodes>(
+    rt: &impl Abort,
+    slots: &Slots<N>,
+    pass: &mut Pass,
+    head: &Held,
+    slot: u32,
+) -> Held
     requires own { IsOf pass.old.trace slots.now }
     requires head { IsHeld (knows pass.old.trace) head.now }
     ensures own { IsOf pass.new.trace slots.now }
     ensures keeps { KeepsOwn pass.old pass.new }
     ensures head { IsHeld (knows pass.new.trace) head.now }
-    ensures node { IsUnmarked (knows pass.new.trace) result }
-    ensures place { result.at ≡ Slot 0 }
-    ensures names { (slot : ℕ) × Names head.now slot × (result.at ≡ Slot slot) }
+    ensures node { IsHeld (knows pass.new.trace) result }
+    ensures named { Names head.now slot × (result.at ≡ Slot slot) }
+    ensures word { result.word ≡ 33_554_432 }
 {
-    let Some(node) = next(slots, pass, head).expect(rt, "the epoch has not moved") else {
-        panic!(rt; "no node")
-    };
+    let node = next(slots, pass, head)
+        .expect(rt, "the epoch has not moved")
+        .expect(rt, "a node");
     assert!(rt; node.word == 33_554_432);
-    assert_eq!(rt; (node.at, node.birth), (At::Slot(0), 1));
+    assert!(rt; node.at == At::Slot(slot));
     node
 }
 
@@ -68,7 +68,8 @@ pub fn read_one<N: Nodes>(rt: &impl Abort, slots: &Slots<N>, pass: &mut Pass) ->
 {
     let head = head_of(rt, slots, pass, 33_554_433);
     assert_eq!(rt; head.at, At::Head(0));
-    let node = node_behind(rt, slots, pass, &head);
+    let node = last_node(rt, slots, pass, &head, 0);
+    assert_eq!(rt; node.birth, 1);
     let key = key_of(slots, pass, &node).expect(rt, "the epoch has not moved");
     assert_eq!(rt; key, 7);
     (head, node)

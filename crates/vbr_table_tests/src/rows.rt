@@ -121,3 +121,60 @@ pub fn expect<R: Abort, C: Call>(
     words_after(rt, alloc, shape, rows)?;
     Ok(())
 }
+
+/// Makes rows on a fresh table with two passes, of one slot and one bucket and up to epoch 10, and compares its words.
+pub fn expect_left<R: Abort, C: Call>(
+    rt: &R,
+    alloc: Global,
+    rows: &[Row<C>],
+    words: &[u64],
+) -> Result<(), Fail> {
+    let told = words_after(rt, alloc, (1, 1, 10), rows)?;
+    assert_eq!(rt; told.as_slice(), words);
+    Ok(())
+}
+
+/// Makes calls of pass 0, with ample budgets, on a fresh table of one slot and up to this last epoch, and compares the
+/// epoch and the own pool of the pass then.
+pub fn expect_alone<R: Abort, C: Call>(
+    rt: &R,
+    alloc: Global,
+    last_epoch: u64,
+    calls: &[C],
+    epoch: u64,
+    pool: &[u32],
+) -> Result<(), Fail> {
+    let mut rows = Vec::new(alloc);
+    for call in calls {
+        rows.push(Row::Call(0, 100, *call))?;
+    }
+    rows.push(Row::Epoch(0, epoch))?;
+    rows.push(Row::Pool(0, pool))?;
+    expect(rt, alloc, (1, 1, last_epoch), &rows)
+}
+
+/// With 17 steps an insert into an empty list takes its slot and is refused after 10, and the next one makes so many.
+pub fn with_17_steps<C>(refused: C, insert: C, steps: u64) -> [Row<'static, C>; 6] {
+    [
+        Row::Call(0, 17, refused),
+        Row::Steps(10),
+        Row::Pool(0, &[0]),
+        Row::Call(0, 17, insert),
+        Row::Steps(steps),
+        Row::Epoch(0, 1),
+    ]
+}
+
+/// After an insert a remove with 16 steps makes so many, and leaves its node marked; and pass 1, which finds the key
+/// absent, helps the node away in 10.
+pub fn helped_away<C>(insert: C, remove: C, steps: u64, absent: C) -> [Row<'static, C>; 7] {
+    [
+        Row::Call(0, 100, insert),
+        Row::Call(0, 16, remove),
+        Row::Steps(steps),
+        Row::Pool(0, &[]),
+        Row::Call(1, 100, absent),
+        Row::Steps(10),
+        Row::Pool(1, &[0]),
+    ]
+}

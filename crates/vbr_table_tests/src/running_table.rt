@@ -12,6 +12,7 @@ ghost use Rattle.vbr_slots.specs.Views.{IsOf, KeepsPool, event_of, new_pass, new
 ghost use Rattle.vbr_table_tests.specs.OnlyPass.{IsOnlyPass};
 ghost use Rattle.vbr_table_tests.specs.Taking.{HasEvent, BothTook};
 
+use crate::world::{FRESH, OPENED};
 use std::alloc::{AllocError, Global};
 use std::process::Abort;
 use std::test::Fail;
@@ -19,23 +20,19 @@ use std::thread::{Threads, join};
 use vbr_slots::{CloseError, OpenError, Pass, Slots};
 use vbr_words::{Entries, Keys, Nodes, Shape, ShapeError};
 
+/// A table with its passes, or why it wasn't opened.
+type Opening<N> = Result<(Slots<N>, Vec<Pass>), OpenError>;
+
 /// Nodes of a kind whose tables are opened here, without a key or with three.
 pub trait Opened: Nodes + Sized {
     /// Opens a table without a key.
-    fn open_once(
-        alloc: Global,
-        shape: Shape,
-        passes: u32,
-    ) -> Result<(Slots<Self>, Vec<Pass>), OpenError>
+    fn open_once(alloc: Global, shape: Shape, passes: u32) -> Opening<Self>
         requires kind { shape.values ≡ Self.VALUES }
         ensures table { IfOk result (λ r. (r.0.start ≡ empty_start shape) × (r.0.passes ≡ passes)) }
         ensures passes { IfOk result (λ r. r.1.items ≡ new_passes r.0 0 passes) };
 
     /// Opens a table with the keys 2, 5 and 9, and two passes. A value is its key and a hundred.
-    fn open_once_with_three(
-        alloc: Global,
-        shape: Shape,
-    ) -> Result<(Slots<Self>, Vec<Pass>), OpenError>
+    fn open_once_with_three(alloc: Global, shape: Shape) -> Opening<Self>
         requires few { 3 ≤ shape.slots }
         ensures { IfOk result (λ r. r.1.items ≡ new_passes r.0 0 2) };
 
@@ -48,15 +45,11 @@ pub trait Opened: Nodes + Sized {
 }
 
 impl Opened for Keys {
-    fn open_once(
-        alloc: Global,
-        shape: Shape,
-        passes: u32,
-    ) -> Result<(Slots, Vec<Pass>), OpenError> {
+    fn open_once(alloc: Global, shape: Shape, passes: u32) -> Opening<Keys> {
         Slots::open(alloc, shape, passes)
     }
 
-    fn open_once_with_three(alloc: Global, shape: Shape) -> Result<(Slots, Vec<Pass>), OpenError> {
+    fn open_once_with_three(alloc: Global, shape: Shape) -> Opening<Keys> {
         Slots::open_with(alloc, shape, 2, &[2, 5, 9])
     }
 
@@ -66,18 +59,11 @@ impl Opened for Keys {
 }
 
 impl Opened for Entries {
-    fn open_once(
-        alloc: Global,
-        shape: Shape,
-        passes: u32,
-    ) -> Result<(Slots<Entries>, Vec<Pass>), OpenError> {
+    fn open_once(alloc: Global, shape: Shape, passes: u32) -> Opening<Entries> {
         Slots::open_with_entries(alloc, shape, passes, &[])
     }
 
-    fn open_once_with_three(
-        alloc: Global,
-        shape: Shape,
-    ) -> Result<(Slots<Entries>, Vec<Pass>), OpenError> {
+    fn open_once_with_three(alloc: Global, shape: Shape) -> Opening<Entries> {
         Slots::open_with_entries(alloc, shape, 2, &[(2, 102), (5, 105), (9, 109)])
     }
 
@@ -92,6 +78,13 @@ pub fn shape_of<N: Nodes>(numbers: (u32, u32, u64)) -> Result<Shape, ShapeError>
     ensures numbers { IfOk result (λ shape. (shape.slots ≡ numbers.0)
         × (shape.buckets ≡ numbers.1) × (shape.last_epoch ≡ numbers.2)) }
     ensures kind { IfOk result (λ shape. shape.values ≡ N.VALUES) }
+    ensures whole { IfOk result (λ shape. shape ≡ record {
+      slots = numbers.0;
+      buckets = numbers.1;
+      spread = None;
+      last_epoch = numbers.2;
+      values = N.VALUES;
+    }) }
 {
     let (slots, buckets, last_epoch) = numbers;
     let shape = Shape::new(slots, buckets, last_epoch)?;
@@ -103,11 +96,7 @@ pub fn shape_of<N: Nodes>(numbers: (u32, u32, u64)) -> Result<Shape, ShapeError>
 }
 
 // Opens a table. What found no memory left nothing, so it is tried again.
-pub fn open<N: Opened>(
-    alloc: Global,
-    shape: Shape,
-    passes: u32,
-) -> Result<(Slots<N>, Vec<Pass>), OpenError>
+pub fn open<N: Opened>(alloc: Global, shape: Shape, passes: u32) -> Opening<N>
     requires kind { shape.values ≡ N.VALUES }
     ensures table { IfOk result (λ r. (r.0.start ≡ empty_start shape) × (r.0.passes ≡ passes)) }
     ensures passes { IfOk result (λ r. r.1.items ≡ new_passes r.0 0 passes) }
@@ -330,17 +319,13 @@ fn expect_opened<R: Abort, N: Opened>(rt: &R, alloc: Global, words: &[u64]) -> R
 
 #[test]
 fn opens_and_closes(rt: HostRuntime) -> Result<(), Fail> {
-    let wanted = [1, 167_772_161, 0, 16_777_216, 0, 0, 0, 1];
-    expect_opened::<HostRuntime, Keys>(&rt, rt.alloc(), &wanted)?;
+    expect_opened::<HostRuntime, Keys>(&rt, rt.alloc(), &FRESH)?;
     let wanted = [1, 167_772_161, 0, 16_777_216, 0, 0, 0, 0, 1];
     expect_opened::<HostRuntime, Entries>(&rt, rt.alloc(), &wanted)
 }
 
 // Opens a table with three keys. What found no memory left nothing, so it is tried again.
-fn open_with_three<N: Opened>(
-    alloc: Global,
-    shape: Shape,
-) -> Result<(Slots<N>, Vec<Pass>), OpenError>
+fn open_with_three<N: Opened>(alloc: Global, shape: Shape) -> Opening<N>
     requires few { 3 ≤ shape.slots }
     ensures { IfOk result (λ r. r.1.items ≡ new_passes r.0 0 2) }
 {
@@ -362,38 +347,11 @@ fn expect_opened_with_three<R: Abort, N: Opened>(
     Ok(())
 }
 
-/// Key number i stands in slot i, linked in its bucket's list. The other slots are in the shared pool.
+/// Key number i stands in slot i, linked in its bucket's list. The other slots are in the shared pool. Where nodes have
+/// values, the value stands behind the key; the rest is as with keys alone.
 #[test]
-fn opens_with_keys(rt: HostRuntime) -> Result<(), Fail> {
-    let wanted = [
-        1,
-        167_772_164,
-        33_554_433,
-        33_554_434,
-        33_554_432,
-        1,
-        0,
-        2,
-        33_554_435,
-        1,
-        0,
-        5,
-        33_554_432,
-        1,
-        0,
-        9,
-        16_777_216,
-        0,
-        0,
-        0,
-        8,
-    ];
-    expect_opened_with_three::<HostRuntime, Keys>(&rt, rt.alloc(), &wanted)
-}
-
-/// Where nodes have values, the value stands behind the key; the rest is as with keys alone.
-#[test]
-fn opens_with_entries(rt: HostRuntime) -> Result<(), Fail> {
+fn opens_with_three(rt: HostRuntime) -> Result<(), Fail> {
+    expect_opened_with_three::<HostRuntime, Keys>(&rt, rt.alloc(), &OPENED)?;
     let wanted = [
         1,
         167_772_164,
@@ -497,20 +455,10 @@ pub fn expect_pass(rt: &impl Abort, pass: &Pass, wanted: (u32, u64, u64)) {
     assert_eq!(rt; (pass.who(), pass.epoch(), pass.steps()), wanted);
 }
 
-// Two passes share slot 0. Compares what they know then, and the words of the table that is closed
+// Two passes share slot 0 of two. Compares what they know then, and the words of the table that is closed
 // late.
-fn expect_shared<N: Nodes>(
-    rt: &impl Abort,
-    alloc: Global,
-    slots: Slots<N>,
-    mut a: Pass,
-    mut b: Pass,
-    words: &[u64],
-)
-    requires passes { slots.passes ≡ 2 }
-    requires own { IsOf a.trace slots × IsOf b.trace slots }
-    requires shape { (0 < slots.start.shape.slots) × (1 < slots.start.shape.last_epoch) }
-{
+fn expect_shared<R: Abort, N: Opened>(rt: &R, alloc: Global, words: &[u64]) {
+    let (slots, mut a, mut b) = two_passes::<R, N>(rt, alloc, 2, 10);
     share(rt, &slots, &mut a, &mut b);
     expect_pass(rt, &a, (0, 1, 5));
     expect_pass(rt, &b, (1, 2, 4));
@@ -518,9 +466,9 @@ fn expect_shared<N: Nodes>(
     assert_eq!(rt; told.as_slice(), words);
 }
 
+/// Without values, and with them.
 #[test]
 fn two_passes_share_a_slot(rt: HostRuntime) {
-    let (slots, a, b) = two_passes::<HostRuntime, Keys>(&rt, rt.alloc(), 2, 10);
     let wanted = [
         2,
         167_772_162,
@@ -535,12 +483,7 @@ fn two_passes_share_a_slot(rt: HostRuntime) {
         0,
         2,
     ];
-    expect_shared(&rt, rt.alloc(), slots, a, b, &wanted);
-}
-
-#[test]
-fn two_passes_share_a_slot_with_a_value(rt: HostRuntime) {
-    let (slots, a, b) = two_passes::<HostRuntime, Entries>(&rt, rt.alloc(), 2, 10);
+    expect_shared::<HostRuntime, Keys>(&rt, rt.alloc(), &wanted);
     let wanted = [
         2,
         167_772_162,
@@ -557,7 +500,7 @@ fn two_passes_share_a_slot_with_a_value(rt: HostRuntime) {
         0,
         2,
     ];
-    expect_shared(&rt, rt.alloc(), slots, a, b, &wanted);
+    expect_shared::<HostRuntime, Entries>(&rt, rt.alloc(), &wanted);
 }
 
 // Takes slot 0, loads its stamp, and bears in it.
@@ -621,19 +564,7 @@ fn store_entry(slots: &Slots<Entries>, pass: &mut Pass)
     link_none(slots, pass);
 }
 
-// A node is born and stored by one of two passes. Compares the words of the closing.
-fn expect_born<R: Abort, N: Opened>(rt: &R, alloc: Global, words: &[u64]) -> Result<(), Fail> {
-    let (slots, mut a, b) = open_two::<N>(alloc, shape_of::<N>((1, 1, 10))?).expect(
-        rt,
-        "there is memory",
-    );
-    bear(rt, &slots, &mut a);
-    N::store(&slots, &mut a);
-    expect_words(rt, alloc, slots, a, b, words);
-    Ok(())
-}
-
-// The same by the only pass of a table.
+// A node is born and stored by the only pass of a table. Compares the words of the closing.
 fn expect_born_alone<R: Abort, N: Opened>(
     rt: &R,
     alloc: Global,
@@ -648,18 +579,28 @@ fn expect_born_alone<R: Abort, N: Opened>(
     Ok(())
 }
 
+// The same by one of two passes, and by the only one.
+fn expect_born<R: Abort, N: Opened>(rt: &R, alloc: Global, words: &[u64]) -> Result<(), Fail> {
+    let (slots, mut a, b) = open_two::<N>(alloc, shape_of::<N>((1, 1, 10))?).expect(
+        rt,
+        "there is memory",
+    );
+    bear(rt, &slots, &mut a);
+    N::store(&slots, &mut a);
+    expect_words(rt, alloc, slots, a, b, words);
+    expect_born_alone::<R, N>(rt, alloc, words)
+}
+
 #[test]
 fn a_slot_is_born_in(rt: HostRuntime) -> Result<(), Fail> {
     let words = [1, 167_772_161, 0, 33_554_432, 1, 0, 7, 0];
-    expect_born::<HostRuntime, Keys>(&rt, rt.alloc(), &words)?;
-    expect_born_alone::<HostRuntime, Keys>(&rt, rt.alloc(), &words)
+    expect_born::<HostRuntime, Keys>(&rt, rt.alloc(), &words)
 }
 
 #[test]
 fn a_slot_is_born_in_with_a_value(rt: HostRuntime) -> Result<(), Fail> {
     let words = [1, 167_772_161, 0, 33_554_432, 1, 0, 7, 107, 0];
-    expect_born::<HostRuntime, Entries>(&rt, rt.alloc(), &words)?;
-    expect_born_alone::<HostRuntime, Entries>(&rt, rt.alloc(), &words)
+    expect_born::<HostRuntime, Entries>(&rt, rt.alloc(), &words)
 }
 
 // Advances the epoch, takes slot 0 and keeps it.

@@ -1,6 +1,7 @@
 //! A pass that stands still, wherever it is in a call, holds up no other.
-ghost use Rattle.std.specs.Prelude.{◌≡◌, ◌<◌, ◌≤◌, None, IfSome};
+ghost use Rattle.std.specs.Prelude.{◌≡◌, ◌<◌, ◌≤◌, None};
 ghost use Rattle.vbr_slots.specs.Views.{IsOf};
+ghost use Rattle.vbr_table_tests.specs.Following.{IsWorkedOn};
 
 use crate::listed_calls::table_after;
 use crate::pools::expect_taken;
@@ -14,7 +15,7 @@ use vbr_event_lists::{
 };
 use vbr_list::{insert, insert_entry, remove, remove_entry};
 use vbr_slots::{Pass, Slots};
-use vbr_words::{Entries, Keys, Nodes, Shape};
+use vbr_words::{Entries, Keys, Nodes};
 
 // Nodes of a kind of which items are inserted and removed.
 trait Inserted: Opened {
@@ -77,41 +78,35 @@ fn expect_moved<N: Nodes>(rt: &impl Abort, slots: &Slots<N>, a: &Pass, b: &mut P
     assert!(rt; matches!(first(slots, b, &point, 0), Err(Rollback::EpochMoved { .. })));
 }
 
-// Pass 1 stands still where it is, pass 0 makes its rounds, and then pass 1 goes on.
-fn go_on<R: Abort, N: Inserted>(rt: &R, table: Option<(Slots<N>, Pass, Pass)>)
-    requires own { IfSome table (λ r. IsOf r.1.trace r.0 × IsOf r.2.trace r.0) }
-    requires bucket { IfSome table (λ r. 0 < r.0.start.shape.buckets) }
+// Pass 1 stands still after these first steps of a list, pass 0 makes its rounds, and then pass 1 goes on.
+fn stand_still<R: Abort, N: Inserted>(
+    rt: &R,
+    alloc: Global,
+    rows: &[Row],
+    words: &[u64],
+) -> Result<(), Fail>
+    requires { IsWorkedOn 3 10000 N.VALUES rows.now words.now }
 {
+    let table = table_after::<R, N>(rt, alloc, (3, 10_000), rows, words);
     let (slots, mut a, mut b) = table.expect(rt, "there is memory");
     assert!(rt; a.in_hand() == None);
     make_rounds(rt, &slots, &mut a);
     expect_moved(rt, &slots, &a, &mut b);
+    Ok(())
 }
 
 // Pass 1 stands still after the first steps of the list.
 fn stand_behind<R: Abort>(rt: &R, alloc: Global, steps: usize) -> Result<(), Fail>
     requires { steps ≤ 29 }
 {
-    let shape = Shape::new(3, 1, 10_000)?;
-    let rows = &STANDING[..steps];
-    go_on(
-        rt,
-        table_after::<R, Keys>(rt, alloc, shape, rows, &STANDING_WORDS),
-    );
-    Ok(())
+    stand_still::<R, Keys>(rt, alloc, &STANDING[..steps], &STANDING_WORDS)
 }
 
 // It stands still after the first steps of the same list in a map.
 fn stand_behind_in_a_map<R: Abort>(rt: &R, alloc: Global, steps: usize) -> Result<(), Fail>
     requires { steps ≤ 32 }
 {
-    let shape = Shape::new(3, 1, 10_000)?.with_values();
-    let rows = &STANDING_WITH_VALUES[..steps];
-    go_on(
-        rt,
-        table_after::<R, Entries>(rt, alloc, shape, rows, &STANDING_WORDS),
-    );
-    Ok(())
+    stand_still::<R, Entries>(rt, alloc, &STANDING_WITH_VALUES[..steps], &STANDING_WORDS)
 }
 
 // It stands still after the first steps of the list in which it has a node in hand, or has put it in
@@ -119,13 +114,7 @@ fn stand_behind_in_a_map<R: Abort>(rt: &R, alloc: Global, steps: usize) -> Resul
 fn stand_behind_replacing<R: Abort>(rt: &R, alloc: Global, steps: usize) -> Result<(), Fail>
     requires { steps ≤ 43 }
 {
-    let shape = Shape::new(3, 1, 10_000)?.with_values();
-    let rows = &REPLACED_VALUE[..steps];
-    go_on(
-        rt,
-        table_after::<R, Entries>(rt, alloc, shape, rows, &REPLACED_VALUE_WORDS),
-    );
-    Ok(())
+    stand_still::<R, Entries>(rt, alloc, &REPLACED_VALUE[..steps], &REPLACED_VALUE_WORDS)
 }
 
 #[test]

@@ -1,4 +1,5 @@
 //! Stores where two passes meet: what one call finds of another that stands still on the way.
+use crate::entries;
 use crate::entries::Made;
 use crate::rows::{Row, expect};
 use std::alloc::Global;
@@ -6,19 +7,32 @@ use std::process::Abort;
 use std::test::Fail;
 use vbr_list::Wanted;
 
+// Two calls with which a test begins, and the value that key 1 then has.
+#[derive(Clone, Copy)]
+struct Before {
+    calls: [Row<'static, Made>; 2],
+    there: Option<u64>,
+}
+
 // Pass 0 has inserted key 1, and pass 1 has replaced its value, 101, by 201, with no steps left to unlink the
 // old node. So the head names slot 0, which is marked, and that names slot 1.
-const REPLACED: [Row<'static, Made>; 2] = [
-    Row::Call(0, 100, Made::Insert(1, 101, Ok(true))),
-    Row::Call(1, 34, Made::Store(1, 201, Wanted::Present, Ok(Some(101)))),
-];
+const REPLACED: Before = Before {
+    calls: [
+        Row::Call(0, 100, Made::Insert(1, 101, Ok(true))),
+        Row::Call(1, 34, Made::Store(1, 201, Wanted::Present, Ok(Some(101)))),
+    ],
+    there: Some(201),
+};
 
 // Pass 0 has inserted key 1, and pass 1 has removed it, with no steps left to unlink its node. So the head
 // names slot 0, which is marked.
-const REMOVED: [Row<'static, Made>; 2] = [
-    Row::Call(0, 100, Made::Insert(1, 101, Ok(true))),
-    Row::Call(1, 18, Made::Remove(1, Ok(Some(101)))),
-];
+const REMOVED: Before = Before {
+    calls: [
+        Row::Call(0, 100, Made::Insert(1, 101, Ok(true))),
+        Row::Call(1, 18, Made::Remove(1, Ok(Some(101)))),
+    ],
+    there: None,
+};
 
 // A store of key 1 by pass 0: what is wanted, the least budget that is enough, and the steps that it makes with that.
 type Stored = (Wanted, u32, u64);
@@ -27,38 +41,32 @@ type Stored = (Wanted, u32, u64);
 fn expect_after(
     rt: &impl Abort,
     alloc: Global,
-    before: [Row<'static, Made>; 2],
+    before: Before,
     rows: &[Row<Made>],
 ) -> Result<(), Fail> {
     let mut all = Vec::new(alloc);
-    all.extend_from_slice(&before)?;
+    all.extend_from_slice(&before.calls)?;
     all.extend_from_slice(rows)?;
     expect(rt, alloc, (3, 1, 10), &all)
 }
 
-// Makes a store of 301 after two calls, which answers the value that is there, with each budget that is too few and
-// with the least that is enough: refused it leaves the map as it was, though it may have helped a marked node out of
-// the list.
+// Makes each store, of 301, after two calls. Refused it may have helped a marked node out of the list.
 fn expect_stored(
     rt: &impl Abort,
     alloc: Global,
-    before: [Row<'static, Made>; 2],
-    there: Option<u64>,
-    stored: Stored,
+    before: Before,
+    stores: &[Stored],
 ) -> Result<(), Fail> {
-    let (wanted, least, steps) = stored;
-    for budget in 0..least {
-        let rows = [
-            Row::Call(0, budget, Made::Tired(1, 301, wanted)),
-            Row::Call(1, 100, Made::Get(1, Ok(there))),
-        ];
-        expect_after(rt, alloc, before, &rows)?;
+    for (wanted, least, steps) in stores {
+        entries::expect_stored(
+            |rows| expect_after(rt, alloc, before, rows),
+            [0, 1],
+            (1, 301, *wanted),
+            before.there,
+            (*least, *steps),
+        )?;
     }
-    let rows = [
-        Row::Call(0, least, Made::Store(1, 301, wanted, Ok(there))),
-        Row::Steps(steps),
-    ];
-    expect_after(rt, alloc, before, &rows)
+    Ok(())
 }
 
 /// A search past a replaced node takes 16 steps: 3 to the head, 3 to the marked node, 5 to help it out, and 5 to
@@ -74,10 +82,7 @@ fn stores_on_a_replaced_node(rt: HostRuntime) -> Result<(), Fail> {
         (Wanted::Absent, 24, 19),
         (Wanted::Anything, 29, 27),
     ];
-    for stored in stores {
-        expect_stored(&rt, rt.alloc(), REPLACED, Some(201), stored)?;
-    }
-    Ok(())
+    expect_stored(&rt, rt.alloc(), REPLACED, &stores)
 }
 
 /// A search past a removed node takes 9 steps: 3 to the head, 3 to the node, and 3 to help it out. A slot takes 5,
@@ -90,10 +95,7 @@ fn stores_on_a_removed_node(rt: HostRuntime) -> Result<(), Fail> {
         (Wanted::Value(101), 17, 10),
         (Wanted::Anything, 22, 18),
     ];
-    for stored in stores {
-        expect_stored(&rt, rt.alloc(), REMOVED, None, stored)?;
-    }
-    Ok(())
+    expect_stored(&rt, rt.alloc(), REMOVED, &stores)
 }
 
 /// With eight steps more the second store's old node leaves too, and both slots are its pass's.

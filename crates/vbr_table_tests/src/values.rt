@@ -3,15 +3,13 @@
 ghost use Rattle.std.specs.Prelude.{◌≡◌, true, false, IfOk};
 
 use crate::world::{
-    ABSENT, FRESH, OPENED, REBORN_PLACES, SAME_WORD_PLACES, call, events_of, expect, expect_stamp,
-    expect_stop, expect_whole, follow, look, look_up_behind, make, stop_of, word_at,
+    ABSENT, FRESH, Look, OPENED, bare_places, call, events_of, expect, expect_bare, expect_stamp,
+    expect_stop, expect_whole, follow, look_up_behind, make, stop_of, word_at,
 };
 use std::alloc::{AllocError, Global};
 use std::process::Abort;
 use std::test::Fail;
-use vbr_event_lists::{
-    REBORN_SLOT, REPLACED_VALUE, Row, SAME_WORD, STORED_VALUE, TWO_HELPERS, with_values,
-};
+use vbr_event_lists::{REBORN_SLOT, REPLACED_VALUE, Row, STORED_VALUE, TWO_HELPERS, with_values};
 use vbr_words::{At, Place, Shape};
 use vbr_world::{
     Call, CoreRefusal, Effect, Event, Op, PlainMap, SlotPlace, Step, World, replay_with_entries,
@@ -58,103 +56,72 @@ fn expect_same_at(rt: &impl Abort, plain: &World, world: &World, shape: Shape, p
 }
 
 // Compares the words that a shape has without values, in a world without and in one with them.
-fn expect_same(rt: &impl Abort, plain: &World, world: &World, shape: Shape)
+fn expect_same(
+    rt: &impl Abort,
+    alloc: Global,
+    plain: &World,
+    world: &World,
+    shape: Shape,
+) -> Result<(), AllocError>
     requires plain { plain.now.start.shape ≡ shape }
     requires world { world.now.start.shape ≡ record shape { values = true } }
 {
-    for place in [
-        Place::Epoch,
-        Place::ShapeWord,
-        Place::Head(0),
-        Place::Flags(0),
-    ] {
-        expect_same_at(rt, plain, world, shape, place);
+    for place in bare_places(alloc, shape)?.iter() {
+        expect_same_at(rt, plain, world, shape, *place);
     }
     for slot in 0..shape.slots() {
-        for place in [
-            Place::LinkOf(slot),
-            Place::Birth(slot),
-            Place::Stamp(slot),
-            Place::Key(slot),
-        ] {
-            expect_same_at(rt, plain, world, shape, place);
-        }
         assert_eq!(rt; word_at(plain, shape, Place::Value(slot)), None);
     }
+    Ok(())
 }
 
-// Makes the steps of a list on nodes without values, and those of the list with values on nodes that
-// have them. Compares their words and the values at the end, and gives the world with values.
+// Makes the steps of a list on nodes without values, with looks, and those of the list with values on nodes that
+// have them. Compares their words.
 fn follow_both(
     rt: &impl Abort,
     alloc: Global,
     shape: Shape,
     rows: &[Row],
-    values: &[u64],
-) -> Result<World, Fail>
+    looks: &[Look],
+) -> Result<(World, World), Fail>
     requires { shape.values ≡ false }
-    ensures { IfOk result (λ world. world.start.shape ≡ record shape { values = true }) }
+    ensures plain { IfOk result (λ r. r.0.start.shape ≡ shape) }
+    ensures world { IfOk result (λ r. r.1.start.shape ≡ record shape { values = true }) }
 {
-    let plain = follow(rt, alloc, shape, rows, &[])?;
+    let plain = follow(rt, alloc, shape, rows, looks)?;
     let valued_rows = with_values(alloc, rows)?;
     let world = follow(rt, alloc, shape.with_values(), &valued_rows, &[])?;
-    expect_same(rt, &plain, &world, shape);
-    for slot in 0..shape.slots() {
+    expect_same(rt, alloc, &plain, &world, shape)?;
+    Ok((plain, world))
+}
+
+/// Makes the steps of a list on nodes without values and on nodes with them, in one bucket, and compares their words, the
+/// calls, where each slot is and the value that it has in the end, and the number of incarnations. Each call has a
+/// hundred more than its key for its value, where there are any, and is answered as by a plain map.
+pub(crate) fn expect_both(
+    rt: &impl Abort,
+    alloc: Global,
+    rows: &[Row],
+    looks: &[Look],
+    calls: &[Call],
+    slots: &[(SlotPlace, u64)],
+    incarnations: u64,
+) -> Result<(), Fail> {
+    let shape = Shape::new(u32::try_from(slots.len()).unwrap_or(u32::MAX), 1, 10)?;
+    let (plain, world) = follow_both(rt, alloc, shape, rows, looks)?;
+    let places: Vec<SlotPlace> = slots.iter().map(|(place, _)| *place).collect(alloc)?;
+    expect(rt, &plain, shape, calls, &places, incarnations);
+    for (slot, (_, value)) in (0..).zip(slots) {
         let told = word_at(&world, shape.with_values(), Place::Value(slot));
-        assert_eq!(rt; told.as_ref(), values.get(slot as usize), "slot {slot}");
+        assert_eq!(rt; told, Some(*value), "slot {slot}");
     }
-    Ok(world)
-}
-
-#[test]
-fn a_reborn_slot(rt: HostRuntime) -> Result<(), Fail> {
-    let shape = Shape::new(3, 1, 10)?;
-    let world = follow_both(&rt, rt.alloc(), shape, &REBORN_SLOT, &[130, 110, 125])?;
-    let calls = [
-        valued(0, Op::Insert, 30, 130),
-        valued(0, Op::Insert, 20, 120),
-        valued(0, Op::Remove, 20, 120),
-        valued(0, Op::Insert, 10, 110),
-    ];
-    expect(&rt, &world, shape.with_values(), &calls, &REBORN_PLACES, 4);
-    Ok(expect_map(&rt, rt.alloc(), &[], &calls)?)
-}
-
-#[test]
-fn a_word_that_comes_back(rt: HostRuntime) -> Result<(), Fail> {
-    let shape = Shape::new(3, 1, 10)?;
-    let world = follow_both(&rt, rt.alloc(), shape, &SAME_WORD, &[130, 120, 110])?;
-    let calls = [
-        valued(0, Op::Insert, 30, 130),
-        valued(0, Op::Insert, 10, 110),
-        valued(0, Op::Remove, 10, 110),
-        valued(1, Op::Insert, 20, 120),
-    ];
-    expect(
-        &rt,
-        &world,
-        shape.with_values(),
-        &calls,
-        &SAME_WORD_PLACES,
-        3,
-    );
-    Ok(expect_map(&rt, rt.alloc(), &[], &calls)?)
-}
-
-#[test]
-fn two_helpers(rt: HostRuntime) -> Result<(), Fail> {
-    let shape = Shape::new(1, 1, 10)?;
-    let world = follow_both(&rt, rt.alloc(), shape, &TWO_HELPERS, &[107])?;
-    let calls = [valued(0, Op::Insert, 7, 107), valued(0, Op::Remove, 7, 107)];
-    expect(
-        &rt,
-        &world,
-        shape.with_values(),
-        &calls,
-        &[SlotPlace::Own(1)],
-        1,
-    );
-    Ok(expect_map(&rt, rt.alloc(), &[], &calls)?)
+    let mut valued_calls = Vec::new(alloc);
+    for call in calls {
+        valued_calls.push(valued(call.who, call.op, call.key, call.key.saturating_add(100)))?;
+    }
+    let shape = shape.with_values();
+    expect(rt, &world, shape, &valued_calls, &places, incarnations);
+    Ok(expect_map(rt, alloc, &[], &valued_calls)?)
 }
 
 /// A look-up passes a marked node as it does without values, once its marked link is checked.
@@ -194,7 +161,8 @@ fn replays_a_list_with_values(rt: HostRuntime) -> Result<(), Fail> {
 #[test]
 fn opens_fresh_with_values(rt: HostRuntime) -> Result<(), Fail> {
     let shape = Shape::new(1, 1, 10)?.with_values();
-    let world = follow(&rt, rt.alloc(), shape, &[], &FRESH)?;
+    let world = follow(&rt, rt.alloc(), shape, &[], &[])?;
+    expect_bare(&rt, rt.alloc(), &world, shape, &FRESH)?;
     assert_eq!(rt; word_at(&world, shape, Place::Value(0)), Some(0));
     Ok(())
 }
@@ -202,11 +170,7 @@ fn opens_fresh_with_values(rt: HostRuntime) -> Result<(), Fail> {
 #[test]
 fn a_stored_value_is_got(rt: HostRuntime) -> Result<(), Fail> {
     let shape = Shape::new(1, 1, 10)?.with_values();
-    let looks = [
-        (4, Place::Value(0), 0),
-        (5, Place::Value(0), 107),
-        (21, Place::Value(0), 107),
-    ];
+    let looks: [Look; 1] = [(Place::Value(0), &[(4, 0), (5, 107), (21, 107)])];
     let world = follow(&rt, rt.alloc(), shape, &STORED_VALUE, &looks)?;
     let calls = [
         valued(0, Op::Insert, 7, 107),
@@ -221,12 +185,12 @@ fn a_stored_value_is_got(rt: HostRuntime) -> Result<(), Fail> {
 #[test]
 fn a_value_is_replaced(rt: HostRuntime) -> Result<(), Fail> {
     let shape = Shape::new(3, 1, 10)?.with_values();
-    let looks = [
-        (28, Place::LinkOf(0), 50_331_650),
-        (28, Place::Head(0), 33_554_433),
-        (43, Place::Value(0), 107),
-        (43, Place::Value(1), 207),
-        (43, Place::Value(2), 307),
+    let looks: [Look; 5] = [
+        (Place::LinkOf(0), &[(28, 50_331_650)]),
+        (Place::Head(0), &[(28, 33_554_433)]),
+        (Place::Value(0), &[(43, 107)]),
+        (Place::Value(1), &[(43, 207)]),
+        (Place::Value(2), &[(43, 307)]),
     ];
     let world = follow(&rt, rt.alloc(), shape, &REPLACED_VALUE, &looks)?;
     let calls = [
@@ -246,20 +210,22 @@ fn a_value_is_replaced(rt: HostRuntime) -> Result<(), Fail> {
     Ok(expect_map(&rt, rt.alloc(), &[], &calls)?)
 }
 
+// A get of a key in an empty list.
+const ABSENT_GET: Step = Step::ConfirmAbsent {
+    op: Op::Get,
+    key: 7,
+    at: At::Head(0),
+    expected: 0,
+};
+
 #[test]
 fn a_get_of_an_absent_key_has_no_value(rt: HostRuntime) -> Result<(), Fail> {
     let shape = Shape::new(1, 1, 10)?.with_values();
-    let get = Step::ConfirmAbsent {
-        op: Op::Get,
-        key: 7,
-        at: At::Head(0),
-        expected: 0,
-    };
     let rows = [
         (0, Step::ReadEpoch, Effect::Value(1)),
         (0, Step::LoadLink { at: At::Head(0) }, Effect::Value(0)),
         (0, Step::ReadEpoch, Effect::Value(1)),
-        (0, get, Effect::Answered(false)),
+        (0, ABSENT_GET, Effect::Answered(false)),
     ];
     let world = follow(&rt, rt.alloc(), shape, &rows, &[])?;
     let no = Call {
@@ -413,12 +379,6 @@ fn asks_for_a_value_since_the_birth(rt: HostRuntime) -> Result<(), Fail> {
 #[test]
 fn a_set_has_no_values(rt: HostRuntime) -> Result<(), Fail> {
     let shape = Shape::new(1, 1, 10)?;
-    let absent = Step::ConfirmAbsent {
-        op: Op::Get,
-        key: 7,
-        at: At::Head(0),
-        expected: 0,
-    };
     let steps = [
         Step::StoreValue { slot: 0, value: 5 },
         Step::LoadValue { slot: 0 },
@@ -428,7 +388,7 @@ fn a_set_has_no_values(rt: HostRuntime) -> Result<(), Fail> {
             new: 0,
         },
         GET,
-        absent,
+        ABSENT_GET,
     ];
     for step in steps {
         let stop = stop_of(rt.alloc(), shape, 1, &[Event { pass: 0, step }]);
@@ -442,14 +402,10 @@ fn a_set_has_no_values(rt: HostRuntime) -> Result<(), Fail> {
 fn opens_with_entries(rt: HostRuntime) -> Result<(), Fail> {
     let shape = Shape::new(4, 2, 10)?.with_values();
     let world = World::open_with_entries(rt.alloc(), shape, 2, &[(2, 102), (5, 105), (9, 109)])?;
-    let values = [
-        (0, Place::Value(0), 102),
-        (0, Place::Value(1), 105),
-        (0, Place::Value(2), 109),
-        (0, Place::Value(3), 0),
-    ];
-    assert_eq!(rt; look(&rt, &world, shape, 0, &OPENED), 21);
-    assert_eq!(rt; look(&rt, &world, shape, 0, &values), 4);
+    expect_bare(&rt, rt.alloc(), &world, shape, &OPENED)?;
+    for (slot, value) in [(0, 102), (1, 105), (2, 109), (3, 0)] {
+        assert_eq!(rt; word_at(&world, shape, Place::Value(slot)), Some(value));
+    }
     assert_eq!(rt; world.incarnations(), 3);
     Ok(())
 }
@@ -519,14 +475,15 @@ fn replays_from_entries(rt: HostRuntime) -> Result<(), Fail> {
     let calls = [valued(0, Op::Get, 5, 105), valued(0, Op::Remove, 5, 105)];
     assert_eq!(rt; world.calls(), calls.as_slice());
     assert_eq!(rt; world.incarnations(), 3);
-    let looks = [
-        (9, Place::Head(1), 33_554_434),
-        (9, Place::LinkOf(1), 50_331_651),
-        (9, Place::Value(1), 105),
-        (9, Place::Value(2), 109),
-        (9, Place::Value(3), 0),
-    ];
-    assert_eq!(rt; look(&rt, &world, shape, 9, &looks), 5);
+    for (place, word) in [
+        (Place::Head(1), 33_554_434),
+        (Place::LinkOf(1), 50_331_651),
+        (Place::Value(1), 105),
+        (Place::Value(2), 109),
+        (Place::Value(3), 0),
+    ] {
+        assert_eq!(rt; word_at(&world, shape, place), Some(word), "{place:?}");
+    }
     let step = Step::LoadKey { slot: 3 };
     events.push(Event { pass: 0, step })?;
     for (passes, stop) in [

@@ -1,4 +1,5 @@
 //! Link words, shapes and the places of words.
+use std::process::Abort;
 use std::test::Fail;
 use vbr_words::{
     Link, Place, Shape, ShapeError, SpreadError, decode, encode, place_index, version_of,
@@ -56,31 +57,22 @@ fn unpacks_words(rt: HostRuntime) {
 
 #[test]
 fn lays_out_words(rt: HostRuntime) -> Result<(), Fail> {
-    let shape = Shape::new(3, 2, 10)?;
-    assert!(rt; shape.slots() == 3 && shape.buckets() == 2 && shape.last_epoch() == 10);
-    let rows = [
-        (place_index(&shape, Place::LinkOf(1)), 8),
-        (place_index(&shape, Place::Key(0)), 7),
-        (place_index(&shape, Place::Flags(0)), 16),
-        (word_count(&shape), 17),
-    ];
-    for (index, wanted) in rows {
-        assert_eq!(rt; index, wanted);
+    let bare = Shape::new(3, 2, 10)?;
+    let valued = bare.with_values();
+    assert!(rt; valued.has_values() && !valued.without_values().has_values());
+    for shape in [bare, valued] {
+        assert!(rt; shape.slots() == 3 && shape.buckets() == 2 && shape.last_epoch() == 10);
     }
-    Ok(())
-}
-
-#[test]
-fn lays_out_values(rt: HostRuntime) -> Result<(), Fail> {
-    let shape = Shape::new(3, 2, 10)?.with_values();
-    assert!(rt; shape.has_values() && !shape.without_values().has_values());
-    assert!(rt; shape.slots() == 3 && shape.buckets() == 2 && shape.last_epoch() == 10);
     let rows = [
-        (place_index(&shape, Place::LinkOf(1)), 9),
-        (place_index(&shape, Place::Key(0)), 7),
-        (place_index(&shape, Place::Value(0)), 8),
-        (place_index(&shape, Place::Flags(0)), 19),
-        (word_count(&shape), 20),
+        (place_index(&bare, Place::LinkOf(1)), 8),
+        (place_index(&bare, Place::Key(0)), 7),
+        (place_index(&bare, Place::Flags(0)), 16),
+        (word_count(&bare), 17),
+        (place_index(&valued, Place::LinkOf(1)), 9),
+        (place_index(&valued, Place::Key(0)), 7),
+        (place_index(&valued, Place::Value(0)), 8),
+        (place_index(&valued, Place::Flags(0)), 19),
+        (word_count(&valued), 20),
     ];
     for (index, wanted) in rows {
         assert_eq!(rt; index, wanted);
@@ -140,34 +132,25 @@ fn refuses_buckets_to_spread_over(rt: HostRuntime) -> Result<(), Fail> {
     Ok(())
 }
 
+// Compares the buckets of keys.
+fn expect_buckets(rt: &impl Abort, shape: Shape, rows: &[(u64, u32)]) {
+    for (key, bucket) in rows {
+        assert_eq!(rt; shape.bucket_of(*key), *bucket, "{key}");
+    }
+}
+
 /// The buckets are worked by hand: key · 11400714819323198485 mod 2^64, its upper 32 bits, times the
 /// number of buckets, divided by 2^32.
 #[test]
 fn spreads_keys(rt: HostRuntime) -> Result<(), Fail> {
     let shape = Shape::new(1, 1, 1)?;
-    let one = shape.spread_over(1)?;
-    let three = shape.spread_over(3)?;
-    let sixteen = shape.spread_over(16)?;
-    let widest = shape.spread_over(16_777_216)?;
-    let rows = [
-        (one, 3, 0),
-        (one, u64::MAX, 0),
-        (three, 0, 0),
-        (three, 1, 1),
-        (three, 2, 0),
-        (three, 3, 2),
-        (three, u64::MAX, 1),
-        (sixteen, 1, 9),
-        (sixteen, 2, 3),
-        (sixteen, 3, 13),
-        (sixteen, 4096, 7),
-        (widest, 1, 10_368_889),
-        (widest, 4096, 7_838_615),
-        (widest, u64::MAX, 6_408_326),
-    ];
-    for (shape, key, bucket) in rows {
-        assert_eq!(rt; shape.bucket_of(key), bucket, "{key}");
-    }
+    expect_buckets(&rt, shape.spread_over(1)?, &[(3, 0), (u64::MAX, 0)]);
+    let in_three = [(0, 0), (1, 1), (2, 0), (3, 2), (u64::MAX, 1)];
+    expect_buckets(&rt, shape.spread_over(3)?, &in_three);
+    let in_sixteen = [(1, 9), (2, 3), (3, 13), (4096, 7)];
+    expect_buckets(&rt, shape.spread_over(16)?, &in_sixteen);
+    let in_most = [(1, 10_368_889), (4096, 7_838_615), (u64::MAX, 6_408_326)];
+    expect_buckets(&rt, shape.spread_over(16_777_216)?, &in_most);
     Ok(())
 }
 
@@ -175,23 +158,14 @@ fn spreads_keys(rt: HostRuntime) -> Result<(), Fail> {
 #[test]
 fn spreads_keys_by_seeds(rt: HostRuntime) -> Result<(), Fail> {
     let shape = Shape::new(1, 1, 1)?;
-    let rows = [
-        (0, 1, 9),
-        (0, 4096, 7),
-        (1, 1, 13),
-        (1, 2, 11),
-        (1, 4096, 6),
-        (1, u64::MAX, 2),
-        (7, 1, 4),
-        (7, 2, 8),
-        (7, 4096, 0),
-        (7, u64::MAX, 11),
-        (u64::MAX, 1, 6),
-        (u64::MAX, 4096, 8),
+    let rows: [(u64, &[(u64, u32)]); 4] = [
+        (0, &[(1, 9), (4096, 7)]),
+        (1, &[(1, 13), (2, 11), (4096, 6), (u64::MAX, 2)]),
+        (7, &[(1, 4), (2, 8), (4096, 0), (u64::MAX, 11)]),
+        (u64::MAX, &[(1, 6), (4096, 8)]),
     ];
-    for (seed, key, bucket) in rows {
-        let sixteen = shape.spread_with(16, seed)?;
-        assert_eq!(rt; sixteen.bucket_of(key), bucket, "{seed}");
+    for (seed, buckets) in rows {
+        expect_buckets(&rt, shape.spread_with(16, seed)?, buckets);
     }
     Ok(())
 }
@@ -220,19 +194,8 @@ fn tells_seeds(rt: HostRuntime) -> Result<(), Fail> {
 
 #[test]
 fn finds_buckets(rt: HostRuntime) -> Result<(), Fail> {
-    let sixteen = Shape::new(1, 16, 1)?;
-    let three = Shape::new(1, 3, 1)?;
-    let rows = [
-        (sixteen, u64::MAX, 15),
-        (sixteen, 32, 0),
-        (three, 0, 0),
-        (three, 2, 2),
-        (three, 3, 0),
-        (three, u64::MAX, 0),
-        (three, u64::MAX - 1, 2),
-    ];
-    for (shape, key, bucket) in rows {
-        assert_eq!(rt; shape.bucket_of(key), bucket, "{key}");
-    }
+    expect_buckets(&rt, Shape::new(1, 16, 1)?, &[(u64::MAX, 15), (32, 0)]);
+    let in_three = [(0, 0), (2, 2), (3, 0), (u64::MAX, 0), (u64::MAX - 1, 2)];
+    expect_buckets(&rt, Shape::new(1, 3, 1)?, &in_three);
     Ok(())
 }

@@ -1,6 +1,7 @@
 //! The machine's world: worked lists of events, refusals, a fresh world, and one that opens with keys.
 ghost use Rattle.std.specs.Prelude.{◌≡◌, IfOk};
 
+use crate::values::expect_both;
 use std::alloc::{AllocError, Global};
 use std::process::Abort;
 use std::test::Fail;
@@ -29,8 +30,8 @@ pub(crate) fn word_at(world: &World, shape: Shape, place: Place) -> Option<u64>
     if is_in { Some(world.word(place)) } else { None }
 }
 
-// How many rows are made before a look, the place, and the word that stands there.
-type Look = (usize, Place, u64);
+// A place, and the words that stand there after so many rows each.
+pub(crate) type Look = (Place, &'static [(usize, u64)]);
 
 // Compares the words that are looked at after so many rows, and tells how many these are.
 pub(crate) fn look(
@@ -45,14 +46,25 @@ pub(crate) fn look(
     requires values { world.now.start.shape.values ≡ shape.values }
 {
     let mut looked = 0usize;
-    for (after, place, word) in looks {
-        if *after == rows {
-            let told = word_at(world, shape, *place);
-            assert_eq!(rt; told, Some(*word), "{place:?} behind {rows} rows");
-            looked = looked.saturating_add(1);
+    for (place, words) in looks {
+        for (after, word) in words.iter() {
+            if *after == rows {
+                let told = word_at(world, shape, *place);
+                assert_eq!(rt; told, Some(*word), "{place:?} behind {rows} rows");
+                looked = looked.saturating_add(1);
+            }
         }
     }
     looked
+}
+
+// How many words are looked at.
+fn count_of(looks: &[Look]) -> usize {
+    let mut count = 0usize;
+    for (_, words) in looks {
+        count = count.saturating_add(words.len());
+    }
+    count
 }
 
 // Makes the step of a row, and compares its effect. A step that found no memory left the world as it was, so it
@@ -88,7 +100,7 @@ pub(crate) fn follow(
         made = made.saturating_add(1);
         looked = looked.saturating_add(look(rt, &world, shape, made, looks));
     }
-    assert_eq!(rt; looked, looks.len());
+    assert_eq!(rt; looked, count_of(looks));
     Ok(world)
 }
 
@@ -128,88 +140,71 @@ pub(crate) fn call(who: u32, op: Op, key: u64) -> Call {
     }
 }
 
-// Where the slots are after the list of a reborn slot, and after that of a word that comes back.
-pub(crate) const REBORN_PLACES: [SlotPlace; 3] = [
-    SlotPlace::Listed(0),
-    SlotPlace::Listed(0),
-    SlotPlace::Hand(1),
-];
+// An insert that was answered yes.
+fn insert(who: u32, key: u64) -> Call {
+    call(who, Op::Insert, key)
+}
 
-pub(crate) const SAME_WORD_PLACES: [SlotPlace; 3] = [
-    SlotPlace::Listed(0),
-    SlotPlace::Listed(0),
-    SlotPlace::Own(0),
-];
+// A remove that was answered yes.
+fn remove(who: u32, key: u64) -> Call {
+    call(who, Op::Remove, key)
+}
+
+// The place of a slot that is linked in the one bucket.
+const LISTED: SlotPlace = SlotPlace::Listed(0);
 
 #[test]
 fn follows_a_reborn_slot(rt: HostRuntime) -> Result<(), Fail> {
-    let shape = Shape::new(3, 1, 10)?;
-    let looks = [
-        (9, Place::Head(0), 33_554_433),
-        (14, Place::Head(0), 33_554_434),
-        (29, Place::LinkOf(1), 50_331_649),
-        (30, Place::Head(0), 33_554_433),
-        (42, Place::LinkOf(1), 67_108_865),
-        (43, Place::Head(0), 67_108_866),
-        (44, Place::Epoch, 2),
+    let looks: [Look; 3] = [
+        (
+            Place::Head(0),
+            &[
+                (9, 33_554_433),
+                (14, 33_554_434),
+                (30, 33_554_433),
+                (43, 67_108_866),
+            ],
+        ),
+        (Place::LinkOf(1), &[(29, 50_331_649), (42, 67_108_865)]),
+        (Place::Epoch, &[(44, 2)]),
     ];
-    let world = follow(&rt, rt.alloc(), shape, &REBORN_SLOT, &looks)?;
-    let calls = [
-        call(0, Op::Insert, 30),
-        call(0, Op::Insert, 20),
-        call(0, Op::Remove, 20),
-        call(0, Op::Insert, 10),
-    ];
-    expect(&rt, &world, shape, &calls, &REBORN_PLACES, 4);
-    Ok(())
+    let calls = [insert(0, 30), insert(0, 20), remove(0, 20), insert(0, 10)];
+    let slots = [(LISTED, 130), (LISTED, 110), (SlotPlace::Hand(1), 125)];
+    expect_both(&rt, rt.alloc(), &REBORN_SLOT, &looks, &calls, &slots, 4)
 }
 
 #[test]
 fn follows_a_word_that_comes_back(rt: HostRuntime) -> Result<(), Fail> {
-    let shape = Shape::new(3, 1, 10)?;
-    let looks = [
-        (9, Place::LinkOf(0), 67_108_864),
-        (33, Place::LinkOf(2), 167_772_161),
-        (34, Place::Head(0), 167_772_163),
-        (35, Place::LinkOf(2), 184_549_377),
-        (36, Place::Head(0), 67_108_865),
-        (37, Place::Head(0), 67_108_866),
-        (37, Place::Epoch, 5),
+    let looks: [Look; 4] = [
+        (Place::Epoch, &[(37, 5)]),
+        (Place::LinkOf(0), &[(9, 67_108_864)]),
+        (Place::LinkOf(2), &[(33, 167_772_161), (35, 184_549_377)]),
+        (
+            Place::Head(0),
+            &[(34, 167_772_163), (36, 67_108_865), (37, 67_108_866)],
+        ),
     ];
-    let world = follow(&rt, rt.alloc(), shape, &SAME_WORD, &looks)?;
-    let calls = [
-        call(0, Op::Insert, 30),
-        call(0, Op::Insert, 10),
-        call(0, Op::Remove, 10),
-        call(1, Op::Insert, 20),
-    ];
-    expect(&rt, &world, shape, &calls, &SAME_WORD_PLACES, 3);
-    Ok(())
+    let calls = [insert(0, 30), insert(0, 10), remove(0, 10), insert(1, 20)];
+    let slots = [(LISTED, 130), (LISTED, 120), (SlotPlace::Own(0), 110)];
+    expect_both(&rt, rt.alloc(), &SAME_WORD, &looks, &calls, &slots, 3)
 }
 
 #[test]
 fn follows_two_helpers(rt: HostRuntime) -> Result<(), Fail> {
-    let shape = Shape::new(1, 1, 10)?;
-    let looks = [(18, Place::Head(0), 0)];
-    let world = follow(&rt, rt.alloc(), shape, &TWO_HELPERS, &looks)?;
-    let calls = [call(0, Op::Insert, 7), call(0, Op::Remove, 7)];
-    expect(&rt, &world, shape, &calls, &[SlotPlace::Own(1)], 1);
-    Ok(())
+    let looks: [Look; 1] = [(Place::Head(0), &[(18, 0)])];
+    let (calls, slots) = ([insert(0, 7), remove(0, 7)], [(SlotPlace::Own(1), 107)]);
+    expect_both(&rt, rt.alloc(), &TWO_HELPERS, &looks, &calls, &slots, 1)
 }
 
 #[test]
 fn follows_a_slot_that_is_raised_in_hand(rt: HostRuntime) -> Result<(), Fail> {
-    let shape = Shape::new(1, 1, 10)?;
-    let looks = [
-        (11, Place::Birth(0), 2),
-        (11, Place::Flags(0), 1),
-        (14, Place::Birth(0), 1),
-        (16, Place::Head(0), 33_554_433),
+    let looks: [Look; 3] = [
+        (Place::Birth(0), &[(11, 2), (14, 1)]),
+        (Place::Flags(0), &[(11, 1)]),
+        (Place::Head(0), &[(16, 33_554_433)]),
     ];
-    let world = follow(&rt, rt.alloc(), shape, &RAISED_IN_HAND, &looks)?;
-    let calls = [call(1, Op::Insert, 7)];
-    expect(&rt, &world, shape, &calls, &[SlotPlace::Listed(0)], 2);
-    Ok(())
+    let (calls, slots) = ([insert(1, 7)], [(LISTED, 107)]);
+    expect_both(&rt, rt.alloc(), &RAISED_IN_HAND, &looks, &calls, &slots, 2)
 }
 
 // A look-up for the key of the node that the list of two helpers marks.
@@ -446,49 +441,84 @@ fn takes_a_slot_once(rt: HostRuntime) -> Result<(), Fail> {
     Ok(())
 }
 
-// The words of a fresh world of one slot and one bucket; where nodes have values there is one more.
-pub(crate) const FRESH: [Look; 8] = [
-    (0, Place::Epoch, 1),
-    (0, Place::ShapeWord, 167_772_161),
-    (0, Place::Head(0), 0),
-    (0, Place::LinkOf(0), 16_777_216),
-    (0, Place::Birth(0), 0),
-    (0, Place::Stamp(0), 0),
-    (0, Place::Key(0), 0),
-    (0, Place::Flags(0), 1),
-];
+// The places that a shape has without values, in their order.
+pub(crate) fn bare_places(alloc: Global, shape: Shape) -> Result<Vec<Place>, AllocError> {
+    let mut places = Vec::new(alloc);
+    places.extend_from_slice(&[Place::Epoch, Place::ShapeWord])?;
+    for bucket in 0..shape.buckets() {
+        places.push(Place::Head(bucket))?;
+    }
+    for slot in 0..shape.slots() {
+        places.extend_from_slice(&[
+            Place::LinkOf(slot),
+            Place::Birth(slot),
+            Place::Stamp(slot),
+            Place::Key(slot),
+        ])?;
+    }
+    for number in 0..flag_words(&shape) {
+        places.push(Place::Flags(number))?;
+    }
+    Ok(places)
+}
 
-#[test]
-fn opens_fresh(rt: HostRuntime) -> Result<(), Fail> {
-    let rows = [(0, Step::ReadEpoch, Effect::Value(1))];
-    follow(&rt, rt.alloc(), Shape::new(1, 1, 10)?, &rows, &FRESH)?;
+// Compares the words that stand there.
+pub(crate) fn expect_bare(
+    rt: &impl Abort,
+    alloc: Global,
+    world: &World,
+    shape: Shape,
+    words: &[u64],
+) -> Result<(), AllocError>
+    requires slots { world.now.start.shape.slots ≡ shape.slots }
+    requires buckets { world.now.start.shape.buckets ≡ shape.buckets }
+    requires values { world.now.start.shape.values ≡ shape.values }
+{
+    let places = bare_places(alloc, shape)?;
+    assert_eq!(rt; places.len(), words.len());
+    for (place, word) in places.iter().zip(words) {
+        assert_eq!(rt; word_at(world, shape, *place), Some(*word), "{place:?}");
+    }
     Ok(())
 }
 
-// The words of a world of four slots and two buckets that opens with the keys 2, 5 and 9, and has any
+// The words of a fresh world or table of one slot and one bucket; where nodes have values there is one more.
+pub(crate) const FRESH: [u64; 8] = [1, 167_772_161, 0, 16_777_216, 0, 0, 0, 1];
+
+#[test]
+fn opens_fresh(rt: HostRuntime) -> Result<(), Fail> {
+    let shape = Shape::new(1, 1, 10)?;
+    let world = follow(&rt, rt.alloc(), shape, &[], &[])?;
+    expect_bare(&rt, rt.alloc(), &world, shape, &FRESH)?;
+    let rows = [(0, Step::ReadEpoch, Effect::Value(1))];
+    follow(&rt, rt.alloc(), shape, &rows, &[])?;
+    Ok(())
+}
+
+// The words of a world or table of four slots and two buckets that opens with the keys 2, 5 and 9, and has any
 // values beside them.
-pub(crate) const OPENED: [Look; 21] = [
-    (0, Place::Epoch, 1),
-    (0, Place::ShapeWord, 167_772_164),
-    (0, Place::Head(0), 33_554_433),
-    (0, Place::Head(1), 33_554_434),
-    (0, Place::LinkOf(0), 33_554_432),
-    (0, Place::Birth(0), 1),
-    (0, Place::Stamp(0), 0),
-    (0, Place::Key(0), 2),
-    (0, Place::LinkOf(1), 33_554_435),
-    (0, Place::Birth(1), 1),
-    (0, Place::Stamp(1), 0),
-    (0, Place::Key(1), 5),
-    (0, Place::LinkOf(2), 33_554_432),
-    (0, Place::Birth(2), 1),
-    (0, Place::Stamp(2), 0),
-    (0, Place::Key(2), 9),
-    (0, Place::LinkOf(3), 16_777_216),
-    (0, Place::Birth(3), 0),
-    (0, Place::Stamp(3), 0),
-    (0, Place::Key(3), 0),
-    (0, Place::Flags(0), 8),
+pub(crate) const OPENED: [u64; 21] = [
+    1,
+    167_772_164,
+    33_554_433,
+    33_554_434,
+    33_554_432,
+    1,
+    0,
+    2,
+    33_554_435,
+    1,
+    0,
+    5,
+    33_554_432,
+    1,
+    0,
+    9,
+    16_777_216,
+    0,
+    0,
+    0,
+    8,
 ];
 
 /// Key number i stands in slot i, linked in its bucket's list. The other slots are in the shared pool.
@@ -496,7 +526,7 @@ pub(crate) const OPENED: [Look; 21] = [
 fn opens_with_keys(rt: HostRuntime) -> Result<(), Fail> {
     let shape = Shape::new(4, 2, 10)?;
     let world = World::open_with(rt.alloc(), shape, 2, &[2, 5, 9])?;
-    assert_eq!(rt; look(&rt, &world, shape, 0, &OPENED), 21);
+    expect_bare(&rt, rt.alloc(), &world, shape, &OPENED)?;
     assert_eq!(rt; world.incarnations(), 3);
     Ok(())
 }

@@ -29,6 +29,7 @@ pub use Rattle.vbr_machine.specs.Calls
 pub use Rattle.vbr_machine.specs.Messages
 pub mod OpeningMessages
 pub mod Answering
+pub mod MarkedWalks
 pub mod WorldInLists
 pub mod PassView
 pub mod WorldView

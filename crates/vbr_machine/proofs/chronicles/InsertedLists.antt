@@ -65,8 +65,6 @@ module _ (start : Start) (a : Incarnations) (pass c b : ℕ) (s : Sound start a)
 pub lists_inserts_at_head : (start : Start) (a : Incarnations) (pass c b : ℕ) → Sound start a →
     MayInsert start a pass c (AtHead b) → ListsSound start (becomes start a pass (Inserts c (AtHead b)))
 lists_inserts_at_head start a pass c b s h =
-    let held = h.in_hand in
-    let above = h.above in
     let below = h.below in
     record {
       handed = λ i n e q l.

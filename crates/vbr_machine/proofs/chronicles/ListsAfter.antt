@@ -1,18 +1,21 @@
 -- Each allowed event that neither inserts, replaces nor unlinks keeps what holds of the lists.
 use Rattle.std.proofs.Common.{◌≡◌, ◌≢◌, ℕ, Option, Some, None, refl, arith, ◌∙◌, inl, inr}
+use Rattle.std.specs.Prelude.{◌⊎◌}
+use Rattle.std.proofs.lemmas.Bool.{cases_eq}
 use Rattle.std.proofs.lemmas.Bool.Decides.{nat_tests}
 use Rattle.vbr_machine.specs.Start.{Start}
 use Rattle.vbr_words.specs.declared.link.Link.{Link}
 use Rattle.vbr_machine.specs.Put.{put}
 use Rattle.vbr_machine.specs.Keys.{Keys}
 use Rattle.vbr_words.specs.Buckets.{bucket_of}
-use Rattle.vbr_machine.specs.Incarnations.{State, Unborn, InHand, GivenUp, Linked, Marked, Stamped, Incarnations}
+use Rattle.vbr_machine.specs.Incarnations.{State, Unborn, InHand, GivenUp, Linked, Marked, Unlinked, Stamped}
+use Rattle.vbr_machine.specs.Incarnations.{Incarnations, IsLate}
 use Rattle.vbr_machine.specs.Images.{key_shown}
 use Rattle.vbr_machine.specs.Chronicles.{Advances, Gains, Raises, GivesUp, Bears, Keyed, Valued, Aims, Removes, Stamps}
-use Rattle.vbr_machine.specs.Chronicles.{Confirms, Allowed, unlinked_at, becomes}
-use Rattle.vbr_machine.specs.Sound.{IsListed, IsApart, ListsSound, Sound}
+use Rattle.vbr_machine.specs.Chronicles.{Confirms, Allowed, MayStamp, unlinked_at, becomes}
+use Rattle.vbr_machine.specs.Sound.{IsListed, IsInserted, IsApart, ListsSound, Sound}
 use Rattle.vbr_machine.specs.declared.history.Call.{Call}
-use Rattle.vbr_machine.proofs.words.Puts.{put_other}
+use Rattle.vbr_machine.proofs.words.Puts.{put_here, put_other}
 use Rattle.vbr_machine.proofs.chronicles.Lists.{listed_other, next_listed}
 
 -- where no key, rank, successor, state or first of a bucket changes
@@ -60,18 +63,40 @@ pub listed_still : (state : ℕ → State) (c : ℕ) (st : State) (j : ℕ) → 
     IsListed (state j)
 listed_still state c st j none l = grind (arith, nat_tests)
 
+-- a state comes of another: it is late, inserted or listed where that is, and linked where it stays so
+abbrev ComesOf : State → State → Type 0
+ComesOf x y =
+    ((e : ℕ) → IsLate x e → IsLate y e) × ((e : ℕ) → IsLate y e → IsLate x e) × (IsInserted x → IsInserted y) ×
+    (IsListed x → IsListed y) × (IsListed y → IsListed x) × (y ≡ Linked → x ≡ Linked)
+
+-- where nothing of the lists changes but states, and each comes of what it was
+lists_restated : (start : Start) (a b : Incarnations) → ListsSound start a →
+    ((j : ℕ) → ComesOf (a.state j) (b.state j)) →
+    ListsSound start (record b { key = a.key; rank = a.rank; next = a.next; first = a.first })
+lists_restated start a b s of = record {
+  handed = λ i n e q l. (of n).0 e (s.handed i n e q ((of i).1 e l));
+  inserted = λ i n q. let u = s.inserted i n q in ((of i).2 u.0, (of n).2 u.1);
+  ordered = s.ordered;
+  strict = λ i n q l. s.strict i n q ((of i).5 l);
+  first_in = λ k n q. let u = s.first_in k n q in ((of n).3 u.0, u.1);
+  apart = λ i d li ld q. s.apart i d ((of i).4 li) ((of d).4 ld) q;
+  behind_head = λ d ld. s.behind_head d ((of d).4 ld);
+}
+
+-- so it is where the state of one alone changes
+one_restated : (state : ℕ → State) (c : ℕ) (st : State) → ComesOf (state c) st → (j : ℕ) →
+    ComesOf (state j) (put state c st j)
+one_restated state c st of j = go (cases_eq j c)
+  where
+    go : (j ≡ c) ⊎ (j ≢ c) → ComesOf (state j) (put state c st j)
+    go (inl e) = rw (e, put_here state c st) of
+    go (inr ne) = rw (put_other state c st j ne) (λ e l. l, λ e l. l, λ l. l, λ l. l, λ l. l, λ l. l)
+
 pub lists_gives_up : (start : Start) (keys : Keys) (a : Incarnations) (pass c : ℕ) → Sound start a →
     Allowed start keys a pass (GivesUp c) → ListsSound start (becomes start a pass (GivesUp c))
-lists_gives_up start keys a pass c s h = record {
-  handed = λ i n e q. let u = s.lists.handed i n e q in grind (arith, nat_tests);
-  inserted = λ i n q. let u = s.lists.inserted i n q in grind (arith, nat_tests);
-  ordered = s.lists.ordered;
-  strict = λ i n q l. let u = s.lists.strict i n q in grind (arith, nat_tests);
-  first_in = λ b n q. let u = s.lists.first_in b n q in grind (arith, nat_tests);
-  apart = λ i d li ld q.
-      s.lists.apart i d (listed_still a.state c GivenUp i (λ z. z) li) (listed_still a.state c GivenUp d (λ z. z) ld) q;
-  behind_head = λ d ld. s.lists.behind_head d (listed_still a.state c GivenUp d (λ z. z) ld);
-}
+lists_gives_up start keys a pass c s h =
+    lists_restated start a (becomes start a pass (GivesUp c)) s.lists
+    (one_restated a.state c GivenUp (rw h (λ e l. l, λ e l. l, λ l. l, λ l. l, λ l. l, λ e. cc)))
 
 -- a new key of one in hand leaves the listed ones apart
 keyed_apart : (key rank : ℕ → ℕ) (state : ℕ → State) (buckets : ℕ → ℕ) (c pass k i d : ℕ) (n : Option ℕ) →
@@ -97,36 +122,21 @@ lists_keyed start keys a pass c k s h = record {
       grind (arith, nat_tests);
 }
 
--- what is listed once a linked one is marked was listed before
-listed_before : (state : ℕ → State) (c j : ℕ) → state c ≡ Linked → IsListed (put state c Marked j) → IsListed (state j)
-listed_before state c j h l = grind (arith, nat_tests)
-
 pub lists_removes : (start : Start) (keys : Keys) (a : Incarnations) (pass c : ℕ) → Sound start a →
     Allowed start keys a pass (Removes c) → ListsSound start (becomes start a pass (Removes c))
-lists_removes start keys a pass c s h = record {
-  handed = λ i n e q l. let u = s.lists.handed i n e q in grind (arith, nat_tests);
-  inserted = λ i n q. let u = s.lists.inserted i n q in grind (arith, nat_tests);
-  ordered = s.lists.ordered;
-  strict = λ i n q l. let u = s.lists.strict i n q in grind (arith, nat_tests);
-  first_in = λ b n q. let u = s.lists.first_in b n q in grind (arith, nat_tests);
-  apart = λ i d li ld q. s.lists.apart i d (listed_before a.state c i h li) (listed_before a.state c d h ld) q;
-  behind_head = λ d ld. let u = s.lists.behind_head d in grind (arith, nat_tests);
-}
+lists_removes start keys a pass c s h =
+    lists_restated start a (becomes start a pass (Removes c)) s.lists
+    (one_restated a.state c Marked (rw h (λ e l. l, λ e l. l, λ l. l, λ l. l, λ l. l, λ e. refl)))
 
 pub lists_stamps : (start : Start) (keys : Keys) (a : Incarnations) (pass c r : ℕ) → Sound start a →
     Allowed start keys a pass (Stamps c r) → ListsSound start (becomes start a pass (Stamps c r))
-lists_stamps start keys a pass c r s h = record {
-  handed = λ i n e q. let u = s.lists.handed i n e q in grind (arith, nat_tests);
-  inserted = λ i n q. let u = s.lists.inserted i n q in grind (arith, nat_tests);
-  ordered = s.lists.ordered;
-  strict = λ i n q l. let u = s.lists.strict i n q in grind (arith, nat_tests);
-  first_in = λ b n q. let u = s.lists.first_in b n q in grind (arith, nat_tests);
-  apart = λ i d li ld q.
-      s.lists.apart i d (listed_still a.state c (Stamped (unlinked_at (a.state c)) r) i (λ z. z) li)
-      (listed_still a.state c (Stamped (unlinked_at (a.state c)) r) d (λ z. z) ld) q;
-  behind_head =
-      λ d ld. s.lists.behind_head d (listed_still a.state c (Stamped (unlinked_at (a.state c)) r) d (λ z. z) ld);
-}
+lists_stamps start keys a pass c r s h =
+    lists_restated start a (becomes start a pass (Stamps c r)) s.lists
+    (one_restated a.state c (Stamped (unlinked_at (a.state c)) r) (stamped (a.state c) h))
+  where
+    stamped : (st : State) → MayStamp st pass r a.epoch → ComesOf st (Stamped (unlinked_at st) r)
+    stamped (Unlinked q u) h = (λ e l. l, λ e l. l, λ l. l, λ l. l, λ l. l, λ e. cc)
+    stamped _ h = absurd h
 
 -- what is listed once one is born is another
 not_new : (state : ℕ → State) (n pass j : ℕ) → IsListed (put state n (InHand pass) j) → j ≢ n

@@ -173,6 +173,13 @@ other_added : (who : ℕ) (before : List Call) (x : Call) → x.who ≢ who →
 other_added who before x ne = calls_by-append who before (x ∷ [])
     ∙ ap (λ l. calls_by who before ++ l) (none_of who x ne) ∙ append-nil (calls_by who before)
 
+-- where one call was made, and by another, none of the pass's was
+one_by_other : (who pass : ℕ) (before made : List Call) (x : Call) (xs : List Call) → x ∷ xs ≡ made → xs ≡ [] →
+    x.who ≡ pass → pass ≢ who → calls_by who (before ++ made) ≡ calls_by who before
+one_by_other who pass before made x xs is none by ne =
+    ap (λ l. calls_by who (before ++ l)) (sym is ∙ ap (λ l. x ∷ l) none)
+    ∙ other_added who before x (λ w. ne (sym by ∙ w))
+
 module _ (start : Start) (keys : Keys) (who : ℕ) (call : Call) (remove : call.op ≡ Remove)
     (yes : call.reply ≡ true) where
   -- of a first event and of others
@@ -251,11 +258,7 @@ module _ (start : Start) (keys : Keys) (who : ℕ) (call : Call) (remove : call.
           (ap (λ l. a.calls ++ l) (sym is ∙ ap (λ l. x ∷ l) none)) more.1 (by ∙ mine) e in
           absurd (let w : Insert ≡ Remove = sym kind ∙ ap (λ (c : Call). c.op) same ∙ remove in cc)
       go (inr ne) [] is = absurd (cc)
-      go (inr ne) (x ∷ xs) is =
-          let none : xs ≡ [] = cc in
-          let by : x.who ≡ pass = cc in
-          rec (ap (λ l. calls_by who (a.calls ++ l)) (sym is ∙ ap (λ l. x ∷ l) none)
-          ∙ other_added who a.calls x (λ w. ne (sym by ∙ w)))
+      go (inr ne) (x ∷ xs) is = rec (one_by_other who pass a.calls _ x xs is (cc) (cc) ne)
   marks_or_later a pass (Removes c) entries s h g e rec =
       go (cases_eq pass who) (calls_made start a pass (Removes c)) refl
     where
@@ -302,11 +305,7 @@ module _ (start : Start) (keys : Keys) (who : ℕ) (call : Call) (remove : call.
                 omega (arith, up, is, kept);
           }
       go (inr ne) [] is = absurd (cc)
-      go (inr ne) (x ∷ xs) is =
-          let none : xs ≡ [] = cc in
-          let by : x.who ≡ pass = cc in
-          rec (ap (λ l. calls_by who (a.calls ++ l)) (sym is ∙ ap (λ l. x ∷ l) none)
-          ∙ other_added who a.calls x (λ w. ne (sym by ∙ w)))
+      go (inr ne) (x ∷ xs) is = rec (one_by_other who pass a.calls _ x xs is (cc) (cc) ne)
   marks_or_later a pass (Replaces old c) entries s h g e rec = go (cases_eq pass who)
     where
       b : Incarnations

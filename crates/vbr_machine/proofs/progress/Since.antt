@@ -14,7 +14,7 @@ use Rattle.vbr_machine.specs.Incarnations.{Incarnations, at_opening}
 use Rattle.vbr_machine.specs.Chronicles.{Entry, becomes, incarnations_from, IsLawful, entries_by}
 use Rattle.vbr_machine.specs.Accounts.{chronicle, chronicle_from, happens, incarnations_after, notes_after, own_entries}
 use Rattle.vbr_machine.specs.Disturbances.{changes, one_if, disturbances_in, disturbances, own_changes_in, own_changes}
-use Rattle.vbr_machine.specs.Disturbances.{IsOpenIn}
+use Rattle.vbr_machine.specs.Disturbances.{IsOpenIn, disturbs, own_changes_by}
 use Rattle.vbr_machine.specs.Sound.{Sound, Grows}
 use Rattle.vbr_machine.specs.declared.event.Event.{Event}
 use Rattle.vbr_machine.specs.declared.event.Step.{Step}
@@ -57,19 +57,44 @@ since start passes first run is ok begins =
 
 -- ---- disturbances
 
-pub disturbances_in-append : (start : Start) (who bucket : ℕ) (a : Incarnations) (xs ys : List Entry) →
-    disturbances_in start who bucket a (xs ++ ys)
-    ≡ disturbances_in start who bucket a xs + disturbances_in start who bucket (incarnations_from start a xs) ys
-disturbances_in-append start who bucket a [] ys = omega arith
-disturbances_in-append start who bucket a (x ∷ xs) ys =
-    let r = disturbances_in-append start who bucket (becomes start a x.pass x.what) xs ys in omega (arith, r)
+-- what is counted of events, from the incarnations ahead of them, adds up
+abbrev AddsUp : Start → (Incarnations → List Entry → ℕ) → Type 0
+AddsUp start count = (a : Incarnations) (xs ys : List Entry) →
+    count a (xs ++ ys) ≡ count a xs + count (incarnations_from start a xs) ys
+
+-- which it does where each event counts by itself
+adds_up : (start : Start) (count : Incarnations → List Entry → ℕ) (one : Incarnations → Entry → ℕ) →
+    ((a : Incarnations) → count a [] ≡ 0) → ((a : Incarnations) (x : Entry) (xs : List Entry) →
+    count a (x ∷ xs) ≡ one a x + count (becomes start a x.pass x.what) xs) → AddsUp start count
+adds_up start count one none more a [] ys = let n = none a in omega (arith, n)
+adds_up start count one none more a (x ∷ xs) ys =
+    let r = adds_up start count one none more (becomes start a x.pass x.what) xs ys in
+    let m = more a x (xs ++ ys) in
+    let n = more a x xs in
+    omega (arith, r, m, n)
+
+-- then a run has counted what its beginning had, and what came since
+sum_since : {start : Start} {first run : List Event} (x : Since start first run)
+    (count : Incarnations → List Entry → ℕ) → AddsUp start count →
+    count (at_opening start) (chronicle start run)
+    ≡ count (at_opening start) (chronicle start first) + count (incarnations_after start first) x.entries
+sum_since {start} {first} x count sums =
+    ap (count (at_opening start)) x.adds ∙ sums (at_opening start) (chronicle start first) x.entries
+
+pub disturbances_in-append : (start : Start) (who bucket : ℕ) → AddsUp start (disturbances_in start who bucket)
+disturbances_in-append start who bucket = adds_up start (disturbances_in start who bucket)
+    (λ a x. one_if (disturbs start who bucket a x)) (λ a. refl) (λ a x xs. refl)
+
+own_changes_in-append : (start : Start) (who bucket : ℕ) → AddsUp start (own_changes_in start who bucket)
+own_changes_in-append start who bucket = adds_up start (own_changes_in start who bucket)
+    (λ a x. one_if (own_changes_by start who bucket a x)) (λ a. refl) (λ a x xs. refl)
 
 -- those of the beginning, and those since
 pub disturbances_sum : {start : Start} {first run : List Event} (x : Since start first run) (who bucket : ℕ) →
     disturbances start run who bucket
     ≡ disturbances start first who bucket + disturbances_in start who bucket (incarnations_after start first) x.entries
-disturbances_sum {start} {first} x who bucket = ap (disturbances_in start who bucket (at_opening start)) x.adds
-    ∙ disturbances_in-append start who bucket (at_opening start) (chronicle start first) x.entries
+disturbances_sum {start} x who bucket =
+    sum_since x (disturbances_in start who bucket) (disturbances_in-append start who bucket)
 
 pub disturbances_grow : {start : Start} {first run : List Event} → Since start first run → (who bucket : ℕ) →
     disturbances start first who bucket ≤ disturbances start run who bucket
@@ -90,22 +115,11 @@ none_since {start} {first} x who same =
     none_by who x.entries
     (append_cancel_left own (entries_by who x.entries) [] (sym (own_since x who) ∙ same ∙ sym (append-nil own)))
 
-own_changes_in-append : (start : Start) (who bucket : ℕ) (a : Incarnations) (xs ys : List Entry) →
-    own_changes_in start who bucket a (xs ++ ys)
-    ≡ own_changes_in start who bucket a xs + own_changes_in start who bucket (incarnations_from start a xs) ys
-own_changes_in-append start who bucket a [] ys = omega arith
-own_changes_in-append start who bucket a (x ∷ xs) ys =
-    let r = own_changes_in-append start who bucket (becomes start a x.pass x.what) xs ys in omega (arith, r)
-
 own_changes_sum : {start : Start} {first run : List Event} (x : Since start first run) (who bucket : ℕ) →
     own_changes start run who bucket
     ≡ own_changes start first who bucket + own_changes_in start who bucket (incarnations_after start first) x.entries
-own_changes_sum {start} {first} x who bucket = ap (own_changes_in start who bucket (at_opening start)) x.adds
-    ∙ own_changes_in-append start who bucket (at_opening start) (chronicle start first) x.entries
-
-pub own_changes_grow : {start : Start} {first run : List Event} → Since start first run → (who bucket : ℕ) →
-    own_changes start first who bucket ≤ own_changes start run who bucket
-own_changes_grow x who bucket = let s = own_changes_sum x who bucket in omega (arith, s)
+own_changes_sum {start} x who bucket =
+    sum_since x (own_changes_in start who bucket) (own_changes_in-append start who bucket)
 
 -- so it changed nothing itself
 pub own_unchanged : {start : Start} {first run : List Event} (x : Since start first run) (who bucket : ℕ) →
@@ -121,9 +135,9 @@ pub own_between : {start : Start} {p x y r : List Event} → Since start p x →
     (who bucket : ℕ) → own_changes start r who bucket ≡ own_changes start p who bucket →
     own_changes start y who bucket ≡ own_changes start x who bucket
 own_between a b c who bucket same =
-    let e1 = own_changes_grow a who bucket in
-    let e2 = own_changes_grow b who bucket in
-    let e3 = own_changes_grow c who bucket in
+    let e1 = own_changes_sum a who bucket in
+    let e2 = own_changes_sum b who bucket in
+    let e3 = own_changes_sum c who bucket in
     omega (arith, e1, e2, e3, same)
 
 -- ---- what shows a disturbance
@@ -163,35 +177,32 @@ module _ {start : Start} {first run : List Event} (x : Since start first run) (w
       ∙ calm_shown start (opening_keys start) bucket (incarnations_after start first) x.entries x.sound x.lawful
       (calm_where none) place is
 
-  -- a law: where the epoch has moved, a pass that changed nothing itself was disturbed
-  pub moved_disturbed : (incarnations_after start run).epoch ≢ (incarnations_after start first).epoch →
+  -- and so there was one where they can't all have been calm
+  not_calm : (IsCalm start bucket (incarnations_after start first) x.entries → ⊥) →
       disturbances start first who bucket < disturbances start run who bucket
-  moved_disturbed other = go calm_or_more
+  not_calm some = go calm_or_more
     where
       go : (IsCalm start bucket (incarnations_after start first) x.entries) ⊎
           (disturbances start first who bucket < disturbances start run who bucket) →
           disturbances start first who bucket < disturbances start run who bucket
-      go (inl calm) =
-          absurd (other
-          (ap (λ (a : Incarnations). a.epoch) x.makes
-          ∙ calm_epoch start bucket (incarnations_after start first) x.entries calm))
+      go (inl calm) = absurd (some calm)
       go (inr more) = more
+
+  -- a law: where the epoch has moved, a pass that changed nothing itself was disturbed
+  pub moved_disturbed : (incarnations_after start run).epoch ≢ (incarnations_after start first).epoch →
+      disturbances start first who bucket < disturbances start run who bucket
+  moved_disturbed other = not_calm (λ calm. other
+      (ap (λ (a : Incarnations). a.epoch) x.makes
+      ∙ calm_epoch start bucket (incarnations_after start first) x.entries calm))
 
   -- a law: and so it was where an open place of the bucket shows another link
   pub changed_disturbed : (place : At) → IsOpenIn start (incarnations_after start first) bucket place →
       link_shown_at (incarnations_after start run) place ≢ link_shown_at (incarnations_after start first) place →
       disturbances start first who bucket < disturbances start run who bucket
-  changed_disturbed place is other = go calm_or_more
-    where
-      go : (IsCalm start bucket (incarnations_after start first) x.entries) ⊎
-          (disturbances start first who bucket < disturbances start run who bucket) →
-          disturbances start first who bucket < disturbances start run who bucket
-      go (inl calm) =
-          absurd (other
-          (ap (λ (a : Incarnations). link_shown_at a place) x.makes
-          ∙ calm_shown start (opening_keys start) bucket (incarnations_after start first) x.entries x.sound x.lawful
-          calm place is))
-      go (inr more) = more
+  changed_disturbed place is other = not_calm (λ calm. other
+      (ap (λ (a : Incarnations). link_shown_at a place) x.makes
+      ∙ calm_shown start (opening_keys start) bucket (incarnations_after start first) x.entries x.sound x.lawful calm
+      place is))
 
 -- ---- own steps
 

@@ -12,14 +12,14 @@ use Rattle.vbr_words.specs.declared.place.At.TheVariants.{Head, Slot}
 use Rattle.vbr_machine.specs.Links.{same_link}
 use Rattle.vbr_machine.specs.Knowledge.{Know, same_at, knows_link, names, holds, holds_at}
 use Rattle.vbr_machine.specs.Acceptance.{Accepts}
-use Rattle.vbr_machine.specs.Learning.{read_epoch, with_pending, with_checked, reads_won, learn, value_in_hand}
+use Rattle.vbr_machine.specs.Learning.{read_epoch, with_pending, with_checked, reads_won, learn}
 use Rattle.vbr_machine.specs.declared.event.Step.{Step}
 use Rattle.vbr_machine.specs.declared.event.Step.TheVariants.{ReadEpoch, TakeFlag, LoadLink, LoadBirth, LoadKey}
 use Rattle.vbr_machine.specs.declared.event.Step.TheVariants.{Publish, Mark, Replace, Unlink, LoadValue}
 use Rattle.vbr_machine.specs.declared.knowledge.Read.{Read}
 use Rattle.vbr_machine.specs.declared.knowledge.Read.TheVariants.{LinkAt, BirthOf, KeyOf, ValueOf}
 use Rattle.vbr_machine.proofs.reads.FoundReads.{same_at_true}
-use Rattle.vbr_machine.proofs.reads.ValueReads.{of_value}
+use Rattle.vbr_machine.proofs.reads.ValueReads.{of_filled}
 
 -- the place that a read is of is held
 abbrev pub IsOfHeldPlace : List Read → Read → Type 0
@@ -137,16 +137,7 @@ held_learned start know (Publish pred expected s) found stamp r ok = elim (cases
       let more = checked_more know reads r (
         held_at_more know.checked reads pred
             (link_held know.checked know.checked pred (link_of expected) r.checked ok.held.0),
-        (
-          new,
-          (
-            new,
-            (
-              new,
-              of_value (IsOfHeldPlace (know.checked ++ reads)) s (value_in_hand (know.own s)) (λ x _. new),
-            ),
-          ),
-        ),
+        of_filled (IsOfHeldPlace (know.checked ++ reads)) s (know.own s) new new new (λ x _. new),
       ) in
       rw k (record { checked = more.checked; pending = more.pending })
   | inr k ↦ rw k r
@@ -168,16 +159,7 @@ held_learned start know (Replace s expected t) found stamp r ok = elim (cases_Bo
       let more = checked_more know reads r (
         held_at_more know.checked reads (Slot s)
             (link_held know.checked know.checked (Slot s) (link_of expected) r.checked ok.held.0),
-        (
-          new,
-          (
-            new,
-            (
-              new,
-              of_value (IsOfHeldPlace (know.checked ++ reads)) t (value_in_hand (know.own t)) (λ x _. new),
-            ),
-          ),
-        ),
+        of_filled (IsOfHeldPlace (know.checked ++ reads)) t (know.own t) new new new (λ x _. new),
       ) in
       rw k (record { checked = more.checked; pending = more.pending })
   | inr k ↦ rw k r

@@ -1,6 +1,6 @@
 -- What the passes have read, after each kind of change.
-use Rattle.std.proofs.Common.{◌≡◌, ◌≢◌, ℕ, true, false, List, [], ◌∷◌, ◌++◌, map, Option, refl, arith, sym, ap, ◌∙◌}
-use Rattle.std.proofs.Common.{inl, inr}
+use Rattle.std.proofs.Common.{◌≡◌, ◌≢◌, ℕ, ◌≤◌, true, false, List, [], ◌∷◌, ◌++◌, map, Option, refl, arith, sym, ap}
+use Rattle.std.proofs.Common.{◌∙◌, inl, inr}
 use Rattle.std.specs.Prelude.{◌⊎◌, ◌==◌}
 use Rattle.std.specs.List.{AllByRecursion}
 use Rattle.std.proofs.lemmas.Bool.{cases_eq, cases_Bool, eqb-true}
@@ -10,7 +10,7 @@ use Rattle.vbr_machine.specs.Knowledge.{Know}
 use Rattle.vbr_machine.specs.Learning.{read_epoch, with_own, with_pending, with_checked}
 use Rattle.vbr_machine.specs.Incarnations.{Incarnations}
 use Rattle.vbr_machine.specs.Sound.{Sound, Grows}
-use Rattle.vbr_machine.specs.Notes.{Note, Notes, note_of, shown_at, with_won, confirmed_notes}
+use Rattle.vbr_machine.specs.Notes.{Note, Notes, no_notes, note_of, shown_at, with_won, confirmed_notes}
 use Rattle.vbr_machine.specs.Agreement.{IsGood, IsAsShown, reads_of, FitsNotes, AllKnowRight}
 use Rattle.vbr_machine.specs.declared.knowledge.Read.{Read}
 use Rattle.vbr_machine.specs.declared.knowledge.Holding.{Holding}
@@ -37,6 +37,14 @@ notes_all : (a : Incarnations) (P : Note → Type 0) (reads : List Read) →
     AllByRecursion (λ read. P (note_of a read)) reads → AllByRecursion P (map (note_of a) reads)
 notes_all a P [] h = tt
 notes_all a P (read ∷ reads) h = (h.0, notes_all a P reads h.1)
+
+-- the reads are what the incarnations show
+abbrev pub AreShown : Incarnations → List Read → Type 0
+AreShown a reads = AllByRecursion (λ read. read ≡ shown_at a read) reads
+
+-- they are good for an epoch
+abbrev pub AreGood : Incarnations → ℕ → List Read → Type 0
+AreGood a epoch reads = AllByRecursion (λ read. IsGood a epoch (note_of a read)) reads
 
 -- ---- one pass
 
@@ -83,9 +91,7 @@ noted_pending a know notes note k shown good = record {
 
 -- reads that are checked at once
 pub noted_checked : (a : Incarnations) (know : Know) (notes : Notes) (reads : List Read) → FitsNotes a know notes →
-    AllByRecursion (λ read. read ≡ shown_at a read) reads →
-    AllByRecursion (λ read. IsGood a know.epoch (note_of a read)) reads →
-    FitsNotes a (with_checked know reads) (with_won a notes reads)
+    AreShown a reads → AreGood a know.epoch reads → FitsNotes a (with_checked know reads) (with_won a notes reads)
 noted_checked a know notes reads k shown good = record {
   epoch = k.epoch;
   checked_reads = ap (λ l. l ++ reads) k.checked_reads
@@ -98,6 +104,19 @@ noted_checked a know notes reads k shown good = record {
   checked = all_both (IsGood a know.epoch) notes.checked (map (note_of a) reads) k.checked
       (notes_all a (IsGood a know.epoch) reads good);
   pending = k.pending;
+}
+
+-- a pass that has read nothing has noted nothing
+pub noted_none : (a : Incarnations) (know : Know) → know.epoch ≤ a.epoch → (know.checked ≡ []) × (know.pending ≡ []) →
+    FitsNotes a know no_notes
+noted_none a know le none = record {
+  epoch = le;
+  checked_reads = none.0;
+  pending_reads = none.1;
+  checked_shown = tt;
+  pending_shown = tt;
+  checked = tt;
+  pending = λ _. tt;
 }
 
 -- an unmoved epoch confirms what is pending, and one that has moved leaves nothing
@@ -118,16 +137,7 @@ noted_read a know notes epoch q k = go (cases_Bool (epoch == know.epoch))
           (k.pending (sym q ∙ eqb-true epoch know.epoch t));
       pending = λ _. tt;
     })
-    go (inr f) =
-        rw f (record {
-          epoch = omega arith;
-          checked_reads = refl;
-          pending_reads = refl;
-          checked_shown = tt;
-          pending_shown = tt;
-          checked = tt;
-          pending = λ _. tt;
-        })
+    go (inr f) = rw f (noted_none a _ (omega arith) (refl, refl))
 
 -- ---- all passes
 

@@ -1,5 +1,5 @@
 -- What the passes know of their slots, after each kind of change.
-use Rattle.std.proofs.Common.{◌≡◌, ◌≢◌, ℕ, ◌≤◌, Option, Some, None, refl, arith, sym, ap, ◌∙◌, inl, inr}
+use Rattle.std.proofs.Common.{◌≡◌, ◌≢◌, ℕ, ◌≤◌, Bool, true, Option, Some, None, refl, arith, sym, ap, ◌∙◌, inl, inr}
 use Rattle.std.specs.Prelude.{◌⊎◌}
 use Rattle.std.proofs.lemmas.Bool.{cases_eq}
 use Rattle.vbr_machine.specs.Start.{Start}
@@ -7,7 +7,7 @@ use Rattle.vbr_machine.specs.Put.{put}
 use Rattle.vbr_machine.specs.Knowledge.{Know}
 use Rattle.vbr_machine.specs.Incarnations.{Incarnations}
 use Rattle.vbr_machine.specs.Sound.{SlotsSound}
-use Rattle.vbr_machine.specs.Agreement.{IsNotOf, OwnFits, Owns}
+use Rattle.vbr_machine.specs.Agreement.{IsNotOf, IsUnlinkedBy, OwnFits, Owns}
 use Rattle.vbr_machine.specs.declared.knowledge.Holding.{Holding}
 use Rattle.vbr_machine.specs.declared.knowledge.Holding.TheVariants.{Free, Unlinked, InHand}
 use Rattle.vbr_machine.specs.declared.knowledge.SlotPlace.{SlotPlace}
@@ -47,6 +47,18 @@ untouched_in a b state c is =
       is_aimed = refl;
     }
 
+-- an incarnation that a pass unlinked stays so where its state stays
+pub unlinked_so : {a : Incarnations} {pass e : ℕ} {reread : Bool} {last : Option ℕ} (b : Incarnations) (f : ℕ)
+    (again : Bool) (x : IsUnlinkedBy a pass e reread last) → b.state x.node ≡ a.state x.node →
+    (again ≡ true → x.unlinked ≤ f) → IsUnlinkedBy b pass f again last
+unlinked_so b f again x state seen = record {
+  node = x.node;
+  last_is = x.last_is;
+  unlinked = x.unlinked;
+  state = state ∙ x.state;
+  seen = seen;
+}
+
 -- what is known of a slot stays where its last incarnation is untouched
 pub own_kept : (a b : Incarnations) (pass e f : ℕ) (holding : Option Holding) (place : SlotPlace) (last : Option ℕ)
     (stamp : ℕ) → e ≤ f → ((c : ℕ) → last ≡ Some c → IsUntouched a b c) → OwnFits a pass e holding place last stamp →
@@ -55,16 +67,8 @@ own_kept a b pass e f None place last stamp le k h = h
 own_kept a b pass e f (Some (Free known)) place None stamp le k h = h
 own_kept a b pass e f (Some (Free known)) place (Some c) stamp le k h = (h.0, rw ((k c refl).state) h.1, h.2)
 own_kept a b pass e f (Some (Unlinked reread)) place last stamp le k h =
-    let x = h.1 in (
-      h.0,
-      record {
-        node = x.node;
-        last_is = x.last_is;
-        unlinked = x.unlinked;
-        state = (k x.node x.last_is).state ∙ x.state;
-        seen = λ t. let u = x.seen t in omega arith;
-      },
-    )
+    let x = h.1 in
+    (h.0, unlinked_so b f reread x ((k x.node x.last_is).state) (λ t. let u = x.seen t in omega arith))
 own_kept a b pass e f (Some (InHand known)) place last stamp le k h =
     let x = h.1 in
     let u = k x.node x.last_is in (
@@ -99,6 +103,20 @@ pub record IsSlotKept (a b : Incarnations) (v : ℕ) : Type 0 where
   pub last : b.last v ≡ a.last v
   pub stamp : b.stamp v ≡ a.stamp v
   pub untouched : (c : ℕ) → a.last v ≡ Some c → IsUntouched a b c
+
+-- so it is with the slots beside one of which the place was put, where the state of c alone changes, and c is the
+-- last incarnation of none of them
+pub kept_beside : (a b : Incarnations) (s c : ℕ) (place : SlotPlace) →
+    ((v d : ℕ) → v ≢ s → a.last v ≡ Some d → d ≢ c) → ((v : ℕ) → b.place v ≡ put a.place s place v) →
+    ((d : ℕ) → d ≢ c → b.state d ≡ a.state d) → (v : ℕ) → v ≢ s →
+    IsSlotKept a (born_as a (stored_as a (record b { last = a.last; stamp = a.stamp }))) v
+kept_beside a b s c place others places states v ne =
+    record {
+      place = places v ∙ put_other a.place s place v ne;
+      last = refl;
+      stamp = refl;
+      untouched = untouched_in a (record b { last = a.last; stamp = a.stamp }) (λ d e. states d (others v d ne e));
+    }
 
 pub slot_kept : (a b : Incarnations) (q e f v : ℕ) (holding : Option Holding) → e ≤ f → IsSlotKept a b v →
     OwnFits a q e holding (a.place v) (a.last v) (a.stamp v) → OwnFits b q f holding (b.place v) (b.last v) (b.stamp v)

@@ -1,18 +1,32 @@
 -- A value that is read, or stored since a birth, if there is one.
 use Rattle.std.proofs.Common.{◌≡◌, ℕ, Bool, true, false, Option, Some, None, refl, sym, ap, ◌∙◌}
-use Rattle.std.specs.Prelude.{IsSome, unwrap_or, if◌then◌else◌}
+use Rattle.std.specs.Prelude.{List, ◌∷◌, IsSome, unwrap_or, if◌then◌else◌}
 use Rattle.std.specs.List.{AllByRecursion}
 use Rattle.vbr_machine.specs.Acceptance.{HasValue}
 use Rattle.vbr_machine.specs.Agreement.{IsStored}
-use Rattle.vbr_machine.specs.Learning.{value_read}
+use Rattle.vbr_machine.specs.Learning.{value_read, birth_in_hand, key_in_hand, value_in_hand, link_in_hand}
+use Rattle.vbr_words.specs.declared.place.At.TheVariants.{Slot}
+use Rattle.vbr_machine.specs.declared.knowledge.Holding.{Holding}
 use Rattle.vbr_machine.specs.declared.knowledge.Read.{Read}
-use Rattle.vbr_machine.specs.declared.knowledge.Read.TheVariants.{ValueOf}
+use Rattle.vbr_machine.specs.declared.knowledge.Read.TheVariants.{LinkAt, BirthOf, KeyOf, ValueOf}
+
+-- the reads of a filled slot: its birth, its key, its link and its value, if there is one
+abbrev pub filled_reads : ℕ → Option Holding → List Read
+filled_reads s holding =
+    BirthOf s (birth_in_hand holding) ∷ KeyOf s (key_in_hand holding) ∷ LinkAt (Slot s) (link_in_hand holding)
+    ∷ value_read s (value_in_hand holding)
 
 -- what is so of the read of a value, if there is one
-pub of_value : (P : Read → Type 0) (s : ℕ) (v : Option ℕ) → ((x : ℕ) → v ≡ Some x → P (ValueOf s x)) →
+of_value : (P : Read → Type 0) (s : ℕ) (v : Option ℕ) → ((x : ℕ) → v ≡ Some x → P (ValueOf s x)) →
     AllByRecursion P (value_read s v)
 of_value P s None h = tt
 of_value P s (Some x) h = (h x refl, tt)
+
+-- what is so of each read of a filled slot
+pub of_filled : (P : Read → Type 0) (s : ℕ) (holding : Option Holding) → P (BirthOf s (birth_in_hand holding)) →
+    P (KeyOf s (key_in_hand holding)) → P (LinkAt (Slot s) (link_in_hand holding)) →
+    ((x : ℕ) → value_in_hand holding ≡ Some x → P (ValueOf s x)) → AllByRecursion P (filled_reads s holding)
+of_filled P s holding birth key link value = (birth, (key, (link, of_value P s (value_in_hand holding) value)))
 
 -- a value that was stored is the one that is known
 pub stored_is : (b : Bool) (value : ℕ) (known : Option ℕ) → IsStored b value known → (x : ℕ) → known ≡ Some x →

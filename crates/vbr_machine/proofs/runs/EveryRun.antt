@@ -2,6 +2,7 @@
 use Rattle.std.proofs.Common.{◌≡◌, ℕ, List, [], ◌∷◌, ◌++◌, refl, ap, sym, ◌∙◌, subst}
 use Rattle.vbr_machine.specs.Start.{Start, IsStart}
 use Rattle.vbr_machine.specs.Put.{put}
+use Rattle.vbr_words.specs.declared.place.At.TheVariants.{Head, Slot}
 use Rattle.vbr_machine.specs.Keys.{Keys}
 use Rattle.vbr_machine.specs.Opened.{opening_keys}
 use Rattle.vbr_machine.specs.Acceptance.{Accepts}
@@ -26,7 +27,7 @@ use Rattle.vbr_machine.proofs.steps.EpochSteps.{step_read_epoch, step_advance, s
 use Rattle.vbr_machine.proofs.steps.OwnerSteps.{step_raise, step_take_flag, step_store_key, step_store_link}
 use Rattle.vbr_machine.proofs.steps.OwnerSteps.{step_store_value}
 use Rattle.vbr_machine.proofs.steps.BirthSteps.{step_store_stamp, step_store_birth}
-use Rattle.vbr_machine.proofs.steps.LoadSteps.{step_load_link, step_load_birth, step_load_key, step_load_value}
+use Rattle.vbr_machine.proofs.steps.LoadSteps.{step_load_link, step_loads}
 use Rattle.vbr_machine.proofs.steps.ConfirmSteps.{step_confirm_present, step_confirm_absent}
 use Rattle.vbr_machine.proofs.steps.MarkSteps.{step_mark}
 use Rattle.vbr_machine.proofs.steps.Publishing.{step_publish}
@@ -50,13 +51,17 @@ step_agrees start w a notes p (StoreKey s key) g ok = step_store_key start w a n
 step_agrees start w a notes p (StoreValue s value) g ok = step_store_value start w a notes p s value g ok
 step_agrees start w a notes p (StoreLink s next) g ok = step_store_link start w a notes p s next g ok
 step_agrees start w a notes p (LoadLink place) g ok = step_load_link start w a notes p place g ok
-step_agrees start w a notes p (LoadBirth s) g ok = step_load_birth start w a notes p s g ok
-step_agrees start w a notes p (LoadKey s) g ok = step_load_key start w a notes p s g ok
-step_agrees start w a notes p (LoadValue s) g ok = step_load_value start w a notes p s g ok
-step_agrees start w a notes p (Publish pred expected s) g ok = step_publish start w a notes p pred expected s g ok
+step_agrees start w a notes p (LoadBirth s) g ok = (step_loads start w a notes p s g ok.held).0
+step_agrees start w a notes p (LoadKey s) g ok = (step_loads start w a notes p s g ok.held).1
+step_agrees start w a notes p (LoadValue s) g ok = (step_loads start w a notes p s g ok.held).2
+step_agrees start w a notes p (Publish (Head b) expected s) g ok =
+    step_publish start w a notes p (Head b) expected s g ok
+step_agrees start w a notes p (Publish (Slot q) expected s) g ok =
+    step_publish start w a notes p (Slot q) expected s g ok
 step_agrees start w a notes p (Mark s expected) g ok = step_mark start w a notes p s expected g ok
 step_agrees start w a notes p (Replace s expected t) g ok = step_replace start w a notes p s expected t g ok
-step_agrees start w a notes p (Unlink pred expected s) g ok = step_unlink start w a notes p pred expected s g ok
+step_agrees start w a notes p (Unlink (Head b) expected s) g ok = step_unlink start w a notes p (Head b) expected s g ok
+step_agrees start w a notes p (Unlink (Slot q) expected s) g ok = step_unlink start w a notes p (Slot q) expected s g ok
 step_agrees start w a notes p (ConfirmPresent op s expected) g ok =
     step_confirm_present start w a notes p op s expected g ok
 step_agrees start w a notes p (ConfirmAbsent op key place expected) g ok =

@@ -14,12 +14,14 @@ use Rattle.vbr_machine.specs.Links.{same_link}
 use Rattle.vbr_machine.specs.Knowledge.{same_at, knows_link, names, holds}
 use Rattle.vbr_machine.specs.Acceptance.{Accepts}
 use Rattle.vbr_machine.specs.Learning.{effect_of}
+use Rattle.vbr_machine.specs.Opened.{opening_keys}
+use Rattle.vbr_machine.specs.Machine as machine
 use Rattle.vbr_machine.specs.Machine.{World, found}
 use Rattle.vbr_machine.specs.Incarnations.{Incarnations, last_in}
 use Rattle.vbr_machine.specs.Incarnations as state
-use Rattle.vbr_machine.specs.Chronicles.{next_of}
+use Rattle.vbr_machine.specs.Chronicles.{IsLawful, next_of}
 use Rattle.vbr_machine.specs.Notes.{Notes, before_at, HoldsLast, HoldsLastAt, HoldsLastNext, HoldsNext}
-use Rattle.vbr_machine.specs.Accounts.{TakesHeldNext, IsRightExchange}
+use Rattle.vbr_machine.specs.Accounts.{TakesHeldNext, IsRightExchange, happens_if_found}
 use Rattle.vbr_machine.specs.Agreement.{IsHeldIncarnation, IsHeldNext, Agrees}
 use Rattle.vbr_machine.specs.Safety.{ExchangesLink}
 use Rattle.vbr_machine.specs.declared.event.Effect.TheVariants.{Won, Lost}
@@ -130,31 +132,29 @@ module _ (start : Start) (w : World) (a : Incarnations) (notes : ℕ → Notes) 
       rw (put_other (put a.next (last_in a t) (a.next (last_in a s))) (last_in a s) (Some (last_in a t)) (last_in a t)
       ne ∙ put_here a.next (last_in a t) (a.next (last_in a s))) (next_held (Slot s) (link_of expected) k m)
 
+  -- a publication that finds its word is right
+  won_publication : (pred : At) (expected s : ℕ) (ok : Accepts start (w.know p) (Publish pred expected s)) →
+      word_of (machine.link_at w pred) ≡ expected →
+      IsLawful start (opening_keys start) a (happens_if_found start w a p (Publish pred expected s)) →
+      IsRightExchange start w a (notes p) p (Publish pred expected s)
+  won_publication pred expected s ok stands lawful =
+      let m = link_stands start w a notes p g pred expected ok.held.0 ok.in_range.0 stands in
+      record {
+        names = (last_behind pred (link_of expected) ok.held.0 m, last_named pred (link_of expected) ok.held.0 m);
+        lawful = lawful;
+        successor = publication_next pred expected s ok.held.0 m lawful.0.in_hand;
+      }
+
   pub right_exchange : (step : Step) → Accepts start (w.know p) step → ExchangesLink step →
       effect_of step (found start w step) ≡ Won → IsRightExchange start w a (notes p) p step
   right_exchange (Publish (Head b) expected s) ok x e =
       let t = won (word_of (w.head b) == expected) _ e in
-      let m = link_stands start w a notes p g (Head b) expected ok.held.0 ok.in_range.0
-      (eqb-true (word_of (w.head b)) expected t) in
       let l = (step_agrees start w a notes p (Publish (Head b) expected s) g ok).0 in
-      let lawful = (rw t at l) in
-      record {
-        names = (tt, last_named (Head b) (link_of expected) ok.held.0 m);
-        lawful = lawful;
-        successor = publication_next (Head b) expected s ok.held.0 m lawful.0.in_hand;
-      }
+      won_publication (Head b) expected s ok (eqb-true (word_of (w.head b)) expected t) (rw t at l)
   right_exchange (Publish (Slot q) expected s) ok x e =
       let t = won (word_of (w.link q) == expected) _ e in
-      let m = link_stands start w a notes p g (Slot q) expected ok.held.0 ok.in_range.0
-      (eqb-true (word_of (w.link q)) expected t) in
       let l = (step_agrees start w a notes p (Publish (Slot q) expected s) g ok).0 in
-      let lawful = (rw t at l) in
-      record {
-        names =
-            (last_behind (Slot q) (link_of expected) ok.held.0 m, last_named (Slot q) (link_of expected) ok.held.0 m);
-        lawful = lawful;
-        successor = publication_next (Slot q) expected s ok.held.0 m lawful.0.in_hand;
-      }
+      won_publication (Slot q) expected s ok (eqb-true (word_of (w.link q)) expected t) (rw t at l)
   right_exchange (Mark s expected) ok x e =
       let t = won (word_of (w.link s) == expected) _ e in
       let m = link_stands start w a notes p g (Slot s) expected ok.held.0 ok.in_range

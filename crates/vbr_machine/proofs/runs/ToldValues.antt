@@ -22,7 +22,7 @@ use Rattle.vbr_machine.specs.declared.history.Op.{Op}
 use Rattle.vbr_machine.specs.declared.history.Op.TheVariants.{Insert, Remove, Has, Get}
 use Rattle.vbr_machine.specs.declared.knowledge.Read.{Read}
 use Rattle.vbr_machine.specs.declared.knowledge.Holding.{Holding}
-use Rattle.vbr_machine.specs.declared.knowledge.Holding.TheVariants.{Free, Unlinked, InHand}
+use Rattle.vbr_machine.specs.declared.knowledge.Holding.TheVariants.{InHand}
 use Rattle.vbr_machine.proofs.runs.RunsGoOn.{calls_after}
 use Rattle.vbr_machine.proofs.reads.ValueReads.{has_value}
 
@@ -56,17 +56,13 @@ none_for_has false = refl
 
 ready_value : (start : Start) (reads : List Read) (pred : At) (expected : Link) (own : Option Holding) →
     MayPublish start reads pred expected own → HasValue start.shape.values (value_in_hand own)
-ready_value start reads pred expected None r = absurd r
-ready_value start reads pred expected (Some (Free stamp)) r = absurd r
-ready_value start reads pred expected (Some (Unlinked seen)) r = absurd r
 ready_value start reads pred expected (Some (InHand known)) r = r.valued
+ready_value start reads pred expected _ r = absurd r
 
 placed_value : (start : Start) (reads : List Read) (s : ℕ) (expected : Link) (own : Option Holding) →
     MayReplace start reads s expected own → HasValue start.shape.values (value_in_hand own)
-placed_value start reads s expected None r = absurd r
-placed_value start reads s expected (Some (Free stamp)) r = absurd r
-placed_value start reads s expected (Some (Unlinked seen)) r = absurd r
 placed_value start reads s expected (Some (InHand known)) r = r.valued
+placed_value start reads s expected _ r = absurd r
 
 present : (start : Start) (op : Op) (v : Option ℕ) → IsOpIn start op → HasValueFor op v →
     HasValueOf start.shape.values op (present_reply op) (present_value op v)

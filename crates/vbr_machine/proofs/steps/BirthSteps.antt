@@ -1,8 +1,5 @@
 -- The steps that stamp a slot or give birth in one.
-use Rattle.std.proofs.Common.{◌≡◌, ◌≢◌, ℕ, ◌+◌, ◌<◌, ◌≤◌, false, Option, Some, None, refl, arith, sym, ap, ◌∙◌, inl}
-use Rattle.std.proofs.Common.{inr}
-use Rattle.std.specs.Prelude.{◌⊎◌}
-use Rattle.std.proofs.lemmas.Bool.{cases_eq}
+use Rattle.std.proofs.Common.{◌≡◌, ◌≢◌, ℕ, ◌+◌, ◌<◌, ◌≤◌, false, Option, Some, None, refl, arith, sym, ap, ◌∙◌}
 use Rattle.vbr_machine.specs.Start.{Start}
 use Rattle.vbr_words.specs.Words.{IsLink}
 use Rattle.vbr_machine.specs.Put.{put}
@@ -118,10 +115,22 @@ born start w a notes p s birth stamp g le in_shape es al =
       image = record {
         epoch = i.epoch;
         head = λ k. i.head k ∙ sym (to_same 0 (a.first k) (first_old k));
-        link = λ k. links k (cases_eq k s);
-        birth = λ k. births k (cases_eq k s);
-        key = λ k. keys k (cases_eq k s);
-        value = λ k. values k (cases_eq k s);
+        link = at_put (λ k l. w.link k ≡ link_shown z l) a.last s (Some c)
+            (i.link s ∙ sym (put_here a.link c (link_shown a (a.last s)))
+            ∙ ap (link_in_state z c) (sym (put_here a.state c (state.InHand p))))
+            (λ k ne. i.link k ∙ sym (of_old (a.last k) (old k)));
+        birth = at_put (λ k l. put w.birth s birth k ≡ birth_shown z l) a.last s (Some c)
+            (put_here w.birth s birth ∙ sym (put_here a.birth c birth))
+            (λ k ne. put_other w.birth s birth k ne ∙ i.birth k
+            ∙ sym (birth_kept a z (a.last k) (λ d e. put_other a.birth c birth d (old k d e))));
+        key = at_put (λ k l. w.key k ≡ key_shown z l) a.last s (Some c)
+            (i.key s ∙ sym (put_here a.key c (key_shown a (a.last s))))
+            (λ k ne. i.key k
+            ∙ sym (key_kept a z (a.last k) (λ d e. put_other a.key c (key_shown a (a.last s)) d (old k d e))));
+        value = at_put (λ k l. w.value k ≡ value_shown z l) a.last s (Some c)
+            (i.value s ∙ sym (put_here a.value c (value_shown a (a.last s))))
+            (λ k ne. i.value k
+            ∙ sym (value_kept a z (a.last k) (λ d e. put_other a.value c (value_shown a (a.last s)) d (old k d e))));
         stamp = i.stamp;
         place = puts_same w.place a.place s (Hand p) i.place;
       };
@@ -205,49 +214,6 @@ born start w a notes p s birth stamp g le in_shape es al =
     of_old (Some d) k =
         ap (link_in_state (becomes start a p (Bears s birth)) d)
         (put_other a.state a.count (state.InHand p) d (k d refl)) ∙ link_old d (k d refl) (a.state d) refl
-
-    links : (v : ℕ) → (v ≡ s) ⊎ (v ≢ s) →
-        w.link v ≡ link_shown (becomes start a p (Bears s birth)) (put a.last s (Some a.count) v)
-    links v (inl e) =
-        g.image.link v ∙ ap (λ i. link_shown a (a.last i)) e ∙ sym (put_here a.link a.count (link_shown a (a.last s)))
-        ∙ ap (link_in_state (becomes start a p (Bears s birth)) a.count)
-        (sym (put_here a.state a.count (state.InHand p)))
-        ∙ ap (link_shown (becomes start a p (Bears s birth)))
-        (sym (put_here a.last s (Some a.count)) ∙ ap (put a.last s (Some a.count)) (sym e))
-    links v (inr ne) = g.image.link v ∙ sym (of_old (a.last v) (old v))
-        ∙ ap (link_shown (becomes start a p (Bears s birth))) (sym (put_other a.last s (Some a.count) v ne))
-
-    births : (v : ℕ) → (v ≡ s) ⊎ (v ≢ s) →
-        put w.birth s birth v ≡ birth_shown (becomes start a p (Bears s birth)) (put a.last s (Some a.count) v)
-    births v (inl e) = ap (put w.birth s birth) e ∙ put_here w.birth s birth ∙ sym (put_here a.birth a.count birth)
-        ∙ ap (birth_shown (becomes start a p (Bears s birth)))
-        (sym (put_here a.last s (Some a.count)) ∙ ap (put a.last s (Some a.count)) (sym e))
-    births v (inr ne) = put_other w.birth s birth v ne ∙ g.image.birth v
-        ∙ sym (birth_kept a (becomes start a p (Bears s birth)) (a.last v)
-        (λ d e. put_other a.birth a.count birth d (old v d e)))
-        ∙ ap (birth_shown (becomes start a p (Bears s birth))) (sym (put_other a.last s (Some a.count) v ne))
-
-    keys : (v : ℕ) → (v ≡ s) ⊎ (v ≢ s) →
-        w.key v ≡ key_shown (becomes start a p (Bears s birth)) (put a.last s (Some a.count) v)
-    keys v (inl e) = g.image.key v ∙ ap (λ i. key_shown a (a.last i)) e
-        ∙ sym (put_here a.key a.count (key_shown a (a.last s)))
-        ∙ ap (key_shown (becomes start a p (Bears s birth)))
-        (sym (put_here a.last s (Some a.count)) ∙ ap (put a.last s (Some a.count)) (sym e))
-    keys v (inr ne) = g.image.key v
-        ∙ sym (key_kept a (becomes start a p (Bears s birth)) (a.last v)
-        (λ d e. put_other a.key a.count (key_shown a (a.last s)) d (old v d e)))
-        ∙ ap (key_shown (becomes start a p (Bears s birth))) (sym (put_other a.last s (Some a.count) v ne))
-
-    values : (v : ℕ) → (v ≡ s) ⊎ (v ≢ s) →
-        w.value v ≡ value_shown (becomes start a p (Bears s birth)) (put a.last s (Some a.count) v)
-    values v (inl e) = g.image.value v ∙ ap (λ i. value_shown a (a.last i)) e
-        ∙ sym (put_here a.value a.count (value_shown a (a.last s)))
-        ∙ ap (value_shown (becomes start a p (Bears s birth)))
-        (sym (put_here a.last s (Some a.count)) ∙ ap (put a.last s (Some a.count)) (sym e))
-    values v (inr ne) = g.image.value v
-        ∙ sym (value_kept a (becomes start a p (Bears s birth)) (a.last v)
-        (λ d e. put_other a.value a.count (value_shown a (a.last s)) d (old v d e)))
-        ∙ ap (value_shown (becomes start a p (Bears s birth))) (sym (put_other a.last s (Some a.count) v ne))
 
 pub step_store_birth : (start : Start) (w : World) (a : Incarnations) (notes : ℕ → Notes) (p s birth : ℕ) →
     Agrees start w a notes → Accepts start (w.know p) (StoreBirth s birth) →

@@ -22,7 +22,7 @@ use Rattle.vbr_machine.specs.declared.knowledge.SlotPlace.{SlotPlace}
 use Rattle.vbr_machine.proofs.words.Puts.{put_here, put_other}
 use Rattle.vbr_machine.proofs.chronicles.Growth.{grows}
 use Rattle.vbr_machine.proofs.reads.Noted.{knows_on, knows_put, knows_same, noted_read}
-use Rattle.vbr_machine.proofs.reads.OwnSlots.{own_kept, owns_same, untouched_in}
+use Rattle.vbr_machine.proofs.reads.OwnSlots.{unlinked_so, own_kept, owns_same, untouched_in}
 use Rattle.vbr_machine.proofs.chronicles.Shown.{image_kept}
 use Rattle.vbr_machine.proofs.steps.Steps.{StepAgrees, agrees_next, agrees_still}
 
@@ -35,16 +35,8 @@ reread_fits s p e f (Some (Free known)) place last stamp q le h = h
 reread_fits {start} {a} s p e f (Some (InHand known)) place last stamp q le h =
     own_kept a a p e f (Some (InHand known)) place last stamp le (untouched_in a a (λ c _. refl)) h
 reread_fits {start} {a} s p e f (Some (Unlinked seen)) place last stamp q le h =
-    let x = h.1 in (
-      h.0,
-      record {
-        node = x.node;
-        last_is = x.last_is;
-        unlinked = x.unlinked;
-        state = x.state;
-        seen = λ t. let u = rw x.state at (s.times x.node) in let v = u.1 in omega arith;
-      },
-    )
+    let x = h.1 in
+    (h.0, unlinked_so a f true x refl (λ t. let u = rw x.state at (s.times x.node) in let v = u.1 in omega arith))
 
 owns_read : {start : Start} {a : Incarnations} → SlotsSound start a → (know : ℕ → Know) (p epoch : ℕ) →
     epoch ≡ a.epoch → (know p).epoch ≤ a.epoch → Owns a know → Owns a (put know p (read_epoch (know p) epoch))

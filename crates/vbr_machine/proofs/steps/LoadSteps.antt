@@ -69,35 +69,33 @@ one_as : (a : Incarnations) (s e f : ℕ) (values : ℕ → ℕ) (value c : ℕ)
     IsHeldIncarnation a f s c → values c ≡ value → IsOfHeldOne a e s values value of
 one_as a s e f values value c of q o h v = rw (q, o) (h, v)
 
-pub step_load_birth : (start : Start) (w : World) (a : Incarnations) (notes : ℕ → Notes) (p s : ℕ) →
-    Agrees start w a notes → Accepts start (w.know p) (LoadBirth s) → StepAgrees start w a notes p (LoadBirth s)
-step_load_birth start w a notes p s g ok = (
-  tt,
-  loaded start w a notes p (BirthOf s (w.birth s)) g (ap (BirthOf s) (g.image.birth s))
-      (λ e. let h = held_now start w a notes p s g ok.held e in
-      one_as a s (w.know p).epoch a.epoch a.birth (w.birth s) (last_in a s) (a.last s) (sym e) h.1 h.0
-      (sym (g.image.birth s ∙ ap (birth_shown a) h.1))),
-)
-
-pub step_load_key : (start : Start) (w : World) (a : Incarnations) (notes : ℕ → Notes) (p s : ℕ) →
-    Agrees start w a notes → Accepts start (w.know p) (LoadKey s) → StepAgrees start w a notes p (LoadKey s)
-step_load_key start w a notes p s g ok = (
-  tt,
-  loaded start w a notes p (KeyOf s (w.key s)) g (ap (KeyOf s) (g.image.key s))
-      (λ e. let h = held_now start w a notes p s g ok.held e in
-      one_as a s (w.know p).epoch a.epoch a.key (w.key s) (last_in a s) (a.last s) (sym e) h.1 h.0
-      (sym (g.image.key s ∙ ap (key_shown a) h.1))),
-)
-
-pub step_load_value : (start : Start) (w : World) (a : Incarnations) (notes : ℕ → Notes) (p s : ℕ) →
-    Agrees start w a notes → Accepts start (w.know p) (LoadValue s) → StepAgrees start w a notes p (LoadValue s)
-step_load_value start w a notes p s g ok = (
-  tt,
-  loaded start w a notes p (ValueOf s (w.value s)) g (ap (ValueOf s) (g.image.value s))
-      (λ e. let h = held_now start w a notes p s g ok.held e in
-      one_as a s (w.know p).epoch a.epoch a.value (w.value s) (last_in a s) (a.last s) (sym e) h.1 h.0
-      (sym (g.image.value s ∙ ap (value_shown a) h.1))),
-)
+-- the loads of the birth, the key and the value of a slot that the pass holds
+pub step_loads : (start : Start) (w : World) (a : Incarnations) (notes : ℕ → Notes) (p s : ℕ) → Agrees start w a notes →
+    holds (w.know p).checked s ≡ true →
+    StepAgrees start w a notes p (LoadBirth s) × StepAgrees start w a notes p (LoadKey s) ×
+    StepAgrees start w a notes p (LoadValue s)
+step_loads start w a notes p s g held =
+    let birth = g.image.birth s in
+    let key = g.image.key s in
+    let value = g.image.value s in (
+      (
+        tt,
+        loaded start w a notes p (BirthOf s (w.birth s)) g (ap (BirthOf s) birth) (good a.birth birth_shown birth refl),
+      ),
+      (tt, loaded start w a notes p (KeyOf s (w.key s)) g (ap (KeyOf s) key) (good a.key key_shown key refl)),
+      (
+        tt,
+        loaded start w a notes p (ValueOf s (w.value s)) g (ap (ValueOf s) value) (good a.value value_shown value refl),
+      ),
+    )
+  where
+    good : (values : ℕ → ℕ) (shown : Incarnations → Option ℕ → ℕ) {value : ℕ} → value ≡ shown a (a.last s) →
+        shown a (Some (last_in a s)) ≡ values (last_in a s) → a.epoch ≡ (w.know p).epoch →
+        IsOfHeldOne a (w.know p).epoch s values value (a.last s)
+    good values shown {value} is at e =
+        let h = held_now start w a notes p s g held e in
+        one_as a s (w.know p).epoch a.epoch values value (last_in a s) (a.last s) (sym e) h.1 h.0
+        (sym (is ∙ ap (shown a) h.1 ∙ at))
 
 -- the link of the word that stands at a place is that of the image
 pub link_read : {start : Start} {w : World} {a : Incarnations} {notes : ℕ → Notes} → Agrees start w a notes →

@@ -16,10 +16,11 @@ use Rattle.vbr_machine.specs.Chronicles.{IsLastDead, IsDead, Allowed, Gains, Rai
 use Rattle.vbr_machine.specs.Chronicles.{becomes}
 use Rattle.vbr_machine.specs.Sound.{PlaceFits, SlotsSound}
 use Rattle.vbr_machine.specs.Notes.{Notes}
-use Rattle.vbr_machine.specs.Agreement.{FitsNotes, OwnFits, Owns, Fits, Agrees}
+use Rattle.vbr_machine.specs.Agreement.{FitsNotes, IsStored, OwnFits, Owns, Fits, Agrees}
 use Rattle.vbr_machine.specs.declared.event.Step.TheVariants.{Raise, TakeFlag, StoreKey, StoreValue, StoreLink}
 use Rattle.vbr_machine.specs.declared.knowledge.Holding.{Holding}
 use Rattle.vbr_machine.specs.declared.knowledge.Holding.TheVariants.{Free, Unlinked, InHand}
+use Rattle.vbr_machine.specs.declared.knowledge.Unpublished.{Unpublished}
 use Rattle.vbr_machine.specs.declared.knowledge.SlotPlace.{SlotPlace}
 use Rattle.vbr_machine.specs.declared.knowledge.SlotPlace.TheVariants.{Shared, Own, Hand, Listed}
 use Rattle.vbr_machine.proofs.words.Puts.{put_here, put_other}
@@ -33,7 +34,7 @@ use Rattle.vbr_machine.proofs.steps.GivingUp.{AgreesAway, free_away, given_up}
 use Rattle.vbr_machine.proofs.reads.OwnSlots.{IsSlotKept, owns_changed, owns_moved, lasts_differ, untouched_in}
 use Rattle.vbr_machine.proofs.chronicles.Shown.{image_kept, image_words, fits_kept, link_kept, key_kept, value_kept}
 use Rattle.vbr_machine.proofs.steps.Steps.{StepAgrees, agrees_owned, agrees_still, puts_same, at_put, hand_facts}
-use Rattle.vbr_machine.proofs.steps.Steps.{own_not_of, hand_not_of}
+use Rattle.vbr_machine.proofs.steps.Steps.{HandFacts, own_not_of, hand_not_of}
 
 -- another slot where only the place of one has changed
 moved_beside : (a : Incarnations) (s v : ℕ) (place : SlotPlace) → v ≢ s →
@@ -163,6 +164,56 @@ owns_in_hand a b know p s own place same kept fits o =
     owns_changed a b know p s (with_own (know p) s own) refl (λ k ne. put_other (know p).own s own k ne)
     (hand_not_of p (a.place s) place) (hand_not_of p (b.place s) (ap (λ f. f s) same ∙ place)) kept fits o
 
+-- b with the places, the last incarnations, the stamps, the states and the births of a
+abbrev stored_in : Incarnations → Incarnations → Incarnations
+stored_in a b = record b { place = a.place; last = a.last; stamp = a.stamp; state = a.state; birth = a.birth }
+
+-- a pass that stores of the incarnation in its hand knows k of it then, and owns the other slots as before
+owns_stored : {start : Start} {a : Incarnations} → SlotsSound start a → (b : Incarnations) (know : ℕ → Know) (p s : ℕ)
+    (own : Option Holding) (k : Unpublished) (x : HandFacts a p s (know p).epoch ((know p).own s)) →
+    own ≡ Some (InHand k) → k.stamp ≡ x.known.stamp → k.birth ≡ x.known.birth →
+    ((d : ℕ) → d ≢ last_in a s → ((b.is_keyed d ≡ a.is_keyed d) × (b.key d ≡ a.key d)) ×
+    ((b.is_valued d ≡ a.is_valued d) × (b.value d ≡ a.value d)) ×
+    ((b.is_aimed d ≡ a.is_aimed d) × (b.link d ≡ a.link d))) →
+    IsStored (b.is_keyed (last_in a s)) (b.key (last_in a s)) k.key →
+    IsStored (b.is_valued (last_in a s)) (b.value (last_in a s)) k.value →
+    IsStored (b.is_aimed (last_in a s)) (b.link (last_in a s)) k.link → Owns a know →
+    Owns (stored_in a b) (put know p (with_own (know p) s own))
+owns_stored {start} {a} sound b know p s own k x is stamp birth beside keyed valued aimed o =
+    owns_in_hand a (stored_in a b) know p s own x.place refl
+    (λ v ne. record {
+      place = refl;
+      last = refl;
+      stamp = refl;
+      untouched = λ d e.
+          let kept = beside d (lasts_differ sound v s (last_in a s) d ne x.last e) in
+          record {
+            state = refl;
+            birth = refl;
+            key = kept.0.1;
+            is_keyed = kept.0.0;
+            value = kept.1.1;
+            is_valued = kept.1.0;
+            link = kept.2.1;
+            is_aimed = kept.2.0;
+          };
+    })
+    (rw (put_here (know p).own s own, is) (
+      x.place,
+      record {
+        node = last_in a s;
+        last_is = x.last;
+        state = x.state;
+        born = x.born;
+        birth_is = x.birth_is ∙ sym birth;
+        keyed = keyed;
+        valued = valued;
+        aimed = aimed;
+      },
+      x.stamp_is ∙ sym stamp,
+    ))
+    o
+
 pub step_store_key : (start : Start) (w : World) (a : Incarnations) (notes : ℕ → Notes) (p s key : ℕ) →
     Agrees start w a notes → Accepts start (w.know p) (StoreKey s key) → StepAgrees start w a notes p (StoreKey s key)
 step_store_key start w a notes p s key g ok =
@@ -180,39 +231,10 @@ step_store_key start w a notes p s key g ok =
           ∙ sym (key_kept a b (a.last k)
           (λ d e. put_other a.key c key d (lasts_differ g.sound.slots k s c d ne x.last e)))))
           (λ k. g.image.value k ∙ sym (value_kept a b (a.last k) (λ d _. refl))) g.image.stamp) refl
-          (owns_in_hand a b w.know p s own x.place refl
-          (λ k ne. record {
-            place = refl;
-            last = refl;
-            stamp = refl;
-            untouched = λ d e.
-                let nd = lasts_differ g.sound.slots k s c d ne x.last e in
-                record {
-                  state = refl;
-                  birth = refl;
-                  key = put_other a.key c key d nd;
-                  is_keyed = put_other a.is_keyed c true d nd;
-                  value = refl;
-                  is_valued = refl;
-                  link = refl;
-                  is_aimed = refl;
-                };
-          })
-          (rw (put_here (w.know p).own s own, x.holding_is) (
-            x.place,
-            record {
-              node = c;
-              last_is = x.last;
-              state = x.state;
-              born = x.born;
-              birth_is = x.birth_is;
-              keyed = (put_here a.is_keyed c true, put_here a.key c key);
-              valued = x.valued;
-              aimed = x.aimed;
-            },
-            x.stamp_is,
-          ))
-          g.owns)
+          (owns_stored g.sound.slots b w.know p s own (record x.known { key = Some key }) x
+          (ap (λ h. with_key h key) x.holding_is) refl refl
+          (λ d ne. ((put_other a.is_keyed c true d ne, put_other a.key c key d ne), (refl, refl), (refl, refl)))
+          (put_here a.is_keyed c true, put_here a.key c key) x.valued x.aimed g.owns)
           g.calls g.births,
     )
 
@@ -235,39 +257,10 @@ step_store_value start w a notes p s value g ok =
           (λ k ne. g.image.value k
           ∙ sym (value_kept a b (a.last k)
           (λ d e. put_other a.value c value d (lasts_differ g.sound.slots k s c d ne x.last e))))) g.image.stamp) refl
-          (owns_in_hand a b w.know p s own x.place refl
-          (λ k ne. record {
-            place = refl;
-            last = refl;
-            stamp = refl;
-            untouched = λ d e.
-                let nd = lasts_differ g.sound.slots k s c d ne x.last e in
-                record {
-                  state = refl;
-                  birth = refl;
-                  key = refl;
-                  is_keyed = refl;
-                  value = put_other a.value c value d nd;
-                  is_valued = put_other a.is_valued c true d nd;
-                  link = refl;
-                  is_aimed = refl;
-                };
-          })
-          (rw (put_here (w.know p).own s own, x.holding_is) (
-            x.place,
-            record {
-              node = c;
-              last_is = x.last;
-              state = x.state;
-              born = x.born;
-              birth_is = x.birth_is;
-              keyed = x.keyed;
-              valued = (put_here a.is_valued c true, put_here a.value c value);
-              aimed = x.aimed;
-            },
-            x.stamp_is,
-          ))
-          g.owns)
+          (owns_stored g.sound.slots b w.know p s own (record x.known { value = Some value }) x
+          (ap (λ h. with_value h value) x.holding_is) refl refl
+          (λ d ne. ((refl, refl), (put_other a.is_valued c true d ne, put_other a.value c value d ne), (refl, refl)))
+          x.keyed (put_here a.is_valued c true, put_here a.value c value) x.aimed g.owns)
           g.calls g.births,
     )
 
@@ -322,39 +315,9 @@ step_store_link start w a notes p s next g ok =
           (λ d e. (refl, put_other a.link c link d (lasts_differ g.sound.slots k s c d ne x.last e), refl)))))
           (λ k. g.image.key k ∙ sym (key_kept a b (a.last k) (λ d _. refl)))
           (λ k. g.image.value k ∙ sym (value_kept a b (a.last k) (λ d _. refl))) g.image.stamp) refl
-          (owns_in_hand a b w.know p s own x.place refl
-          (λ k ne. record {
-            place = refl;
-            last = refl;
-            stamp = refl;
-            untouched = λ d e.
-                let nd = lasts_differ g.sound.slots k s c d ne x.last e in
-                record {
-                  state = refl;
-                  birth = refl;
-                  link = put_other a.link c link d nd;
-                  is_aimed = put_other a.is_aimed c true d nd;
-                  key = refl;
-                  is_keyed = refl;
-                  value = refl;
-                  is_valued = refl;
-                };
-          })
-          (rw (put_here (w.know p).own s own)
-          (rw (ap (λ h. with_link h link) x.holding_is) (
-            x.place,
-            record {
-              node = c;
-              last_is = x.last;
-              state = x.state;
-              born = x.born;
-              birth_is = x.birth_is;
-              keyed = x.keyed;
-              valued = x.valued;
-              aimed = (put_here a.is_aimed c true, put_here a.link c link);
-            },
-            x.stamp_is,
-          )))
-          g.owns)
+          (owns_stored g.sound.slots b w.know p s own (record x.known { link = Some link }) x
+          (ap (λ h. with_link h link) x.holding_is) refl refl
+          (λ d ne. ((refl, refl), (refl, refl), (put_other a.is_aimed c true d ne, put_other a.link c link d ne)))
+          x.keyed x.valued (put_here a.is_aimed c true, put_here a.link c link) g.owns)
           g.calls g.births,
     )

@@ -9,20 +9,18 @@ use Rattle.vbr_machine.specs.declared.knowledge.Read.{Read}
 use Rattle.vbr_words.specs.Words.{link_of}
 use Rattle.vbr_words.specs.declared.place.At.{At}
 use Rattle.vbr_words.specs.declared.place.At.TheVariants.{Head, Slot}
-use Rattle.vbr_machine.specs.Opened.{opening_keys}
 use Rattle.vbr_machine.specs.Acceptance.{Accepts}
 use Rattle.vbr_machine.specs.Learning.{link_written}
 use Rattle.vbr_machine.specs.Machine.{World}
 use Rattle.vbr_machine.specs.Incarnations.{Linked, Incarnations, last_in}
 use Rattle.vbr_machine.specs.Images.{birth_shown, slot_shown, link_to_next, link_shown_at}
 use Rattle.vbr_machine.specs.Chronicles.{Inserts, MayInsert, next_of, becomes}
-use Rattle.vbr_machine.specs.Sound.{SlotsSound, Grows}
+use Rattle.vbr_machine.specs.Sound.{SlotsSound}
 use Rattle.vbr_machine.specs.Notes.{before_at}
 use Rattle.vbr_machine.specs.Agreement.{IsHeldIncarnation, IsHeldAt, IsHeldNext, IsGood, reads_of, Agrees}
 use Rattle.vbr_machine.specs.Notes.{Note, Notes}
 use Rattle.vbr_machine.specs.declared.event.Step.TheVariants.{Publish}
 use Rattle.vbr_machine.proofs.words.Puts.{put_here}
-use Rattle.vbr_machine.proofs.chronicles.Growth.{grows}
 use Rattle.vbr_machine.proofs.reads.Searches.{birth_of_is}
 use Rattle.vbr_machine.proofs.reads.StandingLinks.{LinkStands, node_at, birth_there}
 use Rattle.vbr_machine.proofs.steps.Exchanges.{ReadyFacts, ready_facts, inserted_there, inserted_here}
@@ -62,7 +60,7 @@ module _ (start : Start) (w : World) (a : Incarnations) (notes : ℕ → Notes) 
       (g.owns p s) ok.in_range.1
 
   -- the link in hand is the one that the incarnation must have
-  pub own_link : a.link (last_in a s) ≡ link_to_next a (a.birth (last_in a s)) (next_of a (before_at a pred))
+  own_link : a.link (last_in a s) ≡ link_to_next a (a.birth (last_in a s)) (next_of a (before_at a pred))
   own_link = aims_at g.sound.slots (w.know p).epoch (notes p).checked (w.know p).checked (last_in a s)
       (link_of expected).slot (next_of a (before_at a pred)) (g.knows p).checked_reads (g.knows p).checked m.next
       ok.held.2.0 ready.link_ready
@@ -96,9 +94,6 @@ module _ (start : Start) (w : World) (a : Incarnations) (notes : ℕ → Notes) 
   pub old_links : (place : At) → place ≢ pred →
       link_shown_at (becomes start a p (Inserts (last_in a s) (before_at a pred))) place ≡ link_shown_at a place
   old_links = inserted_there g.sound p (last_in a s) pred m.last may_insert
-
-  pub gr : Grows a (becomes start a p (Inserts (last_in a s) (before_at a pred)))
-  gr = grows start (opening_keys start) a p (Inserts (last_in a s) (before_at a pred)) g.sound may_insert
 
   pub held_new : IsHeldIncarnation (becomes start a p (Inserts (last_in a s) (before_at a pred))) (w.know p).epoch s
       (last_in a s)

@@ -8,7 +8,7 @@ use Rattle.vbr_words.specs.declared.place.At.{At}
 use Rattle.vbr_words.specs.declared.place.At.TheVariants.{Head, Slot}
 use Rattle.vbr_machine.specs.Put.{put}
 use Rattle.vbr_machine.specs.Links.{link_to, marked}
-use Rattle.vbr_machine.specs.Opened.{opening_keys, payload_kept}
+use Rattle.vbr_machine.specs.Opened.{payload_kept}
 use Rattle.vbr_machine.specs.Knowledge.{key_in, value_in, birth_of}
 use Rattle.vbr_machine.specs.Acceptance.{MayReplace, Accepts}
 use Rattle.vbr_machine.specs.Learning.{link_written}
@@ -16,7 +16,7 @@ use Rattle.vbr_machine.specs.Machine.{World}
 use Rattle.vbr_machine.specs.Incarnations.{Linked, Marked, Incarnations, last_in, payload_of}
 use Rattle.vbr_machine.specs.Images.{link_to_next, link_in_state, link_shown, link_shown_at}
 use Rattle.vbr_machine.specs.Chronicles.{Replaces, MayTakePlace, becomes}
-use Rattle.vbr_machine.specs.Sound.{Sound, Grows}
+use Rattle.vbr_machine.specs.Sound.{Sound}
 use Rattle.vbr_machine.specs.Notes.{Notes}
 use Rattle.vbr_machine.specs.Agreement.{IsHeldIncarnation, OwnFits, Agrees}
 use Rattle.vbr_machine.specs.declared.event.Step.TheVariants.{Replace}
@@ -24,7 +24,6 @@ use Rattle.vbr_machine.specs.declared.knowledge.Read.{Read}
 use Rattle.vbr_machine.specs.declared.knowledge.Holding.{Holding}
 use Rattle.vbr_machine.specs.declared.knowledge.Holding.TheVariants.{InHand}
 use Rattle.vbr_machine.proofs.words.Puts.{put_here, put_other}
-use Rattle.vbr_machine.proofs.chronicles.Growth.{grows}
 use Rattle.vbr_machine.proofs.reads.OwnSlots.{lasts_differ}
 use Rattle.vbr_machine.proofs.steps.Exchanges.{FilledFacts, filled_facts, shown_as_before}
 use Rattle.vbr_machine.proofs.reads.Searches.{key_is, value_is}
@@ -135,7 +134,7 @@ module _ (start : Start) (w : World) (a : Incarnations) (notes : ℕ → Notes) 
       (g.knows p).checked_reads (g.knows p).checked m.held)
 
   -- the link in hand is the one that the incarnation must have
-  pub own_link : a.link (last_in a t) ≡ link_to_next a (a.birth (last_in a t)) (a.next (last_in a s))
+  own_link : a.link (last_in a t) ≡ link_to_next a (a.birth (last_in a t)) (a.next (last_in a s))
   own_link = aims_at g.sound.slots (w.know p).epoch (notes p).checked (w.know p).checked (last_in a t)
       (link_of expected).slot (a.next (last_in a s)) (g.knows p).checked_reads (g.knows p).checked m.next ok.held.2
       ready.link_ready
@@ -168,9 +167,6 @@ module _ (start : Start) (w : World) (a : Incarnations) (notes : ℕ → Notes) 
   pub old_links : (place : At) → place ≢ Slot s →
       link_shown_at (becomes start a p (Replaces (last_in a s) (last_in a t))) place ≡ link_shown_at a place
   old_links = replaced_there g.sound p (last_in a t) s m.last may_take
-
-  pub gr : Grows a (becomes start a p (Replaces (last_in a s) (last_in a t)))
-  gr = grows start (opening_keys start) a p (Replaces (last_in a s) (last_in a t)) g.sound may_take
 
   pub held_new : IsHeldIncarnation (becomes start a p (Replaces (last_in a s) (last_in a t))) (w.know p).epoch t
       (last_in a t)

@@ -1,26 +1,28 @@
 -- What it is that a step keeps the agreement, and the agreement at opening.
 use Rattle.std.proofs.Common.{◌≡◌, ◌≢◌, ℕ, ◌-◌, ◌^◌, ◌<◌, ◌≤◌, min, Bool, true, false, List, [], Option, Some, None}
 use Rattle.std.proofs.Common.{refl, arith, sym, ap, ◌∙◌, inl, inr}
-use Rattle.std.specs.Prelude.{◌⊎◌, if◌then◌else◌}
-use Rattle.std.specs.List.{AllByRecursion}
+use Rattle.std.specs.Prelude.{◌⊎◌, ◌==◌, if◌then◌else◌}
 use Rattle.std.proofs.lemmas.List.{get_or_past}
-use Rattle.std.proofs.lemmas.Bool.{cases_eq, cond-true, cond-false}
+use Rattle.std.proofs.lemmas.Bool.{cases_eq, cond-true, cond-false, eqb-true}
 use Rattle.vbr_machine.specs.Start.{Start, IsStart}
 use Rattle.vbr_machine.specs.Put.{put}
 use Rattle.vbr_machine.specs.Opened.{opening_keys, key_count, has_opening_key, key_number, value_number, opening_birth}
 use Rattle.vbr_machine.specs.Opened.{first_key, key_behind, link_to_key, link_at_opening}
 use Rattle.vbr_machine.specs.Learning.{with_own, with_checked}
-use Rattle.vbr_machine.specs.Machine.{World, opening, after}
+use Rattle.vbr_words.specs.Words.{word_of}
+use Rattle.vbr_words.specs.declared.place.At.{At}
+use Rattle.vbr_machine.specs.Machine as machine
+use Rattle.vbr_machine.specs.Machine.{World, knows_nothing, opening, after}
 use Rattle.vbr_machine.specs.Incarnations.{Incarnations, opening_last, at_opening, last_in}
 use Rattle.vbr_machine.specs.Incarnations as state
 use Rattle.vbr_machine.specs.Images.{birth_shown, key_shown, value_shown, link_to_next, link_in_state, link_shown}
 use Rattle.vbr_machine.specs.Images.{IsImage}
 use Rattle.vbr_machine.specs.Chronicles.{Happening, IsLawful, Allowed, becomes, incarnations_from}
-use Rattle.vbr_machine.specs.Notes.{Notes, no_notes, notes_with, shown_at, note_of, with_won}
+use Rattle.vbr_machine.specs.Notes.{Notes, no_notes, notes_with, with_won}
 use Rattle.vbr_machine.specs.Accounts.{happens, just}
 use Rattle.vbr_words.specs.Buckets.{bucket_of}
 use Rattle.vbr_machine.specs.Acceptance.{IsInHand, IsUnlinked, IsReread}
-use Rattle.vbr_machine.specs.Agreement.{IsGood, IsNotOf, IsStored, OwnFits, AllKnowRight, Owns, Fits, Agrees}
+use Rattle.vbr_machine.specs.Agreement.{IsNotOf, IsStored, OwnFits, AllKnowRight, Owns, Fits, Agrees}
 use Rattle.vbr_machine.specs.declared.event.Step.{Step}
 use Rattle.vbr_machine.specs.declared.knowledge.Read.{Read}
 use Rattle.vbr_machine.specs.declared.knowledge.Unpublished.{Unpublished}
@@ -33,6 +35,7 @@ use Rattle.vbr_machine.proofs.chronicles.OpeningKeys.{opens_with_one_or_none}
 use Rattle.vbr_machine.proofs.chronicles.SoundAfter.{state_at_first, sound_at_first, sound_kept}
 use Rattle.vbr_machine.proofs.chronicles.ToldCalls.{tells_at_first, tells_kept}
 use Rattle.vbr_machine.proofs.reads.Noted.{knows_same, knows_own, knows_on, knows_put, noted_beside, noted_checked}
+use Rattle.vbr_machine.proofs.reads.Noted.{noted_none, AreShown, AreGood}
 use Rattle.vbr_machine.proofs.chronicles.Growth.{grows}
 
 -- what an accepted step adds to the chronicle is lawful, and the world, the incarnations and the notes agree after it
@@ -117,16 +120,7 @@ agrees_at_first start is = record {
     link = λ c. record { slot = tt; version = omega arith };
   };
   image = image_at_first start;
-  knows = λ p.
-      record {
-        epoch = omega arith;
-        checked_reads = refl;
-        pending_reads = refl;
-        checked_shown = tt;
-        pending_shown = tt;
-        checked = tt;
-        pending = λ e. tt;
-      };
+  knows = λ p. noted_none (at_opening start) knows_nothing (omega arith) (refl, refl);
   owns = λ p s. no_owner_at_first (has_opening_key start s) (bucket_of start.shape (key_number start s)) p;
   calls = refl;
   births = let few = is.few in let slots = is.shape.slots in omega (arith, few, slots);
@@ -183,9 +177,7 @@ pub agrees_won : (start : Start) (w v : World) (a : Incarnations) (notes : ℕ �
     (reads : List Read) (s : ℕ) (h : Option Holding) → Agrees start w a notes →
     Allowed start (opening_keys start) a p what →
     Fits start (becomes start a p what) → IsImage v (becomes start a p what) →
-    AllByRecursion (λ read. read ≡ shown_at (becomes start a p what) read) reads →
-    AllByRecursion (λ read. IsGood (becomes start a p what) (w.know p).epoch (note_of (becomes start a p what) read))
-    reads →
+    AreShown (becomes start a p what) reads → AreGood (becomes start a p what) (w.know p).epoch reads →
     v.know ≡ put w.know p (with_own (with_checked (w.know p) reads) s h) →
     Owns (becomes start a p what) (put w.know p (with_own (with_checked (w.know p) reads) s h)) →
     v.calls ≡ (becomes start a p what).calls → v.births ≡ min (becomes start a p what).count (2 ^ 64 - 1) →
@@ -210,13 +202,23 @@ Leaves start w v a notes p what reads t =
     × Agrees start (if t then v t else w) (incarnations_from start a adds)
     (put notes p (if t then with_won (incarnations_from start a adds) (notes p) reads else notes p))
 
-pub leaves : (start : Start) (w : World) (v : Bool → World) (a : Incarnations) (notes : ℕ → Notes) (p : ℕ)
+leaves : (start : Start) (w : World) (v : Bool → World) (a : Incarnations) (notes : ℕ → Notes) (p : ℕ)
     (what : Happening) (reads : List Read) (t : Bool) → Agrees start w a notes →
     (t ≡ true → Allowed start (opening_keys start) a p what ×
     Agrees start (v true) (becomes start a p what) (put notes p (with_won (becomes start a p what) (notes p) reads))) →
     Leaves start w v a notes p what reads t
 leaves start w v a notes p what reads false g won = (tt, agrees_still start w a notes p g)
 leaves start w v a notes p what reads true g won = let x = won refl in ((x.0, tt), x.1)
+
+-- what an exchange of the link at a place leaves: it wins where it finds the word that it expects
+pub leaves_at : (start : Start) (w : World) (v : Bool → World) (a : Incarnations) (notes : ℕ → Notes) (p : ℕ)
+    (what : Happening) (reads : List Read) (place : At) (expected : ℕ) → Agrees start w a notes →
+    (word_of (machine.link_at w place) ≡ expected → Allowed start (opening_keys start) a p what ×
+    Agrees start (v true) (becomes start a p what) (put notes p (with_won (becomes start a p what) (notes p) reads))) →
+    Leaves start w v a notes p what reads (word_of (machine.link_at w place) == expected)
+leaves_at start w v a notes p what reads place expected g won =
+    let found = word_of (machine.link_at w place) in
+    leaves start w v a notes p what reads (found == expected) g (λ t. won (eqb-true found expected t))
 
 -- ---- puts
 

@@ -1,32 +1,28 @@
 -- The step that unlinks a node keeps the agreement.
 use Rattle.std.proofs.Common.{◌≡◌, ℕ, Bool, true, false, Some, refl, arith, sym, ap, ◌∙◌}
 use Rattle.std.specs.Prelude.{◌==◌}
-use Rattle.std.specs.List.{AllByRecursion}
-use Rattle.std.proofs.lemmas.Bool.{eqb-true}
 use Rattle.vbr_machine.specs.Start.{Start}
 use Rattle.vbr_words.specs.Words.{word_of, link_of}
 use Rattle.vbr_words.specs.declared.link.Link.{Link}
 use Rattle.vbr_words.specs.declared.place.At.{At}
-use Rattle.vbr_words.specs.declared.place.At.TheVariants.{Head, Slot}
 use Rattle.vbr_machine.specs.Put.{put}
-use Rattle.vbr_machine.specs.Opened.{opening_keys}
 use Rattle.vbr_machine.specs.Knowledge.{marked_in}
 use Rattle.vbr_machine.specs.Acceptance.{next_of_marked, Accepts}
 use Rattle.vbr_machine.specs.Learning.{with_own, with_checked, reads_won, link_written}
-use Rattle.vbr_machine.specs.Machine.{World, with_link_at}
+use Rattle.vbr_machine.specs.Machine.{World}
 use Rattle.vbr_machine.specs.Machine as machine
 use Rattle.vbr_machine.specs.Incarnations.{Incarnations, last_in}
 use Rattle.vbr_machine.specs.Incarnations as state
-use Rattle.vbr_machine.specs.Chronicles.{Unlinks, Allowed, next_of, becomes}
-use Rattle.vbr_machine.specs.Notes.{Notes, before_at, last_at, shown_at, note_of, with_won}
-use Rattle.vbr_machine.specs.Agreement.{IsGood, Agrees}
+use Rattle.vbr_machine.specs.Chronicles.{Unlinks, next_of, becomes}
+use Rattle.vbr_machine.specs.Notes.{Notes, before_at, last_at}
+use Rattle.vbr_machine.specs.Agreement.{Agrees}
 use Rattle.vbr_machine.specs.declared.event.Step.TheVariants.{Unlink}
 use Rattle.vbr_machine.specs.declared.knowledge.Read.TheVariants.{LinkAt}
 use Rattle.vbr_machine.specs.declared.knowledge.Holding.TheVariants.{Unlinked}
 use Rattle.vbr_machine.specs.declared.knowledge.SlotPlace.TheVariants.{Own}
 use Rattle.vbr_machine.proofs.words.Puts.{put_here, put_other}
 use Rattle.vbr_machine.proofs.reads.HeldReads.{stays_at, stays_next}
-use Rattle.vbr_machine.proofs.reads.OwnSlots.{owns_changed, lasts_differ, untouched_in}
+use Rattle.vbr_machine.proofs.reads.OwnSlots.{owns_changed, lasts_differ, kept_beside}
 use Rattle.vbr_machine.proofs.chronicles.Shown.{fits_kept}
 use Rattle.vbr_machine.proofs.reads.StandingLinks.{LinkStands, link_stands, node_at}
 use Rattle.vbr_machine.proofs.steps.MarkSteps.{listed_not_of}
@@ -35,15 +31,14 @@ use Rattle.vbr_machine.proofs.steps.PublishSteps.{birth_there_low, next_low}
 use Rattle.vbr_machine.proofs.steps.PublishedNotes.{pair_as}
 use Rattle.vbr_machine.proofs.steps.UnlinkSteps.{last_behind, next_behind, facts, may_unlink, link_is, new_link}
 use Rattle.vbr_machine.proofs.steps.UnlinkSteps.{old_links, gr}
-use Rattle.vbr_machine.proofs.steps.Steps.{StepAgrees, agrees_won, leaves, puts_same, own_not_of}
+use Rattle.vbr_machine.proofs.steps.Steps.{Leaves, agrees_won, leaves_at, puts_same, own_not_of}
+use Rattle.vbr_machine.proofs.reads.Noted.{AreShown, AreGood}
 
 module _ (start : Start) (w : World) (a : Incarnations) (notes : ℕ → Notes) (p : ℕ) (pred : At) (expected s : ℕ)
     (g : Agrees start w a notes) (ok : Accepts start (w.know p) (Unlink pred expected s))
     (m : LinkStands start a (w.know p).epoch (w.know p).checked pred (link_of expected)) where
   -- what the pass has checked by unlinking the node is good
-  goods : AllByRecursion
-      (λ read. IsGood (becomes start a p (Unlinks (last_in a s) (before_at a pred))) (w.know p).epoch
-      (note_of (becomes start a p (Unlinks (last_in a s) (before_at a pred))) read))
+  goods : AreGood (becomes start a p (Unlinks (last_in a s) (before_at a pred))) (w.know p).epoch
       (reads_won (w.know p) (Unlink pred expected s))
   goods =
       let c = last_in a s in
@@ -69,7 +64,7 @@ module _ (start : Start) (w : World) (a : Incarnations) (notes : ℕ → Notes) 
       )
 
   -- and it is what the incarnations show
-  shown : AllByRecursion (λ read. read ≡ shown_at (becomes start a p (Unlinks (last_in a s) (before_at a pred))) read)
+  shown : AreShown (becomes start a p (Unlinks (last_in a s) (before_at a pred)))
       (reads_won (w.know p) (Unlink pred expected s))
   shown = (ap (LinkAt pred) (sym (new_link start w a notes p pred expected s g ok m)), tt)
 
@@ -78,19 +73,16 @@ abbrev unlinked_world : Start → World → ℕ → At → ℕ → ℕ → Bool 
 unlinked_world start w p pred expected s =
     exchanged_world w p pred (Unlink pred expected s) s (Some (Unlinked false)) (put w.place s (Own p)) w.calls
 
-made : (start : Start) (w : World) (a : Incarnations) (notes : ℕ → Notes) (p : ℕ) (pred : At) (expected s : ℕ)
-    (g : Agrees start w a notes) (ok : Accepts start (w.know p) (Unlink pred expected s)) →
-    word_of (machine.link_at w pred) ≡ expected →
-    Allowed start (opening_keys start) a p (Unlinks (last_in a s) (before_at a pred)) ×
-    Agrees start (unlinked_world start w p pred expected s true)
-    (becomes start a p (Unlinks (last_in a s) (before_at a pred)))
-    (put notes p
-    (with_won (becomes start a p (Unlinks (last_in a s) (before_at a pred))) (notes p)
-    (reads_won (w.know p) (Unlink pred expected s))))
-made start w a notes p pred expected s g ok stands =
+pub step_unlink : (start : Start) (w : World) (a : Incarnations) (notes : ℕ → Notes) (p : ℕ) (pred : At)
+    (expected s : ℕ) (g : Agrees start w a notes) (ok : Accepts start (w.know p) (Unlink pred expected s)) →
+    Leaves start w (unlinked_world start w p pred expected s) a notes p (Unlinks (last_in a s) (before_at a pred))
+    (reads_won (w.know p) (Unlink pred expected s)) (word_of (machine.link_at w pred) == expected)
+step_unlink start w a notes p pred expected s g ok =
     let c = last_in a s in
     let b = becomes start a p (Unlinks c (before_at a pred)) in
-    let m = link_stands start w a notes p g pred expected ok.held.0 ok.in_range.0 stands in
+    leaves_at start w (unlinked_world start w p pred expected s) a notes p (Unlinks c (before_at a pred))
+    (reads_won (w.know p) (Unlink pred expected s)) pred expected g
+    (λ stands. let m = link_stands start w a notes p g pred expected ok.held.0 ok.in_range.0 stands in
     let r = facts start w a notes p pred expected s g ok m in
     let al = may_unlink start w a notes p pred expected s g ok m in
     let x = with_own (with_checked (w.know p) (reads_won (w.know p) (Unlink pred expected s))) s
@@ -112,14 +104,8 @@ made start w a notes p pred expected s g ok stands =
           (λ q ne. listed_not_of start (a.place s) (a.state c) (a.key c) (g.sound.slots.placed c s r.last)
           (rw r.state tt) q)
           (own_not_of p (b.place s) owned)
-          (λ k ne. record {
-            place = place k ∙ put_other a.place s (Own p) k ne;
-            last = refl;
-            stamp = refl;
-            untouched = untouched_in a b
-                (λ d e. put_other a.state c (state.Unlinked p a.epoch) d
-                (lasts_differ g.sound.slots k s c d ne r.last e));
-          })
+          (kept_beside a b s c (Own p) (λ k d ne e. lasts_differ g.sound.slots k s c d ne r.last e) place
+          (put_other a.state c (state.Unlinked p a.epoch)))
           (rw (put_here (w.know p).own s (Some (Unlinked false))) (
             owned,
             record {
@@ -132,18 +118,4 @@ made start w a notes p pred expected s g ok stands =
           ))
           g.owns)
           (left.2 ∙ g.calls) (ex.births ∙ g.births),
-    )
-
-pub step_unlink : (start : Start) (w : World) (a : Incarnations) (notes : ℕ → Notes) (p : ℕ) (pred : At)
-    (expected s : ℕ) → Agrees start w a notes → Accepts start (w.know p) (Unlink pred expected s) →
-    StepAgrees start w a notes p (Unlink pred expected s)
-step_unlink start w a notes p (Head h) expected s g ok =
-    leaves start w (unlinked_world start w p (Head h) expected s) a notes p
-    (Unlinks (last_in a s) (before_at a (Head h))) (reads_won (w.know p) (Unlink (Head h) expected s))
-    (word_of (w.head h) == expected) g
-    (λ t. made start w a notes p (Head h) expected s g ok (eqb-true (word_of (w.head h)) expected t))
-step_unlink start w a notes p (Slot q) expected s g ok =
-    leaves start w (unlinked_world start w p (Slot q) expected s) a notes p
-    (Unlinks (last_in a s) (before_at a (Slot q))) (reads_won (w.know p) (Unlink (Slot q) expected s))
-    (word_of (w.link q) == expected) g
-    (λ t. made start w a notes p (Slot q) expected s g ok (eqb-true (word_of (w.link q)) expected t))
+    ))

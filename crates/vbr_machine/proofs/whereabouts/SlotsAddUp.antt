@@ -82,6 +82,15 @@ module _ (start : Start) (passes : ℕ) (run : List Event) (each : (s : ℕ) →
       sum_none passes (had s)
       (λ p. let a = not_here s v (WithPass p) e (x p) in let b = not_here s v (Unstamped p) e (y p) in omega arith)
 
+  -- a slot that a pass has is in no other count
+  not_elsewhere : (s : ℕ) (v : Whereabouts) → (each s).whereabouts ≡ v → InSharedPool ≢ v → InSet ≢ v →
+      MarkedInList ≢ v → here InSharedPool s + here InSet s + here MarkedInList s ≡ 0
+  not_elsewhere s v e x y z =
+      let a = not_here s v InSharedPool e x in
+      let b = not_here s v InSet e y in
+      let c = not_here s v MarkedInList e z in
+      omega arith
+
   -- a slot is counted once
   once : (s : ℕ) (v : Whereabouts) → (each s).whereabouts ≡ v → IsOfPasses passes v → here v s ≡ 1 →
       1 ≡ here InSharedPool s + sum_of passes (had s) + here InSet s + here MarkedInList s
@@ -107,9 +116,7 @@ module _ (start : Start) (passes : ℕ) (run : List Event) (each : (s : ℕ) →
       let b = not_here s (WithPass q) (Unstamped p) e (λ n. cc) in
       omega arith) in
       let a = not_here s (WithPass q) (Unstamped q) e (λ n. cc) in
-      let b = not_here s (WithPass q) InSharedPool e (λ n. cc) in
-      let c = not_here s (WithPass q) InSet e (λ n. cc) in
-      let d = not_here s (WithPass q) MarkedInList e (λ n. cc) in
+      let b = not_elsewhere s (WithPass q) e (λ n. cc) (λ n. cc) (λ n. cc) in
       omega arith
   once s (Unstamped q) e low y =
       let others =
@@ -118,9 +125,7 @@ module _ (start : Start) (passes : ℕ) (run : List Event) (each : (s : ℕ) →
       let b = not_here s (Unstamped q) (Unstamped p) e (λ n. ne (cc)) in
       omega arith) in
       let a = not_here s (Unstamped q) (WithPass q) e (λ n. cc) in
-      let b = not_here s (Unstamped q) InSharedPool e (λ n. cc) in
-      let c = not_here s (Unstamped q) InSet e (λ n. cc) in
-      let d = not_here s (Unstamped q) MarkedInList e (λ n. cc) in
+      let b = not_elsewhere s (Unstamped q) e (λ n. cc) (λ n. cc) (λ n. cc) in
       omega arith
 
   adds_one : (s : ℕ) → 1 ≡ here InSharedPool s + sum_of passes (had s) + here InSet s + here MarkedInList s

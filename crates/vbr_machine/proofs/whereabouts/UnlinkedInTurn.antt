@@ -43,25 +43,12 @@ reread_is (Some (holding.Free n)) e = e
 reread_is (Some (holding.Unlinked seen)) e = refl
 reread_is (Some (holding.InHand known)) e = e
 
-keyed_is : (known : Option Holding) (key : ℕ) → is_unstamped (with_key known key) ≡ true → is_unstamped known ≡ true
-keyed_is None k e = e
-keyed_is (Some (holding.Free n)) k e = e
-keyed_is (Some (holding.Unlinked seen)) k e = refl
-keyed_is (Some (holding.InHand known)) k e = e
-
-valued_is : (known : Option Holding) (value : ℕ) → is_unstamped (with_value known value) ≡ true →
-    is_unstamped known ≡ true
-valued_is None k e = e
-valued_is (Some (holding.Free n)) k e = e
-valued_is (Some (holding.Unlinked seen)) k e = refl
-valued_is (Some (holding.InHand known)) k e = e
-
-linked_is : (known : Option Holding) (link : Link) → is_unstamped (with_link known link) ≡ true →
-    is_unstamped known ≡ true
-linked_is None k e = e
-linked_is (Some (holding.Free n)) k e = e
-linked_is (Some (holding.Unlinked seen)) k e = refl
-linked_is (Some (holding.InHand known)) k e = e
+-- a store leaves a slot in hand as unstamped as it was
+stored_same : (known : Option Holding) → ((key : ℕ) → is_unstamped (with_key known key) ≡ is_unstamped known) ×
+    ((value : ℕ) → is_unstamped (with_value known value) ≡ is_unstamped known) ×
+    ((link : Link) → is_unstamped (with_link known link) ≡ is_unstamped known)
+stored_same (Some (holding.InHand known)) = (λ key. refl, λ value. refl, λ link. refl)
+stored_same _ = (λ key. refl, λ value. refl, λ link. refl)
 
 put_is : (own : ℕ → Option Holding) (t : ℕ) (new : Option Holding) (s : ℕ) → (is_unstamped new ≡ true → Is own t) →
     Is (put own t new) s → Is own s
@@ -69,6 +56,10 @@ put_is own t new s h u =
     ⊎_elim (λ (e : s ≡ t).
     subst (Is own) (sym e) (h (ap is_unstamped (sym (ap (put own t new) e ∙ put_here own t new)) ∙ u)))
     (λ (ne : s ≢ t). ap is_unstamped (sym (put_other own t new s ne)) ∙ u) (cases_eq s t)
+
+put_same : (own : ℕ → Option Holding) (t : ℕ) (new : Option Holding) (s : ℕ) →
+    is_unstamped new ≡ is_unstamped (own t) → Is (put own t new) s → Is own s
+put_same own t new s same u = put_is own t new s (λ e. sym same ∙ e) u
 
 put_no : (own : ℕ → Option Holding) (t : ℕ) (new : Option Holding) (s : ℕ) → is_unstamped new ≡ false →
     Is (put own t new) s → Is own s
@@ -103,11 +94,10 @@ learned_is (Raise t) found stamp know s u = inl (put_no know.own t None s refl u
 learned_is (TakeFlag t) found stamp know s u =
     inl (by_test (has_flag found t) _ know know s (put_no know.own t (Some (holding.Free stamp)) s refl) (λ x. x) u)
 learned_is (StoreBirth t birth) found stamp know s u = inl (put_no know.own t _ s refl u)
-learned_is (StoreKey t key) found stamp know s u =
-    inl (put_is know.own t (with_key (know.own t) key) s (keyed_is (know.own t) key) u)
+learned_is (StoreKey t key) found stamp know s u = inl (put_same know.own t _ s ((stored_same (know.own t)).0 key) u)
 learned_is (StoreValue t value) found stamp know s u =
-    inl (put_is know.own t (with_value (know.own t) value) s (valued_is (know.own t) value) u)
-learned_is (StoreLink t next) found stamp know s u = inl (put_is know.own t _ s (linked_is (know.own t) _) u)
+    inl (put_same know.own t _ s ((stored_same (know.own t)).1 value) u)
+learned_is (StoreLink t next) found stamp know s u = inl (put_same know.own t _ s ((stored_same (know.own t)).2 _) u)
 learned_is (LoadLink place) found stamp know s u = inl u
 learned_is (LoadBirth t) found stamp know s u = inl u
 learned_is (LoadKey t) found stamp know s u = inl u

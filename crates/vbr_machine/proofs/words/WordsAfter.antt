@@ -8,6 +8,7 @@ use Rattle.vbr_words.specs.Words.{word_of, link_of}
 use Rattle.vbr_words.specs.Flags.{word_of_flag, all_but, has_flag}
 use Rattle.vbr_words.specs.Places.{IsIn}
 use Rattle.vbr_words.specs.Places as places
+use Rattle.vbr_words.specs.declared.link.Link.{Link}
 use Rattle.vbr_words.specs.declared.place.At.{At}
 use Rattle.vbr_words.specs.declared.place.At.TheVariants.{Head, Slot}
 use Rattle.vbr_words.specs.declared.place.Place.{Place}
@@ -73,6 +74,19 @@ left : (b : Bool) (f : World → ℕ) (x y : World) (new old : ℕ) → (b ≡ t
 left true f x y new old won lost = won refl
 left false f x y new old won lost = lost
 
+-- so does an exchange of a head, and one of the link of a slot
+head_left : (w x : World) (b expected : ℕ) (new : Link) → x.head ≡ put w.head b new →
+    word_of ((cond (word_of (w.head b) == expected) x w).head b)
+    ≡ cond (word_of (w.head b) == expected) (word_of new) (word_of (w.head b))
+head_left w x b expected new is = left (word_of (w.head b) == expected) (λ v. word_of (v.head b)) x w (word_of new)
+    (word_of (w.head b)) (λ t. ap (λ f. word_of (f b)) is ∙ ap word_of (put_here w.head b new)) refl
+
+link_left : (w x : World) (s expected : ℕ) (new : Link) → x.link ≡ put w.link s new →
+    word_of ((cond (word_of (w.link s) == expected) x w).link s)
+    ≡ cond (word_of (w.link s) == expected) (word_of new) (word_of (w.link s))
+link_left w x s expected new is = left (word_of (w.link s) == expected) (λ v. word_of (v.link s)) x w (word_of new)
+    (word_of (w.link s)) (λ t. ap (λ f. word_of (f s)) is ∙ ap word_of (put_here w.link s new)) refl
+
 -- and where both leave the same, so does the exchange
 kept : (b : Bool) (f : World → ℕ) (x y : World) (old : ℕ) → (b ≡ true → f x ≡ old) → f y ≡ old → f (cond b x y) ≡ old
 kept true f x y old won lost = won refl
@@ -110,23 +124,17 @@ word_here start w p (LoadBirth s) here = refl
 word_here start w p (LoadKey s) here = refl
 word_here start w p (LoadValue s) here = refl
 word_here start w p (Publish (Head b) expected s) here =
-    left (word_of (w.head b) == expected) (λ v. word_of (v.head b)) _ w _ (word_of (w.head b))
-    (λ t. ap word_of (put_here w.head b (link_written (w.know p) (Publish (Head b) expected s)))) refl
+    head_left w _ b expected (link_written (w.know p) (Publish (Head b) expected s)) refl
 word_here start w p (Publish (Slot t) expected s) here =
-    left (word_of (w.link t) == expected) (λ v. word_of (v.link t)) _ w _ (word_of (w.link t))
-    (λ _. ap word_of (put_here w.link t (link_written (w.know p) (Publish (Slot t) expected s)))) refl
+    link_left w _ t expected (link_written (w.know p) (Publish (Slot t) expected s)) refl
 word_here start w p (Mark s expected) here =
-    left (word_of (w.link s) == expected) (λ v. word_of (v.link s)) _ w _ (word_of (w.link s))
-    (λ t. ap word_of (put_here w.link s (link_written (w.know p) (Mark s expected)))) refl
+    link_left w _ s expected (link_written (w.know p) (Mark s expected)) refl
 word_here start w p (Replace s expected t) here =
-    left (word_of (w.link s) == expected) (λ v. word_of (v.link s)) _ w _ (word_of (w.link s))
-    (λ _. ap word_of (put_here w.link s (link_written (w.know p) (Replace s expected t)))) refl
+    link_left w _ s expected (link_written (w.know p) (Replace s expected t)) refl
 word_here start w p (Unlink (Head b) expected s) here =
-    left (word_of (w.head b) == expected) (λ v. word_of (v.head b)) _ w _ (word_of (w.head b))
-    (λ t. ap word_of (put_here w.head b (link_written (w.know p) (Unlink (Head b) expected s)))) refl
+    head_left w _ b expected (link_written (w.know p) (Unlink (Head b) expected s)) refl
 word_here start w p (Unlink (Slot t) expected s) here =
-    left (word_of (w.link t) == expected) (λ v. word_of (v.link t)) _ w _ (word_of (w.link t))
-    (λ _. ap word_of (put_here w.link t (link_written (w.know p) (Unlink (Slot t) expected s)))) refl
+    link_left w _ t expected (link_written (w.know p) (Unlink (Slot t) expected s)) refl
 word_here start w p (ConfirmPresent op s expected) here =
     kept (word_of (w.link s) == expected) (λ v. word_of (v.link s)) _ w (word_of (w.link s)) (λ t. refl) refl
 word_here start w p (ConfirmAbsent op key (Head b) expected) here =

@@ -8,11 +8,11 @@ ghost use Rattle.vbr_set.specs.Kinds.{as_map};
 ghost use Rattle.vbr_set.specs.KindLaws.{counts_entries, entries_ascend, map_reopens};
 
 use crate::contents::Contents;
-use crate::kind::Kind;
+use crate::kind::{Kind, OpenedSlots};
 use crate::report::MapReport;
 use std::alloc::Global;
 use vbr_machine::laws::a_run_is_a_map;
-use vbr_slots::{OpenManyError, Pass, Slots};
+use vbr_slots::Slots;
 use vbr_words::{Entries, Place, Shape, place_index};
 
 impl Kind for Entries {
@@ -30,7 +30,7 @@ impl Kind for Entries {
         shape: Shape,
         passes: u32,
         entries: &[(u64, u64)],
-    ) -> Result<(Slots<Entries>, Vec<Pass>), OpenManyError> {
+    ) -> OpenedSlots<Entries> {
         Slots::open_many_with_entries(alloc, shape, passes, entries)
     }
 

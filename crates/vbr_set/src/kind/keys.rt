@@ -9,10 +9,10 @@ ghost use Rattle.vbr_set.specs.Kinds.{as_set};
 ghost use Rattle.vbr_set.specs.KindLaws.{counts_keys, keys_ascend, set_reopens};
 
 use crate::contents::Contents;
-use crate::kind::Kind;
+use crate::kind::{Kind, OpenedSlots};
 use crate::report::Report;
 use std::alloc::Global;
-use vbr_slots::{OpenManyError, Pass, Slots};
+use vbr_slots::Slots;
 use vbr_words::{Keys, Place, Shape, place_index};
 
 impl Kind for Keys {
@@ -25,12 +25,7 @@ impl Kind for Keys {
     ghost shown = { key_in_slot };
 
     #[inline]
-    fn open_slots(
-        alloc: Global,
-        shape: Shape,
-        passes: u32,
-        keys: &[u64],
-    ) -> Result<(Slots, Vec<Pass>), OpenManyError> {
+    fn open_slots(alloc: Global, shape: Shape, passes: u32, keys: &[u64]) -> OpenedSlots<Keys> {
         Slots::open_many(alloc, shape, passes, keys)
     }
 

@@ -1,16 +1,13 @@
 //! Maps: the plain one, the world of the machine, the running table, the map itself, and its script.
-ghost use Rattle.std.specs.Prelude.{◌≡◌, ◌≤◌, IfSome};
-ghost use Rattle.vbr_slots.specs.Views.{new_passes};
-
 use crate::refusals::round::is_right;
 use crate::refusals::set::{close, open_with, tell};
-use crate::refusals::table::{close as close_table, read};
+use crate::refusals::table::{OpenedWithThree, opens_with_three_and_closes};
 use crate::refusals::world::births;
 use std::alloc::Global;
 use vbr_machine::{Op, PlainMap};
 use vbr_script::{ScriptError, parse_map_script};
-use vbr_set::{MapReport, OpenError, Pass, Shape};
-use vbr_slots::Slots;
+use vbr_set::{MapReport, Shape};
+use vbr_slots::{OpenError, Pass, Slots};
 use vbr_words::Entries;
 use vbr_world::{CoreRefusal, World, WorldRefusal, replay_with_entries};
 
@@ -35,13 +32,19 @@ fn insert(map: &mut PlainMap, key: u64) -> Option<bool> {
     None
 }
 
-// Inserts so many keys that the map grows several times, and asks for each.
-fn inserts(alloc: Global) -> Option<bool> {
+// A plain map with the keys below this one, and whether memory was refused.
+fn filled(alloc: Global, end: u64) -> Option<(PlainMap, bool)> {
     let mut map = PlainMap::new(alloc);
     let mut refused = false;
-    for key in 0..40 {
+    for key in 0..end {
         refused |= insert(&mut map, key)?;
     }
+    Some((map, refused))
+}
+
+// Inserts so many keys that the map grows several times, and asks for each.
+fn inserts(alloc: Global) -> Option<bool> {
+    let (mut map, refused) = filled(alloc, 40)?;
     let mut is_whole = true;
     for key in 0..40_u64 {
         let there = Some(key.saturating_mul(10));
@@ -67,11 +70,7 @@ fn entries_of(map: &PlainMap) -> Option<(Vec<(u64, u64)>, bool)> {
 
 // Lists a few entries.
 fn lists(alloc: Global) -> Option<bool> {
-    let mut map = PlainMap::new(alloc);
-    let mut refused = false;
-    for key in 0..5 {
-        refused |= insert(&mut map, key)?;
-    }
+    let (map, refused) = filled(alloc, 5)?;
     let (entries, refused_entries) = entries_of(&map)?;
     let wanted = [(0, 0), (1, 10), (2, 20), (3, 30), (4, 40)];
     (entries.as_slice() == wanted.as_slice()).then_some(refused | refused_entries)
@@ -123,58 +122,40 @@ fn world_replays_from_entries_of_keys(rt: HostRuntime) {
 
 // ---- the running table
 
-// A table with three entries and its pass, and whether memory was refused.
-fn open_table(alloc: Global, shape: Shape) -> Option<(Slots<Entries>, Vec<Pass>, bool)>
-    requires { 3 ≤ shape.slots }
-    ensures count { IfSome result (λ r. r.0.passes ≡ 1) }
-    ensures passes { IfSome result (λ r. r.1.items ≡ new_passes r.0 0 1) }
-{
-    for refusals in 0..ATTEMPTS {
-        match Slots::open_with_entries(alloc, shape, 1, &ENTRIES) {
-            Ok((slots, passes)) => return Some((slots, passes, refusals > 0)),
-            Err(OpenError::Memory) => {}
-            Err(OpenError::Passes) => return None,
-        }
+impl OpenedWithThree for Entries {
+    fn open_once(alloc: Global, shape: Shape) -> Result<(Slots<Entries>, Vec<Pass>), OpenError> {
+        Slots::open_with_entries(alloc, shape, 1, &ENTRIES)
     }
-    None
 }
 
-// The words of a table that opens with the three entries in three slots, one after another in one list.
-const TABLE: [u64; 19] = [
-    1,
-    167_772_163,
-    33_554_433,
-    33_554_434,
-    1,
-    0,
-    2,
-    70,
-    33_554_435,
-    1,
-    0,
-    5,
-    71,
-    33_554_432,
-    1,
-    0,
-    9,
-    70,
-    0,
-];
-
-// Opens a table with three entries, reads its words, and closes it.
-fn table_opens(alloc: Global) -> Option<bool> {
-    let shape = Shape::new(3, 1, 10).ok()?;
-    let (slots, mut passes, refused) = open_table(alloc, shape)?;
-    let (told, refused_snapshot) = read(&slots, alloc, &mut passes)?;
-    let (words, refused_close) = close_table(slots, alloc, passes)?;
-    let are_right = told.as_slice() == TABLE.as_slice() && words.as_slice() == TABLE.as_slice();
-    are_right.then_some(refused | refused_snapshot | refused_close)
-}
-
+// The three entries stand in three slots, one after another in one list.
 #[test]
 fn table_opens_with_entries_of_keys(rt: HostRuntime) {
-    is_right(&rt, table_opens(rt.alloc()));
+    let wanted = [
+        1,
+        167_772_163,
+        33_554_433,
+        33_554_434,
+        1,
+        0,
+        2,
+        70,
+        33_554_435,
+        1,
+        0,
+        5,
+        71,
+        33_554_432,
+        1,
+        0,
+        9,
+        70,
+        0,
+    ];
+    is_right(
+        &rt,
+        opens_with_three_and_closes::<Entries>(rt.alloc(), &wanted),
+    );
 }
 
 // ---- the map

@@ -217,23 +217,13 @@ fn members_of_map_are_renewed_with_keys(rt: HostRuntime) {
     is_right(&rt, are_renewed(rt.alloc()));
 }
 
-// The entries of a map while it is in use, and whether memory was refused.
-fn entries_of(alloc: Global, member: &mut MapMember) -> Option<(Vec<(u64, u64)>, bool)> {
+// What a list of a map that is in use gives, and whether memory was refused.
+fn listed<T, F: FnMut() -> Result<T, ListError>>(mut list: F) -> Option<(T, bool)>
+    requires { F.IsAlwaysCallable list }
+{
     for refusals in 0..ATTEMPTS {
-        match member.entries_now(alloc, 100) {
-            Ok(entries) => return Some((entries, refusals > 0)),
-            Err(ListError::Memory) => {}
-            Err(ListError::Refused(_)) => return None,
-        }
-    }
-    None
-}
-
-// Its keys, likewise.
-fn keys_of(alloc: Global, member: &mut MapMember) -> Option<(Vec<u64>, bool)> {
-    for refusals in 0..ATTEMPTS {
-        match member.keys_now(alloc, 100) {
-            Ok(keys) => return Some((keys, refusals > 0)),
+        match list() {
+            Ok(items) => return Some((items, refusals > 0)),
             Err(ListError::Memory) => {}
             Err(ListError::Refused(_)) => return None,
         }
@@ -246,8 +236,8 @@ fn lists(alloc: Global) -> Option<bool> {
     let (mut member, refused) = open_alone(alloc)?;
     let is_answered = member.insert(5, 71, 100) == Ok(true)
         && member.insert(2, 70, 100) == Ok(true);
-    let (entries, refused_entries) = entries_of(alloc, &mut member)?;
-    let (keys, refused_keys) = keys_of(alloc, &mut member)?;
+    let (entries, refused_entries) = listed(|| member.entries_now(alloc, 100))?;
+    let (keys, refused_keys) = listed(|| member.keys_now(alloc, 100))?;
     let are_told = entries.as_slice() == [(2, 70), (5, 71)].as_slice()
         && keys.as_slice() == [2, 5].as_slice();
     (is_answered && are_told).then_some(refused | refused_entries | refused_keys)

@@ -59,6 +59,11 @@ fn inserts(alloc: Global) -> Option<bool> {
     has_below(&mut set, KEYS).then_some(refused)
 }
 
+#[test]
+fn plain_set_inserts(rt: HostRuntime) {
+    is_right(&rt, inserts(rt.alloc()));
+}
+
 // Lists a few keys.
 fn lists(alloc: Global) -> Option<bool> {
     let mut set = PlainSet::new(alloc);
@@ -66,11 +71,6 @@ fn lists(alloc: Global) -> Option<bool> {
     let (keys, refused_keys) = keys_of(&set)?;
     let is_whole = keys.iter().copied().eq(0..FEW_KEYS);
     is_whole.then_some(refused | refused_keys)
-}
-
-#[test]
-fn plain_set_inserts(rt: HostRuntime) {
-    is_right(&rt, inserts(rt.alloc()));
 }
 
 #[test]

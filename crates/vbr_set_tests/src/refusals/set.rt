@@ -141,6 +141,11 @@ fn opens_and_closes(alloc: Global) -> Option<bool> {
     (is_answered && is_told).then_some(refused | refused_close)
 }
 
+#[test]
+fn set_opens_and_closes(rt: HostRuntime) {
+    is_right(&rt, opens_and_closes(rt.alloc()));
+}
+
 // Whether a report is that of three keys in four slots.
 pub fn has_three(report: &Report) -> bool {
     report.keys.as_slice() == [2, 5, 9].as_slice()
@@ -158,9 +163,4 @@ fn opens_with_three_and_closes(alloc: Global) -> Option<bool> {
 #[test]
 fn set_opens_with_three_and_closes(rt: HostRuntime) {
     is_right(&rt, opens_with_three_and_closes(rt.alloc()));
-}
-
-#[test]
-fn set_opens_and_closes(rt: HostRuntime) {
-    is_right(&rt, opens_and_closes(rt.alloc()));
 }

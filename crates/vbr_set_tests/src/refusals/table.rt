@@ -1,12 +1,15 @@
 //! The running table.
-ghost use Rattle.std.specs.Prelude.{◌≡◌, ◌≤◌, length, IfSome};
+ghost use Rattle.std.specs.Prelude.{◌≡◌, ◌≤◌, length, IfOk, IfSome};
 ghost use Rattle.vbr_slots.specs.Closing.{AllOf};
 ghost use Rattle.vbr_slots.specs.Views.{new_passes};
 
 use crate::refusals::round::is_right;
 use std::alloc::Global;
 use vbr_slots::{CloseError, OpenError, Pass, Slots};
-use vbr_words::{Nodes, Shape};
+use vbr_words::{Keys, Nodes, Shape};
+
+// How often a call is made: two refusals that follow one another are got over.
+const ATTEMPTS: u32 = 3;
 
 // A table with its passes, and whether memory was refused.
 fn open(alloc: Global, shape: Shape) -> Option<(Slots, Vec<Pass>, bool)>
@@ -71,58 +74,80 @@ fn opens_and_closes(alloc: Global) -> Option<bool> {
     (words.as_slice() == wanted.as_slice()).then_some(refused | refused_close)
 }
 
-// A table with three keys and its pass, and whether memory was refused.
-fn open_with_three(alloc: Global, shape: Shape) -> Option<(Slots, Vec<Pass>, bool)>
+#[test]
+fn table_opens_and_closes(rt: HostRuntime) {
+    is_right(&rt, opens_and_closes(rt.alloc()));
+}
+
+// Nodes of a table that opens with three items and one pass.
+pub trait OpenedWithThree: Nodes + Sized {
+    fn open_once(alloc: Global, shape: Shape) -> Result<(Slots<Self>, Vec<Pass>), OpenError>
+        requires { 3 ≤ shape.slots }
+        ensures count { IfOk result (λ r. r.0.passes ≡ 1) }
+        ensures passes { IfOk result (λ r. r.1.items ≡ new_passes r.0 0 1) };
+}
+
+impl OpenedWithThree for Keys {
+    fn open_once(alloc: Global, shape: Shape) -> Result<(Slots, Vec<Pass>), OpenError> {
+        Slots::open_with(alloc, shape, 1, &[2, 5, 9])
+    }
+}
+
+// A table with three items and its pass, and whether memory was refused.
+fn open_with_three<N: OpenedWithThree>(
+    alloc: Global,
+    shape: Shape,
+) -> Option<(Slots<N>, Vec<Pass>, bool)>
     requires { 3 ≤ shape.slots }
     ensures count { IfSome result (λ r. r.0.passes ≡ 1) }
     ensures passes { IfSome result (λ r. r.1.items ≡ new_passes r.0 0 1) }
 {
-    match Slots::open_with(alloc, shape, 1, &[2, 5, 9]) {
-        Ok((slots, passes)) => Some((slots, passes, false)),
-        Err(OpenError::Memory) => {
-            let (slots, passes) = Slots::open_with(alloc, shape, 1, &[2, 5, 9]).ok()?;
-            Some((slots, passes, true))
+    for refusals in 0..ATTEMPTS {
+        match N::open_once(alloc, shape) {
+            Ok((slots, passes)) => return Some((slots, passes, refusals > 0)),
+            Err(OpenError::Memory) => {}
+            Err(OpenError::Passes) => return None,
         }
-        Err(OpenError::Passes) => None,
     }
+    None
 }
 
-// The words of a table that opens with the three keys in three slots, one after another in one list.
-const THREE: [u64; 16] = [
-    1,
-    167_772_163,
-    33_554_433,
-    33_554_434,
-    1,
-    0,
-    2,
-    33_554_435,
-    1,
-    0,
-    5,
-    33_554_432,
-    1,
-    0,
-    9,
-    0,
-];
-
-// Opens a table with three keys, reads its words, and closes it.
-fn opens_with_three_and_closes(alloc: Global) -> Option<bool> {
+// Opens a table of three slots with three items, reads its words, and closes it: both times they are these.
+pub fn opens_with_three_and_closes<N: OpenedWithThree>(
+    alloc: Global,
+    wanted: &[u64],
+) -> Option<bool> {
     let shape = Shape::new(3, 1, 10).ok()?;
-    let (slots, mut passes, refused) = open_with_three(alloc, shape)?;
+    let (slots, mut passes, refused) = open_with_three::<N>(alloc, shape)?;
     let (told, refused_snapshot) = read(&slots, alloc, &mut passes)?;
     let (words, refused_close) = close(slots, alloc, passes)?;
-    let are_right = told.as_slice() == THREE.as_slice() && words.as_slice() == THREE.as_slice();
+    let are_right = told.as_slice() == wanted && words.as_slice() == wanted;
     are_right.then_some(refused | refused_snapshot | refused_close)
 }
 
+// The three keys stand in three slots, one after another in one list.
 #[test]
 fn table_opens_with_three_and_closes(rt: HostRuntime) {
-    is_right(&rt, opens_with_three_and_closes(rt.alloc()));
-}
-
-#[test]
-fn table_opens_and_closes(rt: HostRuntime) {
-    is_right(&rt, opens_and_closes(rt.alloc()));
+    let wanted = [
+        1,
+        167_772_163,
+        33_554_433,
+        33_554_434,
+        1,
+        0,
+        2,
+        33_554_435,
+        1,
+        0,
+        5,
+        33_554_432,
+        1,
+        0,
+        9,
+        0,
+    ];
+    is_right(
+        &rt,
+        opens_with_three_and_closes::<Keys>(rt.alloc(), &wanted),
+    );
 }

@@ -47,6 +47,11 @@ fn opens_with_three(alloc: Global) -> Option<bool> {
     (world.incarnations() == 3).then_some(refused)
 }
 
+#[test]
+fn world_opens_with_three(rt: HostRuntime) {
+    is_right(&rt, opens_with_three(rt.alloc()));
+}
+
 // Opens a world, and steps through a worked list.
 fn opens_and_steps(alloc: Global) -> Option<bool> {
     let shape = Shape::new(3, 1, 10).ok()?;
@@ -56,6 +61,11 @@ fn opens_and_steps(alloc: Global) -> Option<bool> {
         refused |= step(&mut world, event, effect)?;
     }
     Some(refused)
+}
+
+#[test]
+fn world_opens_and_steps(rt: HostRuntime) {
+    is_right(&rt, opens_and_steps(rt.alloc()));
 }
 
 // Events that grow the lists of a world: an incarnation is born in a slot, which is free, and a link is read.
@@ -80,16 +90,6 @@ fn replays(alloc: Global) -> Option<bool> {
         Err(_) => return None,
     };
     (world.incarnations() == 1).then_some(refused)
-}
-
-#[test]
-fn world_opens_and_steps(rt: HostRuntime) {
-    is_right(&rt, opens_and_steps(rt.alloc()));
-}
-
-#[test]
-fn world_opens_with_three(rt: HostRuntime) {
-    is_right(&rt, opens_with_three(rt.alloc()));
 }
 
 #[test]

@@ -47,43 +47,62 @@ lost : {A : Type 0} (m n : ℕ) (x y : A) → m ≢ n → cond (m == n) x y ≡ 
 lost m n x y ne = rw (ne_eqb m n ne) refl
 
 -- a step that expects a word found that one, or another
+abbrev pub FoundEither : (T : Type 0) → Result T ℕ → Step → Trace → Trace → ℕ → Type 0
+FoundEither T answer step p q expected =
+    MatchResult answer (λ _. Did step p q expected) (λ n. Did step p q n × (n ≢ expected))
+
+-- so it did where what is known then says that the step was made
+did_either : {T : Type 0} (known : Type 0) (step : Step) (p q : PassView) (expected : ℕ) (answer : Result T ℕ) →
+    (known → Did step p.trace q.trace expected) → OnOk answer known → IfErr answer (FindsOther step p q expected) →
+    FoundEither T answer step p.trace q.trace expected
+did_either known step p q expected (Ok x) did found other = did found
+did_either known step p q expected (Err n) did found other = (other.did, other.unexpected)
+
 pub found_either : {T : Type 0} (step : Step) (p q : PassView) (expected : ℕ) (answer : Result T ℕ) →
     OnOk answer (Finds step p q expected) → IfErr answer (FindsOther step p q expected) →
-    MatchResult answer (λ _. Did step p.trace q.trace expected) (λ n. Did step p.trace q.trace n × (n ≢ expected))
-found_either step p q expected (Ok x) found other = found.did
-found_either step p q expected (Err n) found other = (other.did, other.unexpected)
+    FoundEither T answer step p.trace q.trace expected
+found_either step p q expected answer =
+    did_either (Finds step p q expected) step p q expected answer (λ found. found.did)
 
 -- and so did a publication
 pub published_either : {T : Type 0} (pred : At) (expected slot : ℕ) (p q : PassView) (answer : Result T ℕ) →
     OnOk answer (Publishes pred expected slot p q) →
     IfErr answer (FindsOther (Publish pred expected slot) p q expected) →
-    MatchResult answer (λ _. Did (Publish pred expected slot) p.trace q.trace expected)
-    (λ n. Did (Publish pred expected slot) p.trace q.trace n × (n ≢ expected))
-published_either pred expected slot p q (Ok x) found other = found.did
-published_either pred expected slot p q (Err n) found other = (other.did, other.unexpected)
+    FoundEither T answer (Publish pred expected slot) p.trace q.trace expected
+published_either pred expected slot p q answer =
+    did_either (Publishes pred expected slot p q) (Publish pred expected slot) p q expected answer (λ found. found.did)
 
 -- and a replacement
 pub replaced_either : {T : Type 0} (slot expected new : ℕ) (p q : PassView) (answer : Result T ℕ) →
     OnOk answer (ReplacesNode slot expected new p q) →
     IfErr answer (FindsOther (Replace slot expected new) p q expected) →
-    MatchResult answer (λ _. Did (Replace slot expected new) p.trace q.trace expected)
-    (λ n. Did (Replace slot expected new) p.trace q.trace n × (n ≢ expected))
-replaced_either slot expected new p q (Ok x) found other = found.did
-replaced_either slot expected new p q (Err n) found other = (other.did, other.unexpected)
+    FoundEither T answer (Replace slot expected new) p.trace q.trace expected
+replaced_either slot expected new p q answer =
+    did_either (ReplacesNode slot expected new p q) (Replace slot expected new) p q expected answer (λ found. found.did)
 
 pub learned_exchange : {T : Type 0} (step : Step) (p q : Trace) (expected : ℕ) (answer : Result T ℕ) (effect : Effect) →
     ((w : World) → stamp_shown w step ≡ 0) → ((n : ℕ) → effect_of step n ≡ exchanged expected n) →
-    MatchResult answer (λ _. Did step p q expected) (λ n. Did step p q n × (n ≢ expected)) →
-    MatchResult answer (λ _. effect ≡ Won) (λ n. effect ≡ Lost n) → Learned step p q effect
+    FoundEither T answer step p q expected → MatchResult answer (λ _. effect ≡ Won) (λ n. effect ≡ Lost n) →
+    Learned step p q effect
 learned_exchange step p q expected (Ok x) effect none is did told =
     learned step p q expected effect none (told ∙ sym (is expected ∙ won expected Won (Lost expected))) did
 learned_exchange step p q expected (Err n) effect none is did told =
     learned step p q n effect none (told ∙ sym (is n ∙ lost n expected Won (Lost n) did.1)) did.0
 
+-- what an exchange teaches that keeps the hand, made as a step that is equal to it
+pub learned_found : {T : Type 0} (made step : Step) (p q : PassView) (expected : ℕ) (answer : Result T ℕ)
+    (effect : Effect) → made ≡ step → ((w : World) → stamp_shown w step ≡ 0) →
+    ((n : ℕ) → effect_of step n ≡ exchanged expected n) → OnOk answer (Finds step p q expected) →
+    IfErr answer (FindsOther step p q expected) → MatchResult answer (λ _. effect ≡ Won) (λ n. effect ≡ Lost n) →
+    Learned made p.trace q.trace effect
+learned_found made step p q expected answer effect same none is found other told =
+    subst (λ (s : Step). Learned s p.trace q.trace effect) (sym same)
+    (learned_exchange step p.trace q.trace expected answer effect none is
+    (found_either step p q expected answer found other) told)
+
 pub learned_load : {T : Type 0} (step : Step) (p q : Trace) (expected : ℕ) (reply : Bool) (answer : Result T ℕ)
     (effect : Effect) → ((w : World) → stamp_shown w step ≡ 0) →
-    ((n : ℕ) → effect_of step n ≡ confirmed reply expected n) →
-    MatchResult answer (λ _. Did step p q expected) (λ n. Did step p q n × (n ≢ expected)) →
+    ((n : ℕ) → effect_of step n ≡ confirmed reply expected n) → FoundEither T answer step p q expected →
     MatchResult answer (λ _. effect ≡ Answered reply) (λ n. effect ≡ Lost n) → Learned step p q effect
 learned_load step p q expected reply (Ok x) effect none is did told =
     learned step p q expected effect none (told ∙ sym (is expected ∙ won expected (Answered reply) (Lost expected))) did
@@ -221,7 +240,7 @@ stands_second t a b c row rows words s ne l = record {
 }
 
 -- one row is made, by the one pass or the other
-pub stands_next : (t : TableView) (a b c d : PassView) (row : ℕ × Step × Effect) (rows : List (ℕ × Step × Effect))
+stands_next : (t : TableView) (a b c d : PassView) (row : ℕ × Step × Effect) (rows : List (ℕ × Step × Effect))
     (words : List ℕ) → BothFollow t a.trace b.trace (row ∷ rows) words →
     (row.0 ≡ 0 → Learned row.1 a.trace c.trace row.2 × (d ≡ b)) →
     (row.0 ≢ 0 → Learned row.1 b.trace d.trace row.2 × (c ≡ a)) →
@@ -237,3 +256,14 @@ stands_next t a b c d row rows words s first second = go row.0 refl
         let made = second (λ e. not_zero n (sym is ∙ e)) in
         subst (λ (p : PassView). BothFollow t p.trace d.trace rows (cond (names_link row.1) (others_of words) words))
         (sym made.1) (stands_second t a.trace b.trace d.trace row rows words s (λ e. not_zero n (sym is ∙ e)) made.0)
+
+-- so the passes stand before the later rows, with the words that are left
+pub stands_later : (t : TableView) (a b c d : PassView) (row : ℕ × Step × Effect)
+    (later rows : List (ℕ × Step × Effect)) (words left : List ℕ) → rows ≡ row ∷ later →
+    cond (names_link row.1) (others_of words) words ≡ left → BothFollow t a.trace b.trace rows words →
+    (row.0 ≡ 0 → Learned row.1 a.trace c.trace row.2 × (d ≡ b)) →
+    (row.0 ≢ 0 → Learned row.1 b.trace d.trace row.2 × (c ≡ a)) → BothFollow t c.trace d.trace later left
+stands_later t a b c d row later rows words left split is s first second =
+    subst (λ (ws : List ℕ). BothFollow t c.trace d.trace later ws) is
+    (stands_next t a b c d row later words
+    (subst (λ (rs : List (ℕ × Step × Effect)). BothFollow t a.trace b.trace rs words) split s) first second)

@@ -11,6 +11,7 @@ use Rattle.vbr_machine.specs.declared.event.Step.TheVariants.{ReadEpoch, LoadSta
 use Rattle.vbr_machine.specs.declared.event.Step.TheVariants.{StoreValue}
 use Rattle.vbr_machine.specs.declared.knowledge.Read.{Read}
 use Rattle.vbr_machine.specs.declared.knowledge.Holding.{Holding}
+use Rattle.vbr_machine.specs.declared.knowledge.Unpublished.{Unpublished}
 use Rattle.vbr_machine.specs.declared.knowledge.Holding.TheVariants.{Free, Unlinked, InHand}
 use Rattle.vbr_machine.proofs.Lemmas.{put_here}
 use Rattle.vbr_slots.specs.Views.{Trace, Did, knows}
@@ -61,27 +62,28 @@ pub born_birth : (p q : Trace) (s birth r : ℕ) → Did (StoreBirth s birth) p 
     birth_in_hand ((knows q).own s) ≡ birth
 born_birth p q s birth r d = ap birth_in_hand (ap (λ (k : Know). k.own s) d.know ∙ put_here (knows p).own s _)
 
-keyed : (holding : Option Holding) (key : ℕ) → birth_in_hand (with_key holding key) ≡ birth_in_hand holding
-keyed None key = refl
-keyed (Some (Free stamp)) key = refl
-keyed (Some (Unlinked reread)) key = refl
-keyed (Some (InHand known)) key = refl
+-- a change that keeps the birth in hand in each case keeps it
+birth_kept : (f : Option Holding → Option Holding) → birth_in_hand (f None) ≡ 0 →
+    ((stamp : ℕ) → birth_in_hand (f (Some (Free stamp))) ≡ 0) →
+    ((reread : Bool) → birth_in_hand (f (Some (Unlinked reread))) ≡ 0) →
+    ((known : Unpublished) → birth_in_hand (f (Some (InHand known))) ≡ known.birth) → (holding : Option Holding) →
+    birth_in_hand (f holding) ≡ birth_in_hand holding
+birth_kept f none free unlinked hand None = none
+birth_kept f none free unlinked hand (Some (Free stamp)) = free stamp
+birth_kept f none free unlinked hand (Some (Unlinked reread)) = unlinked reread
+birth_kept f none free unlinked hand (Some (InHand known)) = hand known
 
 pub keyed_birth : (p q : Trace) (s key r : ℕ) → Did (StoreKey s key) p q r →
     birth_in_hand ((knows q).own s) ≡ birth_in_hand ((knows p).own s)
 keyed_birth p q s key r d =
-    ap birth_in_hand (ap (λ (k : Know). k.own s) d.know ∙ put_here (knows p).own s _) ∙ keyed ((knows p).own s) key
-
-valued : (holding : Option Holding) (value : ℕ) → birth_in_hand (with_value holding value) ≡ birth_in_hand holding
-valued None value = refl
-valued (Some (Free stamp)) value = refl
-valued (Some (Unlinked reread)) value = refl
-valued (Some (InHand known)) value = refl
+    ap birth_in_hand (ap (λ (k : Know). k.own s) d.know ∙ put_here (knows p).own s _)
+    ∙ birth_kept (λ h. with_key h key) refl (λ n. refl) (λ b. refl) (λ k. refl) ((knows p).own s)
 
 pub valued_birth : (p q : Trace) (s value r : ℕ) → Did (StoreValue s value) p q r →
     birth_in_hand ((knows q).own s) ≡ birth_in_hand ((knows p).own s)
 valued_birth p q s value r d =
-    ap birth_in_hand (ap (λ (k : Know). k.own s) d.know ∙ put_here (knows p).own s _) ∙ valued ((knows p).own s) value
+    ap birth_in_hand (ap (λ (k : Know). k.own s) d.know ∙ put_here (knows p).own s _)
+    ∙ birth_kept (λ h. with_value h value) refl (λ n. refl) (λ b. refl) (λ k. refl) ((knows p).own s)
 
 -- ---- the link word 33554432: to none, with version 1
 

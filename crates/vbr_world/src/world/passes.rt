@@ -303,16 +303,13 @@ impl PassState {
     }
 
     // Whether a slot is in hand and ready to take the place of a node, before what its link names.
-    fn is_ready_in_place(&self, start: &Start, slot: u32, expected: Link, new: u32) -> bool
-        requires { new < length self.now.own }
-        ensures { IsTrue result
-            ↔ MayReplace start.now self.now.checked slot expected
-            (slice_index_or self.now.own new None) }
+    fn is_ready_in_place(&self, start: &Start, slot: u32, link: Link, new: Option<Holding>) -> bool
+        ensures { IsTrue result ↔ MayReplace start.now self.now.checked slot link new }
     {
-        let Some(Holding::InHand(known)) = self.own[new as usize] else {
+        let Some(Holding::InHand(known)) = new else {
             return false;
         };
-        known.key == Some(self.key_in(slot)) && self.is_linked_to(start, known, expected.slot)
+        known.key == Some(self.key_in(slot)) && self.is_linked_to(start, known, link.slot)
     }
 
     // Whether a key stands behind a place and before what a link names.
@@ -364,7 +361,7 @@ impl PassState {
                 new,
             } => {
                 let link = decode(expected);
-                !link.mark && self.is_ready_in_place(start, slot, link, new)
+                !link.mark && self.is_ready_in_place(start, slot, link, self.holding(new))
             }
             Step::Unlink { expected, slot, .. } => {
                 let link = decode(expected);

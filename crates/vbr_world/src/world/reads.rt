@@ -1,6 +1,7 @@
 // Looking through reads.
 ghost use Rattle.std.specs.Prelude.{◌≡◌, ◌↔◌, IsTrue};
 ghost use Rattle.vbr_machine.specs.Knowledge.{knows_link, birth_in, key_in, value_in, marked_in, holds, holds_at, birth_at, birth_of};
+ghost use Rattle.vbr_world.specs.MarkedWalks.{EndsAt, LeadsOn};
 ghost use Rattle.vbr_machine.specs.Acceptance.{IsNextHeld, KnowsKeyAt, KnowsKeyOf, past_marked, LeadsToKey, IsBehind, IsBefore, LeadsAbove, next_of_marked};
 
 use crate::world::start::Start;
@@ -197,14 +198,25 @@ pub fn past_marked(reads: &[Read], next: Option<u32>) -> Option<u32>
     }
 }
 
-// Whether in at most so many turns marked links lead from what a link names to none, or to a slot
-// whose key is among the reads. The walk ends where it stands still.
-pub fn leads_to_key(reads: &[Read], most: u32, next: Option<u32>) -> bool
-    ensures { IsTrue result ↔ LeadsToKey most reads.now next }
+// Whether a walk ends at what a link names: at none, or at a slot before which this key stands, or if
+// no key is given, at one whose key is among the reads.
+fn ends_at(reads: &[Read], above: Option<u64>, next: Option<u32>) -> bool
+    ensures { IsTrue result ↔ EndsAt reads.now above next }
+{
+    match above {
+        None => knows_key_of(reads, next),
+        Some(key) => is_before(reads, key, next),
+    }
+}
+
+// Whether in at most so many turns marked links lead from what a link names to where a walk ends. The
+// walk is given up where it stands still.
+fn leads(reads: &[Read], most: u32, above: Option<u64>, next: Option<u32>) -> bool
+    ensures { IsTrue result ↔ LeadsOn most reads.now above next }
 {
     let mut here = next;
     for _ in 0..most {
-        if knows_key_of(reads, here) {
+        if ends_at(reads, above, here) {
             return true;
         }
         let there = past_marked(reads, here);
@@ -213,24 +225,21 @@ pub fn leads_to_key(reads: &[Read], most: u32, next: Option<u32>) -> bool
         }
         here = there;
     }
-    knows_key_of(reads, here)
+    ends_at(reads, above, here)
 }
 
 // Whether in at most so many turns marked links lead from what a link names to none, or to a slot
-// before which the key stands. The walk ends where it stands still.
+// whose key is among the reads.
+pub fn leads_to_key(reads: &[Read], most: u32, next: Option<u32>) -> bool
+    ensures { IsTrue result ↔ LeadsToKey most reads.now next }
+{
+    leads(reads, most, None, next)
+}
+
+// Whether in at most so many turns marked links lead from what a link names to none, or to a slot
+// before which the key stands.
 pub fn leads_above(reads: &[Read], most: u32, key: u64, next: Option<u32>) -> bool
     ensures { IsTrue result ↔ LeadsAbove most reads.now key next }
 {
-    let mut here = next;
-    for _ in 0..most {
-        if is_before(reads, key, here) {
-            return true;
-        }
-        let there = past_marked(reads, here);
-        if there == here {
-            return false;
-        }
-        here = there;
-    }
-    is_before(reads, key, here)
+    leads(reads, most, Some(key), next)
 }

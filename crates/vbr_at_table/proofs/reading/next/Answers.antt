@@ -1,16 +1,19 @@
 use Rattle.std.proofs.Common.{ℕ, Option, sym, ap, ◌∙◌, subst}
+use Rattle.vbr_words.specs.Words.{link_of}
 use Rattle.vbr_words.specs.declared.link.Link.{Link}
 use Rattle.vbr_at_table.specs.Reading.{ReadsIn}
 use Rattle.vbr_at_table.specs.StepCosts.{next_steps}
 use Rattle.vbr_at_table.proofs.Accepted.{named_in, named_found}
 use Rattle.vbr_at_table.proofs.ReadCalls.{apart, node_in_three, node_rolls, node_told, reads_none}
+use Rattle.vbr_at_table.proofs.reading.next.Given.{Over}
+use Rattle.vbr_at_table.proofs.reading.next.Goals.{After-read_node-birth}
 use Rattle.vbr_at_table.proofs.reading.next.Goals as goal
 
 pub returns-in_default-clause-reads : goal.returns-in_default-clause-reads
 returns-in_default-clause-reads g c =
     let names = ap (λ (l : Link). l.slot) (sym c.decode.ensures.link) ∙ c.in_default.is in
     let P : Option ℕ → Type 0 = λ slot. ReadsIn c.args.at.now.stepper.now c.args.at.now.stepper.now (next_steps slot) in
-    subst P (sym names) (reads_none c.args.at.now.stepper.now c.law.ensures)
+    subst P (sym names) (reads_none c.args.at.now.stepper.now)
 
 pub read_node-birth-requires-clause-slot : goal.read_node-birth-requires-clause-slot
 read_node-birth-requires-clause-slot g c =
@@ -22,19 +25,22 @@ read_node-birth-requires-clause-held g c =
     named_found c.args.at.now.stepper.now c.law.ensures c.args.held.now c.in-Some.slot c.requires.held
     (ap (λ (l : Link). l.slot) (sym c.decode.ensures.link) ∙ c.in-Some.is)
 
-pub returns-then-now-before-clause-reads : goal.returns-then-now-before-clause-reads
-returns-then-now-before-clause-reads g c =
+-- three steps were made, where the link names a slot
+in_three : (g : Over) (c : After-read_node-birth g) →
+    ReadsIn c.args.at.now.stepper.now c.read_node-birth.new.self.stepper.now
+    (next_steps (link_of c.args.held.now.word).slot)
+in_three g c =
     let names = ap (λ (l : Link). l.slot) (sym c.decode.ensures.link) ∙ c.in-Some.is in
     let P : Option ℕ → Type 0 =
     λ slot. ReadsIn c.args.at.now.stepper.now c.read_node-birth.new.self.stepper.now (next_steps slot) in
     subst P (sym names) (node_in_three c.law.ensures c.read_node-birth.ensures.reads)
 
+pub returns-then-now-before-clause-reads : goal.returns-then-now-before-clause-reads
+returns-then-now-before-clause-reads g c =
+    in_three g (goal.at.returns-then-now-before-clause-reads g c).After-read_node-birth
+
 pub returns-clause-reads : goal.returns-clause-reads
-returns-clause-reads g c =
-    let names = ap (λ (l : Link). l.slot) (sym c.decode.ensures.link) ∙ c.in-Some.is in
-    let P : Option ℕ → Type 0 =
-    λ slot. ReadsIn c.args.at.now.stepper.now c.read_node-birth.new.self.stepper.now (next_steps slot) in
-    subst P (sym names) (node_in_three c.law.ensures c.read_node-birth.ensures.reads)
+returns-clause-reads g c = in_three g (goal.at.returns-clause-reads g c).After-read_node-birth
 
 pub returns-then-now-before-clause-moved : goal.returns-then-now-before-clause-moved
 returns-then-now-before-clause-moved g c =

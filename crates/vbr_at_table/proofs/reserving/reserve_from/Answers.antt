@@ -1,16 +1,14 @@
 -- A slot was taken, or it was outside the shared pool, and so were those up to the next one.
 use Rattle.std.proofs.Common.{◌<◌, ◌∷◌, [], ◌++◌, List, ℕ, ap, ◌∙◌, length, subst, arith}
-use Rattle.vbr_at_table.proofs.Reserves.{hand_stays, reserving_lost, reserving_won, takes_won, up_to_it, up_to_next}
+use Rattle.vbr_slots.proofs.Lemmas.{table_on}
+use Rattle.vbr_at_table.proofs.Reserves.{reserving_lost, reserving_won, takes_won, up_to_it, up_to_next, won_apart}
 use Rattle.vbr_at_table.proofs.reserving.reserve_from.Goals as goal
 
 pub loop-slot-preserved-in-Ok : goal.loop-slot-preserved-in-Ok
 loop-slot-preserved-in-Ok g c =
     let won = c.in-Ok.ensures.taken in
-    let hand = c.keep.ensures.hand ∙ hand_stays c.loop-slot.at.stepper.now won.did won.there c.law.ensures.own in (
-      record {
-        pass = c.keep.ensures.table.pass ∙ c.take_flag.ensures.table.pass ∙ c.loop-slot.invariant.0.pass;
-        slots = c.keep.ensures.table.slots ∙ c.take_flag.ensures.table.slots ∙ c.loop-slot.invariant.0.slots;
-      },
+    let hand = c.keep.ensures.hand ∙ won_apart c.loop-slot.at.stepper.now won.did won.there c.law.ensures.own in (
+      table_on c.loop-slot.invariant.0 (table_on c.take_flag.ensures.table c.keep.ensures.table),
       reserving_won c.loop-slot.invariant.1 c.loop-slot-test.true c.if-used-probes.true
           (takes_won won.did won.there won.keeps c.keep.ensures.trace c.keep.ensures.pool hand)
           (c.keep.ensures.pool ∙ ap (λ (xs : List ℕ). xs ++ c.loop-slot.slot ∷ []) won.keeps.0)
@@ -20,10 +18,7 @@ loop-slot-preserved-in-Ok g c =
 pub loop-slot-preserved-then-slot-next : goal.loop-slot-preserved-then-slot-next
 loop-slot-preserved-then-slot-next g c =
     let lost = c.in-Err.ensures.missed in (
-      record {
-        pass = c.take_flag.ensures.table.pass ∙ c.loop-slot.invariant.0.pass;
-        slots = c.take_flag.ensures.table.slots ∙ c.loop-slot.invariant.0.slots;
-      },
+      table_on c.loop-slot.invariant.0 c.take_flag.ensures.table,
       reserving_lost c.loop-slot.invariant.1 c.loop-slot-test.true c.if-used-probes.true
           (subst (λ (xs : List ℕ). length xs < c.args.most) c.pool.ensures.pool c.if-pool-most.true) lost.did
           lost.missing lost.keeps c.if-slot-next.true (up_to_next lost.did lost.missing c.next_from-next.ensures),
@@ -32,10 +27,7 @@ loop-slot-preserved-then-slot-next g c =
 pub loop-slot-preserved : goal.loop-slot-preserved
 loop-slot-preserved g c =
     let lost = c.in-Err.ensures.missed in (
-      record {
-        pass = c.take_flag.ensures.table.pass ∙ c.loop-slot.invariant.0.pass;
-        slots = c.take_flag.ensures.table.slots ∙ c.loop-slot.invariant.0.slots;
-      },
+      table_on c.loop-slot.invariant.0 c.take_flag.ensures.table,
       reserving_lost c.loop-slot.invariant.1 c.loop-slot-test.true c.if-used-probes.true
           (subst (λ (xs : List ℕ). length xs < c.args.most) c.pool.ensures.pool c.if-pool-most.true) lost.did
           lost.missing lost.keeps (omega arith) (up_to_it lost.did lost.missing),

@@ -1,10 +1,8 @@
 -- Once round the slots, in two ways, or as far as the tries go.
-use Rattle.std.proofs.Common.{◌≡◌, ◌+◌, ◌-◌, ◌<◌, ℕ, List, ap, ◌∙◌, sym, length, subst}
-use Rattle.vbr_words.specs.Dimensions.{Dimensions}
-use Rattle.vbr_machine.specs.Start.{Start}
+use Rattle.std.proofs.Common.{◌+◌, ◌-◌, ◌<◌, ℕ, sym, subst}
 use Rattle.vbr_slots.specs.Tried.{last_tried}
 use Rattle.vbr_at_table.specs.Reserving.{ReservesFrom}
-use Rattle.vbr_at_table.proofs.Advancing.{grows_on}
+use Rattle.vbr_at_table.proofs.PlacesInShape.{counted_slots}
 use Rattle.vbr_at_table.proofs.Reserves.{grown_by}
 use Rattle.vbr_at_table.proofs.TopUps.{tops_up}
 use Rattle.vbr_at_table.proofs.reserving.top_up.Goals as goal
@@ -14,9 +12,7 @@ returns-clause-tops_up g c =
     let p = c.args.at.now.stepper.now in
     let q = c.reserve_from-first.new.at.stepper.now in
     let r = c.reserve_from-second.new.at.stepper.now in
-    let slots : c.slots-slots.result ≡ p.trace.start.shape.slots =
-    c.slots-slots.ensures.slots ∙ ap (λ (start : Dimensions). start.slots) c.shape.ensures.shape
-    ∙ ap (λ (start : Start). start.shape.slots) (sym c.args.at.now.own.1) in
+    let slots = counted_slots c.slots-slots.ensures.slots c.shape.ensures.shape (sym c.args.at.now.own.1) in
     let tried = c.last_tried-start.ensures.tried in
     let low : last_tried p.trace < c.slots-slots.result =
     subst (λ (n : ℕ). last_tried p.trace < n) (sym slots)
@@ -28,6 +24,5 @@ returns-clause-tops_up g c =
     subst (λ (x : ℕ × ℕ).
     ReservesFrom q r 0 (x.0 + 1) x.1 (c.args.probes - c.reserve_from-first.result) c.reserve_from-second.result)
     (λ i. (tried i, c.most_kept-most.ensures i)) c.reserve_from-second.ensures.reserves in
-    let taken = ap (λ (xs : List ℕ × List ℕ). length xs.0 - length xs.1)
-    (λ i. (c.pool.ensures.pool i, c.pool-before.ensures.pool i)) in
-    tops_up low first second slots (grown_by p r (grows_on p q r first.takes.grows second.takes.grows) _ taken)
+    tops_up low first second slots
+    (grown_by first.takes second.takes _ _ c.pool-before.ensures.pool c.pool.ensures.pool)

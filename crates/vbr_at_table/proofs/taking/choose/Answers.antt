@@ -1,14 +1,17 @@
-use Rattle.std.proofs.Common.{ℕ, ◌≡◌, Option, Some, None, refl, sym, ap, ◌∙◌, subst, arith}
+use Rattle.std.proofs.Common.{ℕ, ◌≡◌, ◌+◌, Option, Some, None, get_or, refl, sym, ap, ◌∙◌, subst, arith}
 use Rattle.std.proofs.lemmas.Result.{err_from_is_err_and}
 use Rattle.vbr_words.specs.Dimensions.{Dimensions}
 use Rattle.vbr_machine.specs.Start.{Start, IsStart}
 use Rattle.vbr_slots.proofs.Lemmas.{did_run}
+use Rattle.vbr_at_table.specs.Pieces.{Chooses, IsChosen}
 use Rattle.vbr_at_table.proofs.Choosing.{chooses_refl, short_first, chooses_then, short_then, chosen_then, full_then}
-use Rattle.vbr_at_table.proofs.Choosing.{spent_then, raised_chooses, raised_chosen}
+use Rattle.vbr_at_table.proofs.Choosing.{spent_then, raised_then}
 use Rattle.vbr_at_table.proofs.Counting.{no_room}
 use Rattle.vbr_at_table.proofs.Epochs.{read_some, read_in_shape}
 use Rattle.vbr_at_table.proofs.Shown.{epoch_told}
 use Rattle.vbr_at_table.proofs.EpochReads.{tried}
+use Rattle.vbr_at_table.proofs.taking.choose.Given.{Over}
+use Rattle.vbr_at_table.proofs.taking.choose.Goals.{After-pool, After-scan}
 use Rattle.vbr_at_table.proofs.taking.choose.Goals as goal
 
 none_left : (o : Option ℕ) → ((x : ℕ) → o ≡ Some x → ⊥) → o ≡ None
@@ -27,11 +30,15 @@ returns-then-not-affords-clause-none g c =
 
 -- ---- the epoch is read, and the own pool looked through
 
-pub returns-in_err-found-clause-chooses : goal.returns-in_err-found-clause-chooses
-returns-in_err-found-clause-chooses g c =
+-- so far no call was made, and no slot was lost
+looked : (g : Over) (c : After-scan g) → Chooses c.args.at.now.stepper.now c.scan.new.at.stepper.now
+looked g c =
     chooses_then c.args.at.now.stepper.now c.read_epoch-epoch.new.self.stepper.now c.scan.new.at.stepper.now
     c.read_epoch-epoch.result c.args.budget c.args.used c.read_epoch-epoch.ensures.step
     (c.affords.ensures.0 c.if-not-affords.false) c.read_epoch-epoch.ensures.pool c.scan.ensures.scans
+
+pub returns-in_err-found-clause-chooses : goal.returns-in_err-found-clause-chooses
+returns-in_err-found-clause-chooses g c = looked g (goal.at.returns-in_err-found-clause-chooses g c).After-scan
 
 pub returns-in_err-found-clause-none : goal.returns-in_err-found-clause-none
 returns-in_err-found-clause-none g c =
@@ -43,10 +50,7 @@ returns-in_err-found-clause-none g c =
     c.in_err-found.ensures.part)
 
 pub returns-in-Some-clause-chooses : goal.returns-in-Some-clause-chooses
-returns-in-Some-clause-chooses g c =
-    chooses_then c.args.at.now.stepper.now c.read_epoch-epoch.new.self.stepper.now c.scan.new.at.stepper.now
-    c.read_epoch-epoch.result c.args.budget c.args.used c.read_epoch-epoch.ensures.step
-    (c.affords.ensures.0 c.if-not-affords.false) c.read_epoch-epoch.ensures.pool c.scan.ensures.scans
+returns-in-Some-clause-chooses g c = looked g (goal.at.returns-in-Some-clause-chooses g c).After-scan
 
 pub returns-in-Some-clause-chosen : goal.returns-in-Some-clause-chosen
 returns-in-Some-clause-chosen g c =
@@ -57,9 +61,7 @@ returns-in-Some-clause-chosen g c =
 
 pub returns-then-not-affords-2-clause-chooses : goal.returns-then-not-affords-2-clause-chooses
 returns-then-not-affords-2-clause-chooses g c =
-    chooses_then c.args.at.now.stepper.now c.read_epoch-epoch.new.self.stepper.now c.scan.new.at.stepper.now
-    c.read_epoch-epoch.result c.args.budget c.args.used c.read_epoch-epoch.ensures.step
-    (c.affords.ensures.0 c.if-not-affords.false) c.read_epoch-epoch.ensures.pool c.scan.ensures.scans
+    looked g (goal.at.returns-then-not-affords-2-clause-chooses g c).After-scan
 
 pub returns-then-not-affords-2-clause-none : goal.returns-then-not-affords-2-clause-none
 returns-then-not-affords-2-clause-none g c =
@@ -71,9 +73,7 @@ returns-then-not-affords-2-clause-none g c =
 
 pub returns-then-epoch-last_epoch-clause-chooses : goal.returns-then-epoch-last_epoch-clause-chooses
 returns-then-epoch-last_epoch-clause-chooses g c =
-    chooses_then c.args.at.now.stepper.now c.read_epoch-epoch.new.self.stepper.now c.scan.new.at.stepper.now
-    c.read_epoch-epoch.result c.args.budget c.args.used c.read_epoch-epoch.ensures.step
-    (c.affords.ensures.0 c.if-not-affords.false) c.read_epoch-epoch.ensures.pool c.scan.ensures.scans
+    looked g (goal.at.returns-then-epoch-last_epoch-clause-chooses g c).After-scan
 
 pub returns-then-epoch-last_epoch-clause-none : goal.returns-then-epoch-last_epoch-clause-none
 returns-then-epoch-last_epoch-clause-none g c =
@@ -114,21 +114,14 @@ advance-requires-clause-below_last g c =
     let other = c.if-epoch-last_epoch.false in
     omega arith
 
-pub returns-clause-chooses : goal.returns-clause-chooses
-returns-clause-chooses g c =
+-- the oldest slot is chosen then
+raised : (g : Over) (c : After-pool g) →
+    Chooses c.args.at.now.stepper.now c.read_epoch.new.self.stepper.now ×
+    IsChosen c.args.at.now.stepper.now c.read_epoch.new.self.stepper.now c.args.budget c.args.used
+    (get_or c.pool.result.now 0 0, c.in_ok-found.used + 2)
+raised g c =
     let raise = tried c.advance.result c.advance.ensures.step in
-    raised_chooses c.args.at.now.stepper.now c.read_epoch-epoch.new.self.stepper.now c.scan.new.at.stepper.now
-    c.read_epoch-epoch.result c.args.budget c.args.used c.read_epoch-epoch.ensures.step
-    (c.affords.ensures.0 c.if-not-affords.false) c.read_epoch-epoch.ensures.pool c.scan.ensures.scans
-    c.in_ok-found.found c.in_ok-found.used c.in_ok-found.ensures.scanned
-    (none_left c.in_ok-found.found c.in_default.not-Some) c.law.ensures c.advance.new.self.stepper.now
-    c.read_epoch.new.self.stepper.now raise.0 c.read_epoch.result raise.1 c.read_epoch.ensures.step raise.2
-    c.read_epoch.ensures.pool c.requires.empty_hand
-
-pub returns-clause-chosen : goal.returns-clause-chosen
-returns-clause-chosen g c =
-    let raise = tried c.advance.result c.advance.ensures.step in
-    raised_chosen c.args.at.now.stepper.now c.read_epoch-epoch.new.self.stepper.now c.scan.new.at.stepper.now
+    raised_then c.args.at.now.stepper.now c.read_epoch-epoch.new.self.stepper.now c.scan.new.at.stepper.now
     c.read_epoch-epoch.result c.args.budget c.args.used c.read_epoch-epoch.ensures.step
     (c.affords.ensures.0 c.if-not-affords.false) c.read_epoch-epoch.ensures.pool c.scan.ensures.scans
     c.in_ok-found.found c.in_ok-found.used c.in_ok-found.ensures.scanned
@@ -136,3 +129,9 @@ returns-clause-chosen g c =
     c.read_epoch.new.self.stepper.now raise.0 c.read_epoch.result raise.1 c.read_epoch.ensures.step raise.2
     c.read_epoch.ensures.pool c.requires.empty_hand c.pool.result.now c.pool.ensures.pool c.requires.some
     (c.affords-2.ensures.0 c.if-not-affords-2.false)
+
+pub returns-clause-chooses : goal.returns-clause-chooses
+returns-clause-chooses g c = (raised g (goal.at.returns-clause-chooses g c).After-pool).0
+
+pub returns-clause-chosen : goal.returns-clause-chosen
+returns-clause-chosen g c = (raised g (goal.at.returns-clause-chosen g c).After-pool).1

@@ -1,10 +1,18 @@
 -- The own pool has a slot, or each slot was outside the shared pool, once round.
-use Rattle.std.proofs.Common.{ℕ, ◌≡◌, ◌<◌, ◌≤◌, sym, ap, ◌∙◌, subst}
-use Rattle.vbr_words.specs.Dimensions.{Dimensions}
-use Rattle.vbr_machine.specs.Start.{Start}
+use Rattle.std.proofs.Common.{ℕ, ◌≡◌, ◌<◌, ◌≤◌, [], sym, ◌∙◌, subst}
+use Rattle.vbr_slots.proofs.Lemmas.{table_on}
 use Rattle.vbr_at_table.proofs.Counting.{no_room}
-use Rattle.vbr_at_table.proofs.Winning.{win_next, win_round, win_done, win_probes, unwon_probes, win_short, win_no_slot, none_in}
+use Rattle.vbr_at_table.proofs.PlacesInShape.{counted_slots}
+use Rattle.vbr_at_table.proofs.Winning.{win_next, win_round, win_done, win_probes, unwon_probes, win_short}
+use Rattle.vbr_at_table.proofs.Winning.{win_no_slot, none_in}
+use Rattle.vbr_at_table.proofs.taking.win_slot.Given.{Over}
+use Rattle.vbr_at_table.proofs.taking.win_slot.Goals.{After-law, After-slots}
 use Rattle.vbr_at_table.proofs.taking.win_slot.Goals as goal
+
+-- the own pool was empty
+is_none : (g : Over) (c : After-law g) → c.args.at.now.stepper.now.pool ≡ []
+is_none g c =
+    sym c.pool.ensures.pool ∙ none_in c.pool.result.now (sym c.is_empty.ensures ∙ c.if-not-is_empty.false)
 
 -- ---- a flag was won
 
@@ -15,25 +23,29 @@ returns-in-Ok-clause-probes g c =
 
 pub returns-in-Ok-clause-won : goal.returns-in-Ok-clause-won
 returns-in-Ok-clause-won g c =
-    win_done c.loop-slot.invariant.1 c.loop-slot-test.true (sym c.pool.ensures.pool ∙ none_in c.pool.result.now (sym c.is_empty.ensures ∙ c.if-not-is_empty.false)) c.requires.empty_hand (c.affords.ensures.0 c.if-not-affords.false) c.in-Ok.ensures.taken.did c.in-Ok.ensures.taken.there c.in-Ok.ensures.taken.keeps c.keep.ensures.trace c.keep.ensures.pool c.keep.ensures.hand
+    win_done c.loop-slot.invariant.1 c.loop-slot-test.true
+    (is_none g (goal.at.returns-in-Ok-clause-won g c).After-law) c.requires.empty_hand
+    (c.affords.ensures.0 c.if-not-affords.false) c.in-Ok.ensures.taken.did
+    c.in-Ok.ensures.taken.there c.in-Ok.ensures.taken.keeps c.keep.ensures.trace c.keep.ensures.pool
+    c.keep.ensures.hand
 
 -- ---- a probe found no flag
+
+-- the slots that are counted then are those of the shape
+all_slots : (g : Over) (c : After-slots g) → c.slots.result ≡ c.args.at.now.stepper.now.trace.start.shape.slots
+all_slots g c =
+    counted_slots c.slots.ensures.slots c.shape-in-Err.ensures.shape
+    (sym c.take_flag.new.self.own.1 ∙ c.in-Err.ensures.missed.did.same.1
+    ∙ c.loop-slot.invariant.1.tried.quiet.same.start)
 
 -- the next one is slot 0 where none follows behind the last of its word;
 -- and one step more is used
 
 pub loop-slot-preserved-then-slot-slots : goal.loop-slot-preserved-then-slot-slots
 loop-slot-preserved-then-slot-slots g c =
-    let slots : c.slots.result ≡ c.args.at.now.stepper.now.trace.start.shape.slots =
-    c.slots.ensures.slots ∙ ap (λ (start : Dimensions). start.slots) c.shape-in-Err.ensures.shape
-    ∙ ap (λ (start : Start). start.shape.slots)
-    (sym c.take_flag.new.self.own.1 ∙ c.in-Err.ensures.missed.did.same.1
-    ∙ c.loop-slot.invariant.1.tried.quiet.same.start) in
+    let slots = all_slots g (goal.at.loop-slot-preserved-then-slot-slots g c).After-slots in
     let past = subst (λ (n : ℕ). n ≤ c.next_flag-slot.result) slots c.if-slot-slots.true in (
-      record {
-        pass = c.take_flag.ensures.table.pass ∙ c.loop-slot.invariant.0.pass;
-        slots = c.take_flag.ensures.table.slots ∙ c.loop-slot.invariant.0.slots;
-      },
+      table_on c.loop-slot.invariant.0 c.take_flag.ensures.table,
       win_round c.loop-slot.invariant.1 c.loop-slot-test.true (c.affords.ensures.0 c.if-not-affords.false)
           c.in-Err.ensures.missed.did c.in-Err.ensures.missed.missing c.next_flag-slot.ensures
           c.in-Err.ensures.missed.keeps past,
@@ -41,16 +53,9 @@ loop-slot-preserved-then-slot-slots g c =
 
 pub loop-slot-preserved : goal.loop-slot-preserved
 loop-slot-preserved g c =
-    let slots : c.slots.result ≡ c.args.at.now.stepper.now.trace.start.shape.slots =
-    c.slots.ensures.slots ∙ ap (λ (start : Dimensions). start.slots) c.shape-in-Err.ensures.shape
-    ∙ ap (λ (start : Start). start.shape.slots)
-    (sym c.take_flag.new.self.own.1 ∙ c.in-Err.ensures.missed.did.same.1
-    ∙ c.loop-slot.invariant.1.tried.quiet.same.start) in
+    let slots = all_slots g (goal.at.loop-slot-preserved g c).After-slots in
     let low = subst (λ (n : ℕ). c.next_flag-slot.result < n) slots c.if-slot-slots.false in (
-      record {
-        pass = c.take_flag.ensures.table.pass ∙ c.loop-slot.invariant.0.pass;
-        slots = c.take_flag.ensures.table.slots ∙ c.loop-slot.invariant.0.slots;
-      },
+      table_on c.loop-slot.invariant.0 c.take_flag.ensures.table,
       win_next c.loop-slot.invariant.1 c.loop-slot-test.true (c.affords.ensures.0 c.if-not-affords.false)
           c.in-Err.ensures.missed.did c.in-Err.ensures.missed.missing c.next_flag-slot.ensures
           c.in-Err.ensures.missed.keeps low,
@@ -63,11 +68,14 @@ returns-then-not-affords-clause-probes g c = unwon_probes c.loop-slot.invariant.
 
 pub returns-then-not-affords-clause-none : goal.returns-then-not-affords-clause-none
 returns-then-not-affords-clause-none g c =
-    win_short c.loop-slot.invariant.1 c.loop-slot-test.true (sym c.pool.ensures.pool ∙ none_in c.pool.result.now (sym c.is_empty.ensures ∙ c.if-not-is_empty.false)) (no_room _ _ c.affords.result c.if-not-affords.true c.affords.ensures.1)
+    win_short c.loop-slot.invariant.1 c.loop-slot-test.true
+    (is_none g (goal.at.returns-then-not-affords-clause-none g c).After-law)
+    (no_room _ _ c.affords.result c.if-not-affords.true c.affords.ensures.1)
 
 pub returns-clause-probes : goal.returns-clause-probes
 returns-clause-probes g c = unwon_probes c.loop-slot.invariant.1
 
 pub returns-clause-none : goal.returns-clause-none
 returns-clause-none g c =
-    win_no_slot c.loop-slot.invariant.1 c.loop-slot-test.false (sym c.pool.ensures.pool ∙ none_in c.pool.result.now (sym c.is_empty.ensures ∙ c.if-not-is_empty.false))
+    win_no_slot c.loop-slot.invariant.1 c.loop-slot-test.false
+    (is_none g (goal.at.returns-clause-none g c).After-law)

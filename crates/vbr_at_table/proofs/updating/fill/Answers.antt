@@ -14,15 +14,28 @@ use Rattle.vbr_at_table.specs.Held.{IsFilled}
 use Rattle.vbr_at_table.specs.Values.{steps_to_value}
 use Rattle.vbr_at_table.proofs.WrittenLinks.{fits, birth_in_hand_low, birth_named_low}
 use Rattle.vbr_at_table.proofs.Filled.{hand_at, key_stored_keeps, key_stored_quiet, link_stored_quiet, link_accepted}
-use Rattle.vbr_at_table.proofs.Filled.{link_now, filled, link_stored_keeps, ready}
+use Rattle.vbr_at_table.proofs.Filled.{IsReady, link_now, filled, link_stored_keeps, ready}
 use Rattle.vbr_at_table.proofs.Storing.{stores_on, stores_one}
+use Rattle.vbr_at_table.proofs.updating.fill.Given.{Over}
+use Rattle.vbr_at_table.proofs.updating.fill.Goals.{After-link_to-link, After-put_value}
 use Rattle.vbr_at_table.proofs.updating.fill.Goals as goal
+
+-- the slot is ready for its link once its key and its value are stored
+is_ready : (g : Over) (c : After-put_value g) →
+    IsReady c.put_value.new.at.stepper.now c.args.pred.now c.slot-slot.result c.args.hand.now.birth c.args.birth
+is_ready g c =
+    ready c.args.hand.now c.args.pred.now c.args.birth c.law.ensures c.requires.hand c.slot-slot.ensures
+    c.requires.pred c.requires.birth c.store_key.ensures.step c.put_value.ensures.puts c.put_value.ensures.stores.keeps
+
+-- the link that is stored names what comes next
+names_next : (g : Over) (c : After-link_to-link g) →
+    (link_of c.link_to-link.result).slot ≡ (link_of c.args.pred.now.word).slot
+names_next g c =
+    ap (λ (l : Link). l.slot) (c.link_to-link.ensures.link) ∙ ap (λ (l : Link). l.slot) c.decode.ensures.link
 
 pub link_to-link-requires : goal.link_to-link-requires
 link_to-link-requires g c =
-    let all = ready c.args.hand.now c.args.pred.now c.args.birth c.law.ensures c.requires.hand c.slot-slot.ensures
-    c.requires.pred c.requires.birth c.store_key.ensures.step c.put_value.ensures.puts
-    c.put_value.ensures.stores.keeps in
+    let all = is_ready g (goal.at.link_to-link-requires g c).After-put_value in
     fits c.put_value.new.at.stepper.now c.law-2.ensures c.decode.result.slot c.birth.result c.args.birth
     c.decode.ensures.fits.slot
     (birth_in_hand_low c.put_value.new.at.stepper.now c.law-2.ensures c.slot-slot.result c.birth.result
@@ -32,38 +45,30 @@ link_to-link-requires g c =
 
 pub store_link-requires-clause-next_in : goal.store_link-requires-clause-next_in
 store_link-requires-clause-next_in g c =
-    let all = ready c.args.hand.now c.args.pred.now c.args.birth c.law.ensures c.requires.hand c.slot-slot.ensures
-    c.requires.pred c.requires.birth c.store_key.ensures.step c.put_value.ensures.puts
-    c.put_value.ensures.stores.keeps in
+    let all = is_ready g (goal.at.store_link-requires-clause-next_in g c).After-put_value in
     let ok = link_accepted c.put_value.new.at.stepper.now c.law-2.ensures c.args.pred.now c.slot-slot.result
     c.args.hand.now.birth c.args.birth all in
     let P : Start → Type 0 = λ start. IsNextIn start (link_of c.args.pred.now.word).slot in
     let Q : Option ℕ → Type 0 = IsNextIn c.put_value.new.at.slots.now.start in
-    subst Q (sym
-    (ap (λ (l : Link). l.slot) (c.link_to-link.ensures.link) ∙ ap (λ (l : Link). l.slot) c.decode.ensures.link))
+    subst Q (sym (names_next g (goal.at.store_link-requires-clause-next_in g c).After-link_to-link))
     (subst P c.put_value.new.at.own.1 ok.in_shape.1)
 
 pub store_link-requires-clause-next_held : goal.store_link-requires-clause-next_held
 store_link-requires-clause-next_held g c =
-    let all = ready c.args.hand.now c.args.pred.now c.args.birth c.law.ensures c.requires.hand c.slot-slot.ensures
-    c.requires.pred c.requires.birth c.store_key.ensures.step c.put_value.ensures.puts
-    c.put_value.ensures.stores.keeps in
+    let all = is_ready g (goal.at.store_link-requires-clause-next_held g c).After-put_value in
     let ok = link_accepted c.put_value.new.at.stepper.now c.law-2.ensures c.args.pred.now c.slot-slot.result
     c.args.hand.now.birth c.args.birth all in
     let Q : Option ℕ → Type 0 = IsNextHeld (knows c.put_value.new.at.stepper.now.trace).checked in
-    subst Q (sym
-    (ap (λ (l : Link). l.slot) (c.link_to-link.ensures.link) ∙ ap (λ (l : Link). l.slot) c.decode.ensures.link)) ok.held
+    subst Q (sym (names_next g (goal.at.store_link-requires-clause-next_held g c).After-link_to-link)) ok.held
 
 pub store_link-requires-clause-word : goal.store_link-requires-clause-word
 store_link-requires-clause-word g c =
-    let all = ready c.args.hand.now c.args.pred.now c.args.birth c.law.ensures c.requires.hand c.slot-slot.ensures
-    c.requires.pred c.requires.birth c.store_key.ensures.step c.put_value.ensures.puts
-    c.put_value.ensures.stores.keeps in
+    let all = is_ready g (goal.at.store_link-requires-clause-word g c).After-put_value in
     let written =
     link_now c.put_value.new.at.stepper.now c.law-2.ensures c.args.pred.now c.slot-slot.result c.args.hand.now.birth
     c.args.birth all
     (link_of c.link_to-link.result).slot
-    (ap (λ (l : Link). l.slot) (c.link_to-link.ensures.link) ∙ ap (λ (l : Link). l.slot) c.decode.ensures.link) in
+    (names_next g (goal.at.store_link-requires-clause-word g c).After-link_to-link) in
     let is : link_to c.decode.result.slot c.birth.result c.args.birth
     ≡ link_to (link_of c.args.pred.now.word).slot c.args.hand.now.birth c.args.birth =
     (λ i. link_to (c.decode.ensures.link i).slot (c.birth.ensures i) c.args.birth) in
@@ -94,14 +99,12 @@ returns-clause-fills g c =
     let link = c.store_link.ensures.step in
     let put = c.put_value.ensures.puts in
     let in_hand = hand_at p c.law.ensures c.args.hand.now c.requires.hand c.slot-slot.result c.slot-slot.ensures in
-    let all = ready c.args.hand.now c.args.pred.now c.args.birth c.law.ensures c.requires.hand c.slot-slot.ensures
-    c.requires.pred c.requires.birth c.store_key.ensures.step c.put_value.ensures.puts
-    c.put_value.ensures.stores.keeps in
+    let all = is_ready g (goal.at.returns-clause-fills g c).After-put_value in
     let written =
     link_now c.put_value.new.at.stepper.now c.law-2.ensures c.args.pred.now c.slot-slot.result c.args.hand.now.birth
     c.args.birth all
     (link_of c.link_to-link.result).slot
-    (ap (λ (l : Link). l.slot) (c.link_to-link.ensures.link) ∙ ap (λ (l : Link). l.slot) c.decode.ensures.link) in
+    (names_next g (goal.at.returns-clause-fills g c).After-link_to-link) in
     let values : c.store_key.new.self.stepper.now.trace.start.shape.values ≡ p.trace.start.shape.values =
     ap (λ (d : Start). d.shape.values) key.same.1 in
     let full = filled c.store_key.new.self.stepper.now.trace.start.shape.values c.args.value key put.holding link

@@ -1,10 +1,11 @@
-use Rattle.vbr_list.proofs.Names.{rules, ◌≡◌, ◌<◌, ◌≤◌, arith}
+use Rattle.vbr_list.proofs.Names.{rules, ◌≡◌, ◌≤◌, arith}
 use Rattle.vbr_list.proofs.Names.{begins_refl, quiet_refl, took_all}
 use Rattle.vbr_list.specs.Budgets.{listed_for}
-use Rattle.vbr_list.specs.Disturbed.{disturbed, enough_to_search_among, find_costs_among}
+use Rattle.vbr_list.specs.Disturbed.{disturbed, find_costs_among}
 use Rattle.vbr_list.proofs.Clearing.{clear_found}
 use Rattle.vbr_list.proofs.Disturbing.{run_at, undisturbed}
 use Rattle.vbr_list.proofs.Moments.{was_so}
+use Rattle.vbr_list.proofs.Sufficing.{search_lacks}
 use Rattle.vbr_list.proofs.Walking.{call_paid, lacks_steps, repeated_none}
 use Rattle.vbr_list.proofs.finding.find_by.Goals as goal
 
@@ -48,9 +49,7 @@ returns-in-None-clause-tired g c =
     rw same (record {
       quiet = search rules;
       refused = search rules;
-      lacks = λ alone.
-          let x = undisturbed (λ t. c.args.budget < enough_to_search_among (listed_for p c.args.key) t) c.args.key lacks
-          alone in omega (arith, x);
+      lacks = search_lacks p r c.args.key c.args.budget lacks;
       disturbed_lacks = lacks;
     })
 

@@ -1,12 +1,14 @@
-use Rattle.vbr_list.proofs.Names.{rules, inl, refl, ◌≡◌, ℕ, true, false, Bool, Ok, Err, Some, ◌+◌, ◌≤◌, ◌∙◌, ap, sym}
-use Rattle.vbr_list.proofs.Names.{subst, arith}
-use Rattle.vbr_list.proofs.Names.{counts_none, counts_on, CountsSteps, had_grown, had_spent, had_then, HandView, Insert, knows, none_refl, OutOfSteps, Quiet, quiet_refl, Refusal, Start, steps_to_update, steps_to_value, Took, took_all, TookWithin, Trace}
+use Rattle.vbr_list.proofs.Names.{rules, inl, refl, ◌≡◌, ℕ, true, false, Ok, Err, Some, ◌+◌, ◌≤◌, ◌∙◌, ap, sym, subst}
+use Rattle.vbr_list.proofs.Names.{arith}
+use Rattle.vbr_list.proofs.Names.{counts_none, counts_on, CountsSteps, had_grown, had_spent, had_then, HandView, Insert}
+use Rattle.vbr_list.proofs.Names.{knows, none_refl, OutOfSteps, Quiet, quiet_refl, Refusal, Start, steps_to_update}
+use Rattle.vbr_list.proofs.Names.{steps_to_value, Took, took_all, TookWithin, Trace}
 use Rattle.vbr_list.specs.Budgets.{listed_for}
 use Rattle.vbr_list.specs.Disturbed.{disturbed, insert_costs_among, steps_for_slot}
 use Rattle.vbr_list.specs.Inserting.{SearchesFor}
 use Rattle.vbr_list.proofs.Disturbing.{lost_place, run_at}
 use Rattle.vbr_list.proofs.Going.{call_on, call_refl, counts_step, took_same, within_call}
-use Rattle.vbr_list.proofs.Inserts.{LinksNone, insert_linked, later, links_hand, same_later}
+use Rattle.vbr_list.proofs.Inserts.{LinksNone, insert_linked, insert_unlinked, later, links_hand, same_later}
 use Rattle.vbr_list.proofs.Linking.{counts_until, denied_then, gap_found, had_denied, has_denied, has_until, had_tired}
 use Rattle.vbr_list.proofs.Linking.{links_tired, made_denied, takes_back, had_until, links_then, lost_then, quiet_until}
 use Rattle.vbr_list.proofs.Linking.{succ_found, takes_on}
@@ -14,8 +16,8 @@ use Rattle.vbr_list.proofs.LonePasses.{alone}
 use Rattle.vbr_list.proofs.LostWalks.{search_ends}
 use Rattle.vbr_list.proofs.Preparing.{if_failed, refused_first, within_all, within_most, within_same}
 use Rattle.vbr_list.proofs.Stores.{hand_kept}
-use Rattle.vbr_list.proofs.Sufficing.{answered_or_spent, had_no_slot, lone_costs, lone_lacks}
-use Rattle.vbr_list.proofs.Told.{told_as, told_bare}
+use Rattle.vbr_list.proofs.Sufficing.{had_no_slot}
+use Rattle.vbr_list.proofs.Told.{call_answered, told_as, told_bare}
 use Rattle.vbr_list.proofs.ValueReads.{few_to_update}
 use Rattle.vbr_list.proofs.Walking.{once_paid, repeated_none, vain_lacks}
 use Rattle.vbr_list.proofs.inserting.insert_by.Goals as goal
@@ -32,7 +34,6 @@ returns-in-Err-clause-calls g c =
     vain_lacks p.trace q.trace c.law.ensures.start
     (run_at p.trace q.trace refused.quiet.same (refused.quiet.is_run c.law.ensures.is_run)) c.args.key c.args.budget
     (steps_for_slot p q.trace) refused.quiet c.in-Err.refusal refused.searches in
-    let alone = lone_lacks p q.trace c.args.key c.args.budget c.in-Err.refusal within in
     rw same (record {
       same = search rules;
       made = tt;
@@ -40,21 +41,10 @@ returns-in-Err-clause-calls g c =
       quiet = search rules;
       hand = search rules;
       steps = within_all c.prepare.ensures.prepares.counts;
-      bounds = record {
-        advances = search rules;
-        kept = search rules;
-        had = c.prepare.ensures.prepares.had;
-        shared = search rules;
-        tries = c.prepare.ensures.tries;
-        refused = refused_first p q c.args.key c.args.budget c.in-Err.refusal refused.says refused.so;
-        disturbed_within = within;
-        within = alone;
-        ready = λ some is_alone enough.
-            answered_or_spent {A = Bool} p q c.args.budget (listed_for p.trace c.args.key) (Err c.in-Err.refusal) some
-            is_alone enough (had_no_slot p q 0 c.args.budget c.in-Err.refusal refused.says) alone;
-        costs = tt;
-        disturbed_costs = tt;
-      };
+      bounds = insert_unlinked (Err c.in-Err.refusal) c.prepare.ensures.prepares c.prepare.ensures.tries
+          c.prepare.ensures.prepares.had
+          (refused_first p q c.args.key c.args.budget c.in-Err.refusal refused.says refused.so) within
+          (had_no_slot p q 0 c.args.budget c.in-Err.refusal refused.says) tt;
     })
 
 pub returns-in-Ok-None-clause-calls : goal.returns-in-Ok-None-clause-calls
@@ -70,27 +60,12 @@ returns-in-Ok-None-clause-calls g c =
     (insert_costs_among (listed_for p.trace c.args.key) (disturbed p.trace q.trace c.args.key)
     (steps_for_slot p q.trace) (steps_to_value p.trace.start.shape.values)) =
     within_most c.prepare.ensures.prepares.counts (omega (arith, paid)) in
-    rw same (record {
-      same = search rules;
-      made = told_as (told_bare p.trace.start p.trace.who Insert c.args.key false) answers;
-      alone = alone c.law.ensures.start c.law.ensures.low answers;
-      quiet = tt;
-      hand = is.spent;
-      steps = within_all c.prepare.ensures.prepares.counts;
-      bounds = record {
-        advances = search rules;
-        kept = search rules;
-        had = c.prepare.ensures.prepares.had;
-        shared = search rules;
-        tries = c.prepare.ensures.tries;
-        refused = tt;
-        disturbed_within = tt;
-        within = tt;
-        ready = search rules;
-        costs = lone_costs p q.trace c.args.key costs;
-        disturbed_costs = costs;
-      };
-    })
+    let counts = c.prepare.ensures.prepares.counts in
+    rw same (call_answered false c.law.ensures
+    (told_as (told_bare p.trace.start p.trace.who Insert c.args.key false) answers) is.spent counts.counts
+    counts.within.1
+    (insert_unlinked (Ok false) c.prepare.ensures.prepares c.prepare.ensures.tries c.prepare.ensures.prepares.had tt tt
+    tt costs))
 
 -- ---- the loop
 

@@ -1,20 +1,20 @@
-use Rattle.vbr_list.proofs.Names.{rules, ◌≡◌, ◌+◌, ◌≤◌, refl, ◌∙◌, arith, ap, subst}
-use Rattle.vbr_list.proofs.Names.{adds_on, AddsAnswer, answer_on, bucket_of, counts_on, loads_on, no_room, none_on}
-use Rattle.vbr_list.proofs.Names.{quiet_on, same_on, same_refl, Start, took_all}
+use Rattle.vbr_list.proofs.Names.{rules, ◌≡◌, ◌+◌, refl, ◌∙◌, arith, ap}
+use Rattle.vbr_list.proofs.Names.{adds_on, bucket_of, counts_on, loads_on, no_room, none_on, quiet_on, same_on}
+use Rattle.vbr_list.proofs.Names.{same_refl, Start, took_all, TookWithin}
 use Rattle.vbr_list.proofs.Going.{call_on, call_refl, goes_on, within_call, within_of}
 use Rattle.vbr_list.proofs.Observing.{observed, observes_on}
-use Rattle.vbr_list.specs.Budgets.{listed_for, look_up_costs, steps_where}
+use Rattle.vbr_list.specs.Budgets.{listed_for, steps_where}
 use Rattle.vbr_list.specs.Disturbed.{costs_among, disturbed}
 use Rattle.vbr_list.specs.LookUpPieces.{steps_to_answer}
 use Rattle.vbr_list.specs.Places.{sighted}
-use Rattle.vbr_list.specs.Told.{given_call, kept_call, look_up_op}
-use Rattle.vbr_list.proofs.Disturbing.{run_at, unchanged_at, undisturbed}
+use Rattle.vbr_list.specs.Told.{look_up_op}
+use Rattle.vbr_list.proofs.Disturbing.{run_at, unchanged_at}
 use Rattle.vbr_list.proofs.Walking.{call_paid, looked_again, repeated_none, round_on}
 use Rattle.vbr_list.proofs.Passing.{peeks_on, peeks_refl}
-use Rattle.vbr_list.proofs.LonePasses.{alone}
 use Rattle.vbr_list.proofs.Sights.{few_to_answer}
+use Rattle.vbr_list.proofs.Sufficing.{took_alone}
 use Rattle.vbr_list.proofs.Tiring.{look_up_tires}
-use Rattle.vbr_list.proofs.Told.{given_same, told_since}
+use Rattle.vbr_list.proofs.Told.{answer_since, call_answered, given_same, told_since}
 use Rattle.vbr_list.proofs.looking_up.look_up.Goals as goal
 
 pub settle_look_up-requires-clause-asked : goal.settle_look_up-requires-clause-asked
@@ -113,7 +113,6 @@ pub returns-in-Ok-clause-calls : goal.returns-in-Ok-clause-calls
 returns-in-Ok-clause-calls g c =
     let same : c.stepper-in-Ok-1.given.0 ≡ c.settle_look_up.new.self.at.stepper.now = search rules in
     let p = c.args.stepper.now in
-    let q = c.look.new.self.at.stepper.now in
     let r = c.settle_look_up.new.self.at.stepper.now in
     let op = look_up_op c.args.gives in
     let first = quiet_on c.loop-sight.invariant.3.tries.goes.quiet c.look.ensures.goes.goes.quiet in
@@ -131,43 +130,27 @@ returns-in-Ok-clause-calls g c =
     let sight = rw (c.loop-sight.invariant.0.key ∙ c.loop-sight.invariant.1) at c.in-Some.ensures.sight.looks in
     let ok_r = run_at p.trace r.trace (same_on first.same answered.same) answered.is_run in
     let looks = looked_again c.law.ensures begun c.look.ensures.goes.goes.quiet sight in
-    let all = call_paid p.trace loop.trace q.trace r.trace c.law.ensures.start ok_r c.args.key
-    (3 + steps_to_answer c.args.gives) begun c.look.ensures.goes.goes.quiet answered.seen (omega arith, omega arith)
-    c.loop-sight.invariant.4 looks c.settle_look_up.new.self.used (steps_to_answer c.args.gives)
-    c.settle_look_up.ensures.few in
-    let paid : c.settle_look_up.new.self.used
-    ≤ costs_among (listed_for p.trace c.args.key) (disturbed p.trace r.trace c.args.key) (steps_where c.args.gives) =
-    omega (arith, all) in
-    let S : Start → Type 0 =
-    λ start. AddsAnswer (kept_call start (given_call q.trace.who op c.args.key c.in-Ok.answer)) q.trace r.trace in
-    rw same (record {
-      same = same_on first.same answered.same;
-      made = made;
-      alone = alone c.law.ensures.start c.law.ensures.low made;
-      quiet = tt;
-      hand = search rules;
-      steps = within_of c.settle_look_up.new.self.used c.args.budget (rw c.loop-sight.invariant.2 at (within_call call))
-          counts;
-      bounds = record {
-        only_loads = loads_on before.only_loads c.settle_look_up.ensures.only_loads;
-        adds = answer_on (λ who. kept_call p.trace.start (given_call who op c.args.key c.in-Ok.answer)) first.same
-            before.adds_none (subst S first.same.start (rw key at c.in-Ok.ensures.answers.adds));
-        adds_none = tt;
-        takes_no_slot =
-            none_on (goes_on c.loop-sight.invariant.3.tries.goes c.look.ensures.goes.goes).hand.takes_no_slot
-            c.settle_look_up.ensures.settles.hand.takes_no_slot;
-        refused = tt;
-        within = tt;
-        disturbed_within = tt;
-        costs = λ whole.
-            let most = undisturbed
-            (λ t. c.settle_look_up.new.self.used
-            ≤ costs_among (listed_for p.trace c.args.key) t (steps_where c.args.gives)) c.args.key paid whole in
-            within_of c.settle_look_up.new.self.used (look_up_costs p.trace c.args.key + steps_where c.args.gives)
-            (omega (arith, most)) counts;
-        disturbed_costs =
-            within_of c.settle_look_up.new.self.used
-            (costs_among (listed_for p.trace c.args.key) (disturbed p.trace r.trace c.args.key)
-            (steps_where c.args.gives)) paid counts;
-      };
-    })
+    let all = call_paid p.trace loop.trace c.look.new.self.at.stepper.now.trace r.trace c.law.ensures.start ok_r
+    c.args.key (3 + steps_to_answer c.args.gives) begun c.look.ensures.goes.goes.quiet answered.seen
+    (omega arith, omega arith) c.loop-sight.invariant.4 looks c.settle_look_up.new.self.used
+    (steps_to_answer c.args.gives) c.settle_look_up.ensures.few in
+    let n = listed_for p.trace c.args.key in
+    let paid : TookWithin p.trace r.trace
+    (costs_among n (disturbed p.trace r.trace c.args.key) (steps_where c.args.gives)) =
+    within_of c.settle_look_up.new.self.used _ (omega (arith, all)) counts in
+    rw same (call_answered c.in-Ok.answer c.law.ensures made (search rules) counts
+    (rw c.loop-sight.invariant.2 at (within_call call))
+    (record {
+      only_loads = loads_on before.only_loads c.settle_look_up.ensures.only_loads;
+      adds = answer_since first.same before.adds_none op c.args.key c.in-Ok.answer
+          (rw key at c.in-Ok.ensures.answers.adds);
+      adds_none = tt;
+      takes_no_slot =
+          none_on (goes_on c.loop-sight.invariant.3.tries.goes c.look.ensures.goes.goes).hand.takes_no_slot
+          c.settle_look_up.ensures.settles.hand.takes_no_slot;
+      refused = tt;
+      within = tt;
+      disturbed_within = tt;
+      costs = took_alone (λ t. costs_among n t (steps_where c.args.gives)) c.args.key paid (omega arith);
+      disturbed_costs = paid;
+    }))

@@ -1,19 +1,19 @@
-use Rattle.vbr_list.proofs.Names.{rules, ◌∙◌, arith, ap, ◌≡◌, ℕ, ◌+◌, ◌≤◌, subst, inl, inr, ◌⊎◌}
-use Rattle.vbr_list.proofs.Names.{counts_on, none_on, quiet_on, Remove, same_on, Start, took_all}
+use Rattle.vbr_list.proofs.Names.{rules, ◌∙◌, arith, ap, ◌≡◌, ℕ, ◌+◌, subst, inl, inr, ◌⊎◌}
+use Rattle.vbr_list.proofs.Names.{counts_on, none_on, quiet_on, Remove, Start, took_all, TookWithin}
 use Rattle.vbr_list.proofs.Going.{by_either, call_on, goes_on, room_left, tries_on, within_call, within_of}
 use Rattle.vbr_list.proofs.Clearing.{leaves_since}
-use Rattle.vbr_list.proofs.Disturbing.{run_at, undisturbed}
+use Rattle.vbr_list.proofs.Disturbing.{run_at}
 use Rattle.vbr_list.proofs.Walking.{search_round_on}
-use Rattle.vbr_list.proofs.LonePasses.{alone}
 use Rattle.vbr_list.specs.Disturbed.{disturbed, remove_costs_among}
-use Rattle.vbr_list.specs.Budgets.{listed_for, remove_costs, steps_to_value_of}
+use Rattle.vbr_list.specs.Budgets.{listed_for, steps_to_value_of}
 use Rattle.vbr_list.specs.Expecting.{op_to_remove}
 use Rattle.vbr_list.specs.Leaving.{Leaves}
 use Rattle.vbr_list.specs.Removing.{MarksAndSearches, RemovesSoon}
 use Rattle.vbr_list.proofs.Expected.{taken_removes}
 use Rattle.vbr_list.proofs.Marks.{left_fewer, remove_alone, remove_paid}
+use Rattle.vbr_list.proofs.Sufficing.{took_alone}
 use Rattle.vbr_list.proofs.Tiring.{remove_tires}
-use Rattle.vbr_list.proofs.Told.{given_same, told_since}
+use Rattle.vbr_list.proofs.Told.{call_answered, given_same, told_since}
 use Rattle.vbr_list.proofs.removing.remove_by.Goals as goal
 
 pub settle_remove-requires-clause-expects : goal.settle_remove-requires-clause-expects
@@ -108,44 +108,34 @@ returns-in-Ok-clause-calls g c =
     let paid = remove_paid p.trace walk q.trace r.trace c.law.ensures.start c.args.key before went made answered.seen
     c.loop-found.invariant.4 c.in-Some.found last walks either
     (λ (soon : soon_so). let few = soon.few in omega (arith, few, values)) in
-    rw same (record {
-      same = same_on first.same answered.same;
-      made = made;
-      alone = alone c.law.ensures.start c.law.ensures.low made;
-      quiet = tt;
-      hand = search rules;
-      steps = within_of c.settle_remove.new.self.used c.args.budget (rw c.loop-found.invariant.2 at (within_call call))
-          counts;
-      bounds = record {
-        takes_no_slot =
-            none_on (goes_on c.loop-found.invariant.3.goes c.reach.ensures.goes.goes).hand.takes_no_slot
-            c.settle_remove.ensures.settles.hand.takes_no_slot;
-        unlists = λ yes left.
-            let room = room_left c.settle_remove.new.self.used c.args.budget counts left in
-            let most = call.budget ∙ c.loop-found.invariant.2 in
-            leaves_since r.trace c.args.key c.law.ensures.start first
-            (rw key at c.in-Ok.ensures.answers.unlists yes (omega (arith, room, most)));
-        refused = tt;
-        within = tt;
-        disturbed_within = tt;
-        costs = λ whole.
-            let most = undisturbed
-            (λ t. c.settle_remove.new.self.used
-            ≤ remove_costs_among (listed_for p.trace c.args.key) t (steps_to_value_of p.trace.start)) c.args.key paid
-            whole in
-            within_of c.settle_remove.new.self.used (remove_costs p.trace c.args.key) (omega (arith, most)) counts;
-        disturbed_costs =
-            within_of c.settle_remove.new.self.used
-            (remove_costs_among (listed_for p.trace c.args.key) (disturbed p.trace r.trace c.args.key)
-            (steps_to_value_of p.trace.start)) paid counts;
-        fewer = λ yes whole enough.
-            let soon = remove_alone p.trace walk q.trace r.trace c.law.ensures.start c.args.key before went made
-            answered.seen c.loop-found.invariant.4 c.in-Some.found last walks either whole in
-            let few = soon.1 in
-            let left = leaves_since r.trace c.args.key c.law.ensures.start first
-            (subst (λ (k : ℕ). Leaves q.trace r.trace k) key
-            (soon.0.leaves yes (omega (arith, few, enough, budget, values)))) in
-            left_fewer p.trace walk q.trace r.trace c.law.ensures.start c.args.key before went made answered.seen
-            (taken_removes c.args.expected c.in-Ok.answer yes) left whole;
-      };
-    })
+    let n = listed_for p.trace c.args.key in
+    let costs : TookWithin p.trace r.trace
+    (remove_costs_among n (disturbed p.trace r.trace c.args.key) (steps_to_value_of p.trace.start)) =
+    within_of c.settle_remove.new.self.used _ paid counts in
+    rw same (call_answered c.in-Ok.answer c.law.ensures made (search rules) counts
+    (rw c.loop-found.invariant.2 at (within_call call))
+    (record {
+      takes_no_slot =
+          none_on (goes_on c.loop-found.invariant.3.goes c.reach.ensures.goes.goes).hand.takes_no_slot
+          c.settle_remove.ensures.settles.hand.takes_no_slot;
+      unlists = λ yes left.
+          let room = room_left c.settle_remove.new.self.used c.args.budget counts left in
+          let most = call.budget ∙ c.loop-found.invariant.2 in
+          leaves_since r.trace c.args.key c.law.ensures.start first
+          (rw key at c.in-Ok.ensures.answers.unlists yes (omega (arith, room, most)));
+      refused = tt;
+      within = tt;
+      disturbed_within = tt;
+      costs = took_alone (λ t. remove_costs_among n t (steps_to_value_of p.trace.start)) c.args.key costs
+          (omega arith);
+      disturbed_costs = costs;
+      fewer = λ yes whole enough.
+          let soon = remove_alone p.trace walk q.trace r.trace c.law.ensures.start c.args.key before went made
+          answered.seen c.loop-found.invariant.4 c.in-Some.found last walks either whole in
+          let few = soon.1 in
+          let left = leaves_since r.trace c.args.key c.law.ensures.start first
+          (subst (λ (k : ℕ). Leaves q.trace r.trace k) key
+          (soon.0.leaves yes (omega (arith, few, enough, budget, values)))) in
+          left_fewer p.trace walk q.trace r.trace c.law.ensures.start c.args.key before went made answered.seen
+          (taken_removes c.args.expected c.in-Ok.answer yes) left whole;
+    }))

@@ -1,10 +1,10 @@
-use Rattle.vbr_list.proofs.Names.{◌≡◌, Bool, true, false, sym, ap, ◌∙◌, subst}
-use Rattle.vbr_list.proofs.Names.{knows, ReadsIn, RollsBack, Start}
+use Rattle.vbr_list.proofs.Names.{◌≡◌, Bool, true, false, sym, ◌∙◌, subst}
+use Rattle.vbr_list.proofs.Names.{knows, reads_none, ReadsIn, RollsBack}
 use Rattle.vbr_list.specs.Budgets.{steps_where}
 use Rattle.vbr_list.specs.Valuing.{LosesValue}
 use Rattle.vbr_list.proofs.Going.{keeps_still, ok_as}
 use Rattle.vbr_list.proofs.Sufficing.{each_error}
-use Rattle.vbr_list.proofs.ValueReads.{reads_still}
+use Rattle.vbr_list.proofs.ValueReads.{values_as}
 use Rattle.vbr_list.proofs.valuing.value_if_any.Goals as goal
 
 pub value_of-requires-clause-values : goal.value_of-requires-clause-values
@@ -12,8 +12,7 @@ value_of-requires-clause-values g c = c.kind.ensures ∙ sym c.VALUES.ensures �
 
 pub returns-then-VALUES-clause-reads : goal.returns-then-VALUES-clause-reads
 returns-then-VALUES-clause-reads g c =
-    let has : c.args.at.now.stepper.now.trace.start.shape.values ≡ true =
-    ap (λ (d : Start). d.shape.values) c.args.at.now.own.1 ∙ c.kind.ensures ∙ sym c.VALUES.ensures ∙ c.if-VALUES.true in
+    let has = values_as c.args.at.now.own.1 c.kind.ensures c.VALUES.ensures c.if-VALUES.true in
     let P : Bool → Type 0 =
     λ values. ReadsIn c.args.at.now.stepper.now c.value_of.new.at.stepper.now (steps_where values) in
     subst P (sym has) c.value_of.ensures.reads
@@ -24,26 +23,21 @@ returns-then-VALUES-clause-value g c =
 
 pub returns-then-VALUES-clause-moved : goal.returns-then-VALUES-clause-moved
 returns-then-VALUES-clause-moved g c =
-    let has : c.args.at.now.stepper.now.trace.start.shape.values ≡ true =
-    ap (λ (d : Start). d.shape.values) c.args.at.now.own.1 ∙ c.kind.ensures ∙ sym c.VALUES.ensures ∙ c.if-VALUES.true in
+    let has = values_as c.args.at.now.own.1 c.kind.ensures c.VALUES.ensures c.if-VALUES.true in
     each_error (RollsBack c.args.at.now.stepper.now c.value_of.new.at.stepper.now)
     (LosesValue c.args.at.now.stepper.now c.value_of.new.at.stepper.now) c.value_of.result
     (λ rollback rolls. record { some = has; rolls = rolls }) c.value_of.ensures.moved
 
 pub returns-else-VALUES-clause-reads : goal.returns-else-VALUES-clause-reads
 returns-else-VALUES-clause-reads g c =
-    let bare : c.args.at.now.stepper.now.trace.start.shape.values ≡ false =
-    ap (λ (d : Start). d.shape.values) c.args.at.now.own.1 ∙ c.kind.ensures ∙ sym c.VALUES.ensures
-    ∙ c.if-VALUES.false in
+    let bare = values_as c.args.at.now.own.1 c.kind.ensures c.VALUES.ensures c.if-VALUES.false in
     let P : Bool → Type 0 =
     λ values. ReadsIn c.args.at.now.stepper.now c.args.at.now.stepper.now (steps_where values) in
-    subst P (sym bare) (reads_still c.args.at.now.stepper.now)
+    subst P (sym bare) (reads_none c.args.at.now.stepper.now)
 
 pub returns-else-VALUES-clause-value : goal.returns-else-VALUES-clause-value
 returns-else-VALUES-clause-value g c =
-    let bare : c.args.at.now.stepper.now.trace.start.shape.values ≡ false =
-    ap (λ (d : Start). d.shape.values) c.args.at.now.own.1 ∙ c.kind.ensures ∙ sym c.VALUES.ensures
-    ∙ c.if-VALUES.false in
+    let bare = values_as c.args.at.now.own.1 c.kind.ensures c.VALUES.ensures c.if-VALUES.false in
     record {
       keeps = keeps_still (knows c.args.at.now.stepper.now.trace);
       value = λ has. (let e : true ≡ false = sym has ∙ bare in absurd (cc));

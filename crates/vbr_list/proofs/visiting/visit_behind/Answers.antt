@@ -1,8 +1,11 @@
-use Rattle.vbr_list.proofs.Names.{◌≡◌, ◌≤◌, ℕ, ◌+◌, Option, Some, None, sym, ap, ◌∙◌, subst, arith, false, IsSome}
-use Rattle.vbr_list.proofs.Names.{bucket_of, Held, held_kept, IsHeld, IsKeyRead, IsNext, Keeps, keeps_on, knows}
+use Rattle.vbr_list.proofs.Names.{◌≡◌, ◌≤◌, ℕ, ◌+◌, Option, Some, None, sym, ap, ◌∙◌, subst, arith, false, IsSome, refl}
+use Rattle.vbr_list.proofs.Names.{bucket_of, Held, held_kept, IsHeld, IsKeyRead, IsNext, IsSlot, keeps_on, knows}
 use Rattle.vbr_list.proofs.Names.{link_of, next_steps, PassView, reads_on, ReadsIn, Start, stood_before, Trace}
 use Rattle.vbr_list.specs.Pieces.{LooksOn}
-use Rattle.vbr_list.specs.Visiting.{HasKey}
+use Rattle.vbr_at_table.specs.Reading.{IsNextRead}
+use Rattle.vbr_list.specs.Visiting.{HasKey, MeetsBehind, Visits, met_place, steps_met}
+use Rattle.vbr_list.specs.declared.visiting.Visited.{Visited}
+use Rattle.vbr_list.specs.declared.visiting.Visited.TheVariants.{Beyond, Smaller}
 use Rattle.vbr_list.specs.Walking.{ReadsNext}
 use Rattle.vbr_list.proofs.Disturbing.{moves_epoch}
 use Rattle.vbr_list.proofs.Going.{goes_on, goes_read}
@@ -75,59 +78,63 @@ pub returns-else-key-number-clause-looks : goal.returns-else-key-number-clause-l
 returns-else-key-number-clause-looks g c =
     looks_five c.args.used.now c.args.here.now c.requires.some c.next-node.ensures.reads c.key_of-read.ensures.reads
 
-module _ {p q r : PassView} {m n : ℕ} (x : ReadsIn p q m) (y : ReadsIn q r n) (here node : Held)
-    (held : IsHeld (knows p.trace) here) (keeps : Keeps (knows p.trace) (knows q.trace))
-    (next : IsNext p.trace q.trace here (Some node)) (key : ℕ) (k : IsKeyRead q r node.at key) where
-  has_key : (link_of node.word).mark ≡ false → HasKey p.trace r.trace here node key
-  has_key unmarked = record {
-    held = held_kept node k.keeps next.3.known;
-    unmarked = unmarked;
+module _ {p q r : PassView} {m n : ℕ} (x : ReadsIn p q m) (y : ReadsIn q r n) (here : Held)
+    (held : IsHeld (knows p.trace) here) {found : Option Held} (next : IsNextRead p q here found) (node : Held)
+    (is : found ≡ Some node) {key : ℕ} (k : IsKeyRead q r node.at key)
+    (plain : IsSlot node.at → (link_of node.word).mark ≡ false) where
+  named : IsNext p.trace q.trace here (Some node)
+  named = let P : Option Held → Type 0 = IsNext p.trace q.trace here in subst P is next.read
+
+  has_key : HasKey p.trace r.trace here node key
+  has_key = record {
+    held = held_kept node k.keeps named.3.known;
+    unmarked = node_unmarked here node named plain;
     keyed = k.key;
     of_bucket = λ bucket inside.
         ap (λ (start : Start). bucket_of start.shape key) y.quiet.same.start
         ∙ k.bucket bucket
-        (next_inside bucket here node (record { held = held; inside = inside }) keeps (read_next next));
+        (next_inside bucket here node (record { held = held; inside = inside }) next.keeps (read_next named));
   }
 
-  reads_node : ReadsNext p.trace r.trace here node
-  reads_node = record { slot = next.0; named = next.1; place = next.2; stood = stood_before next.3.stood y.quiet }
+  -- so it was met, in five steps, by what its key tells of it
+  meets_key : (number before since : ℕ) (met : Visited) → met_place met ≡ node → since ≡ before + steps_met met →
+      Visits p.trace r.trace here number met → MeetsBehind p.trace r.trace before since here number met
+  meets_key number before since met place count visits =
+      let P : Held → Type 0 = ReadsNext p.trace r.trace here in
+      record {
+        keeps = keeps_on next.keeps k.keeps;
+        visits = visits;
+        reads = subst P (sym place) (record {
+          slot = named.0;
+          named = named.1;
+          place = named.2;
+          stood = stood_before named.3.stood y.quiet;
+        });
+        fresh = k.fresh;
+        count = count;
+      }
 
 pub returns-then-key-number-clause-met : goal.returns-then-key-number-clause-met
 returns-then-key-number-clause-met g c =
     let x = c.in_ok-node.ensures in
     let y = c.in_ok-key.ensures in
-    let n = rw c.in-Some.is at x.next.read in
-    let here = c.args.here.now in
     let node = c.in-Some.node in
-    record {
-      keeps = keeps_on x.next.keeps y.key.keeps;
-      visits = record {
-        key = c.in_ok-key.key;
-        has = has_key x.reads y.reads here node c.requires.held x.next.keeps n c.in_ok-key.key y.key
-            (node_unmarked here node n c.in_default-of.ensures);
-        low = c.if-key-number.true;
-      };
-      reads = reads_node x.reads y.reads here node c.requires.held x.next.keeps n c.in_ok-key.key y.key;
-      fresh = y.key.fresh;
-      count = omega arith;
-    }
+    meets_key x.reads y.reads c.args.here.now c.requires.held x.next node c.in-Some.is y.key c.in_default-of.ensures
+    c.args.number c.args.used.now _ (Smaller node) refl (omega arith) (record {
+      key = c.in_ok-key.key;
+      has = has_key x.reads y.reads c.args.here.now c.requires.held x.next node c.in-Some.is y.key
+          c.in_default-of.ensures;
+      low = c.if-key-number.true;
+    })
 
 pub returns-else-key-number-clause-met : goal.returns-else-key-number-clause-met
 returns-else-key-number-clause-met g c =
     let x = c.in_ok-node.ensures in
     let y = c.in_ok-key.ensures in
-    let n = rw c.in-Some.is at x.next.read in
-    let here = c.args.here.now in
     let node = c.in-Some.node in
     let high : c.args.number ≤ c.in_ok-key.key = let f = c.if-key-number.false in omega (arith, f) in
-    record {
-      keeps = keeps_on x.next.keeps y.key.keeps;
-      visits = (
-        has_key x.reads y.reads here node c.requires.held x.next.keeps n c.in_ok-key.key y.key
-            (node_unmarked here node n c.in_default-of.ensures),
-        high,
-      );
-      reads = reads_node x.reads y.reads here node c.requires.held x.next.keeps n c.in_ok-key.key y.key;
-      fresh = y.key.fresh;
-      count = omega arith;
-    }
+    meets_key x.reads y.reads c.args.here.now c.requires.held x.next node c.in-Some.is y.key c.in_default-of.ensures
+    c.args.number c.args.used.now _ (Beyond node c.in_ok-key.key) refl (omega arith) (
+      has_key x.reads y.reads c.args.here.now c.requires.held x.next node c.in-Some.is y.key c.in_default-of.ensures,
+      high,
+    )

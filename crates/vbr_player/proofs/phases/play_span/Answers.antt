@@ -1,24 +1,18 @@
-use Rattle.std.proofs.Common.{◌≡◌, ℕ, ◌+◌, ◌≤◌, List, length, drop, subst, sym, ap, ◌∙◌, arith, length-drop}
-use Rattle.std.specs.Prelude.{nat_le}
-use Rattle.std.specs.List.{prefix_len}
+use Rattle.std.proofs.Common.{ℕ, ◌+◌, ◌≤◌, List, length, drop, subst, sym, arith, length-drop}
 use Rattle.vbr_script.specs.declared.script.Line.{Line}
 use Rattle.vbr_player.specs.Meeting.{PlayedAndMet}
 use Rattle.vbr_player.specs.Working.{HaveRoomForReplies}
 use Rattle.vbr_player.proofs.Finishing.{merges}
 use Rattle.vbr_player.proofs.NewWorkers.{stand_from}
-use Rattle.vbr_player.proofs.Phasing.{Cuts, cuts, rest_of, next_room, stand_behind, all_played}
+use Rattle.vbr_player.proofs.Phasing.{cuts_rest, rest_of, next_room, stand_behind, all_played}
 use Rattle.vbr_player.proofs.Standing.{are_of_stand}
 use Rattle.vbr_player.proofs.phases.play_span.Goals as goal
 
 pub play_phase-requires-clause-room : goal.play_phase-requires-clause-room
 play_phase-requires-clause-room g c κs within =
     let lines = c.args.span.part.lines.now in let i = c.loop-number.invariant in
-    let count : c.count_up_to.result
-    ≡ prefix_len (λ line. nat_le line.phase c.loop-number.number) (drop c.loop-number.first lines) =
-    c.count_up_to.ensures.count
-    ∙ ap (prefix_len (λ line. nat_le line.phase c.loop-number.number)) (rest_of lines c.loop-number.first) in
-    let cut : Cuts lines c.loop-number.first c.count_up_to.result c.loop-number.number =
-    cuts lines c.loop-number.first c.count_up_to.result c.loop-number.number count i.early i.later in
+    let cut = cuts_rest lines c.loop-number.first c.count_up_to.result c.loop-number.number c.count_up_to.ensures.count
+    i.early i.later in
     subst (HaveRoomForReplies c.loop-number.workers.items) (sym c.slice.ensures.lines)
     (next_room c.args.set.now c.args.span.part.budget lines c.loop-number.first c.count_up_to.result c.args.span.from
     c.loop-number.number _ c.loop-number.workers.items cut i.stand)
@@ -26,12 +20,8 @@ play_phase-requires-clause-room g c κs within =
 pub loop-number-preserved : goal.loop-number-preserved
 loop-number-preserved g c =
     let lines = c.args.span.part.lines.now in let i = c.loop-number.invariant in
-    let count : c.count_up_to.result
-    ≡ prefix_len (λ line. nat_le line.phase c.loop-number.number) (drop c.loop-number.first lines) =
-    c.count_up_to.ensures.count
-    ∙ ap (prefix_len (λ line. nat_le line.phase c.loop-number.number)) (rest_of lines c.loop-number.first) in
-    let cut : Cuts lines c.loop-number.first c.count_up_to.result c.loop-number.number =
-    cuts lines c.loop-number.first c.count_up_to.result c.loop-number.number count i.early i.later in
+    let cut = cuts_rest lines c.loop-number.first c.count_up_to.result c.loop-number.number c.count_up_to.ensures.count
+    i.early i.later in
     let within : c.count_up_to.result ≤ length (drop c.loop-number.first lines) =
     subst (λ (some : List Line). c.count_up_to.result ≤ length some) (rest_of lines c.loop-number.first)
     c.count_up_to.ensures.inside in

@@ -96,14 +96,13 @@ returns g c =
     let l = c.loop-renewal in
     let set = l.now.set in
     let lines = c.deref.result.now in
-    let lent = c.deref-renewal-items.result.now in
     let part = c.slice-2.result in
     let more = c.in_ok-passes-2.more.items in
     let report = c.in_ok-report.report in
     let listed = g.N.Playable.listed report in
     let epoch = g.N.Playable.epoch report in
-    let past : length lent ≤ l.renewal-index = omega arith in
-    let none = no_renewal script.renewals.items lent l.renewal-index c.deref-renewal-items.ensures.value past in
+    let none = no_renewal script.renewals.items c.deref-renewal-items.result.now l.renewal-index
+    c.deref-renewal-items.ensures.value (omega arith) in
     let phased = subst (ArePhased kind config.workers script.phases) (sym c.deref.ensures.value) c.requires.phased in
     let span = span_as set.passes l.phase script.phases part.lines.now _ refl c.slice-2.ensures.lines
     (last_span config.workers _ _ lines script.renewals.items script.phases set l.first l.phase l.renewal-index _ phased

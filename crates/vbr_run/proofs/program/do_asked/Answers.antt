@@ -71,28 +71,19 @@ returns-in-Ok-None-clause-done g c =
 
 pub returns-in-Ok-clause-done : goal.returns-in-Ok-clause-done
 returns-in-Ok-clause-done g c =
-    let none : explained_among (rows_in c.args.options.now) ≡ None = search rules in
-    let shaped : shape_fault (settings_among (rows_in c.args.options.now)) ≡ None = search rules in
-    let named : file_among (rows_in c.args.options.now) ≡ Some c.in-Ok-Some.name.now = search rules in
-    let alike : c.kind_asked-kind.result ≡ kind_asked (asks_map_among (rows_in c.args.options.now)) = search rules in
-    let same : c.in-Ok-Some.config ≡ settings_among (rows_in c.args.options.now) = search rules in
-    let gives : FnReturnsAt g.O.Fn c.args.files.now c.in-Ok-Some.name.now c.files.result = search rules in
-    let is : c.files.result ≡ Ok c.in-Ok.file = search rules in
-    filed_ok g.F.Read.remaining (FnReturnsAt g.O.Fn c.args.files.now) _ _ _ _ c.kind_asked-kind.result _
-    c.in-Ok-Some.config _ _ c.in-Ok-Some.name.now c.files.result c.in-Ok.file none shaped named alike same gives is
+    let rows = rows_in c.args.options.now in
+    filed_ok g.F.Read.remaining (FnReturnsAt g.O.Fn c.args.files.now) (explained_among rows)
+    (shape_fault (settings_among rows)) (file_among rows) (kind_asked (asks_map_among rows)) c.kind_asked-kind.result
+    (settings_among rows) c.in-Ok-Some.config _ _ c.in-Ok-Some.name.now c.files.result c.in-Ok.file (search rules)
+    (search rules) (search rules) (search rules) (search rules) (search rules) (search rules)
     c.play_script-in-Ok.ensures.played
 
 pub returns-in-Err-clause-done : goal.returns-in-Err-clause-done
 returns-in-Err-clause-done g c =
-    let none : explained_among (rows_in c.args.options.now) ≡ None = search rules in
-    let shaped : shape_fault (settings_among (rows_in c.args.options.now)) ≡ None = search rules in
-    let named : file_among (rows_in c.args.options.now) ≡ Some c.in-Ok-Some.name.now = search rules in
-    let alike : c.kind_asked-kind.result ≡ kind_asked (asks_map_among (rows_in c.args.options.now)) = search rules in
-    let same : c.in-Ok-Some.config ≡ settings_among (rows_in c.args.options.now) = search rules in
-    let gives : FnReturnsAt g.O.Fn c.args.files.now c.in-Ok-Some.name.now c.files.result = search rules in
-    let is : c.files.result ≡ Err c.in-Err.error = search rules in
-    let kinds : c.kind.result ≡ error_kind c.in-Err.error = search rules in
+    let rows = rows_in c.args.options.now in
     let keeps : Keeps (g.W.Write.contents c.args.writer.now) (g.W.Write.contents c.args.writer.now) = search rules in
-    filed_err g.F.Read.remaining (FnReturnsAt g.O.Fn c.args.files.now) _ _ _ _ c.kind_asked-kind.result _
-    c.in-Ok-Some.config _ _ c.in-Ok-Some.name.now c.files.result c.in-Err.error c.kind.result none shaped named alike
-    same gives is kinds (c.report_unopened.ensures.status, keeps, c.report_unopened.ensures.told)
+    filed_err g.F.Read.remaining (FnReturnsAt g.O.Fn c.args.files.now) (explained_among rows)
+    (shape_fault (settings_among rows)) (file_among rows) (kind_asked (asks_map_among rows)) c.kind_asked-kind.result
+    (settings_among rows) c.in-Ok-Some.config _ _ c.in-Ok-Some.name.now c.files.result c.in-Err.error c.kind.result
+    (search rules) (search rules) (search rules) (search rules) (search rules) (search rules) (search rules)
+    (search rules) (c.report_unopened.ensures.status, keeps, c.report_unopened.ensures.told)

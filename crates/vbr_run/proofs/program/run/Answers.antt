@@ -15,11 +15,15 @@ use Rattle.vbr_run.proofs.program.run.Goals as goal
 
 -- ---- what was asked for
 
-does : (arguments : List Text) (options : Options) (input : Option (List ℕ)) (opens : Opening) (run : ProgramRun) →
-    IsReadOff arguments options →
+-- what options ask for is done
+abbrev IsDoneBy : Options → Option (List ℕ) → Opening → ProgramRun → Type 0
+IsDoneBy options input opens run =
     IsDone (explained_among (rows_in options)) (shape_fault (settings_among (rows_in options)))
     (file_among (rows_in options)) (kind_asked (asks_map_among (rows_in options))) (settings_among (rows_in options))
-    input opens run → DoesAsked arguments input opens run
+    input opens run
+
+does : (arguments : List Text) (options : Options) (input : Option (List ℕ)) (opens : Opening) (run : ProgramRun) →
+    IsReadOff arguments options → IsDoneBy options input opens run → DoesAsked arguments input opens run
 does arguments options input opens run given done =
     let named = subst
     (λ (name : Option Text).
@@ -40,10 +44,7 @@ does arguments options input opens run given done =
     settings input opens run) given.settings kinds
 
 answers : (arguments : List Text) (options : Options) (input : Option (List ℕ)) (opens : Opening) (run : ProgramRun) →
-    IsReadOff arguments options →
-    IsDone (explained_among (rows_in options)) (shape_fault (settings_among (rows_in options)))
-    (file_among (rows_in options)) (kind_asked (asks_map_among (rows_in options))) (settings_among (rows_in options))
-    input opens run → AnswersCommand arguments input opens run
+    IsReadOff arguments options → IsDoneBy options input opens run → AnswersCommand arguments input opens run
 answers arguments options input opens run given done =
     let does_so = does arguments options input opens run given done in
     record { taken = λ taken. inl does_so; answered = inl (given.faultless, does_so) }

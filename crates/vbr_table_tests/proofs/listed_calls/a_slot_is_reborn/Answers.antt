@@ -1,14 +1,9 @@
--- The list is worked at this shape.
-use Rattle.std.proofs.Common.{◌≡◌, sym, subst, rules, ap}
-use Rattle.vbr_machine.specs.Start.{Start, empty_start}
-use Rattle.vbr_machine.specs.Machine.{opening}
-use Rattle.vbr_event_lists.specs.Worked.{AreWorked, three_slots}
-use Rattle.vbr_event_lists.specs.declared.lists.TheConstants.{REBORN_SLOT, REBORN_SLOT_WORDS}
-use Rattle.vbr_event_lists.proofs.Lemmas.{reborn_slot}
+-- The list is worked, without values and with them.
+use Rattle.vbr_event_lists.proofs.Lemmas.{reborn_slot, reborn_slot_with_values}
 use Rattle.vbr_table_tests.proofs.listed_calls.a_slot_is_reborn.Goals as goal
 
-pub words_after-words-requires-clause-worked : goal.words_after-words-requires-clause-worked
-words_after-words-requires-clause-worked g c =
-    let shape : c.in_ok-shape.shape ≡ three_slots.shape = search rules in
-    subst (λ (d : Start). AreWorked d (opening d) REBORN_SLOT REBORN_SLOT_WORDS) (sym (ap empty_start shape))
-    reborn_slot
+pub expect_both-requires-clause-bare : goal.expect_both-requires-clause-bare
+expect_both-requires-clause-bare g c = reborn_slot
+
+pub expect_both-requires-clause-valued : goal.expect_both-requires-clause-valued
+expect_both-requires-clause-valued g c = reborn_slot_with_values

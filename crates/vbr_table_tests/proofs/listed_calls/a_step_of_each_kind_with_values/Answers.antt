@@ -1,15 +1,6 @@
--- The list is worked at this shape.
-use Rattle.std.proofs.Common.{◌≡◌, sym, subst, rules, ap}
-use Rattle.vbr_machine.specs.Start.{Start, empty_start}
-use Rattle.vbr_machine.specs.Machine.{opening}
-use Rattle.vbr_event_lists.specs.Worked.{AreWorked, many_epochs}
-use Rattle.vbr_event_lists.specs.Valued.{valued}
-use Rattle.vbr_event_lists.specs.declared.standing.TheConstants.{STANDING_WITH_VALUES, STANDING_WORDS}
+-- The list is worked.
 use Rattle.vbr_event_lists.proofs.Lemmas.{standing_with_values}
 use Rattle.vbr_table_tests.proofs.listed_calls.a_step_of_each_kind_with_values.Goals as goal
 
-pub words_after-words-requires-clause-worked : goal.words_after-words-requires-clause-worked
-words_after-words-requires-clause-worked g c =
-    let shape : c.with_values-shape.result ≡ (valued many_epochs).shape = search rules in
-    subst (λ (d : Start). AreWorked d (opening d) STANDING_WITH_VALUES STANDING_WORDS) (sym (ap empty_start shape))
-    standing_with_values
+pub expect_valued-requires : goal.expect_valued-requires
+expect_valued-requires g c = standing_with_values

@@ -11,7 +11,7 @@ use Rattle.vbr_slots.specs.Views.{knows}
 use Rattle.vbr_event_lists.specs.Worked.{IsNamedWord}
 use Rattle.vbr_table_tests.specs.Following.{Learned}
 use Rattle.vbr_table_tests.proofs.listed_calls.Following.{found_either, published_either, replaced_either, learned}
-use Rattle.vbr_table_tests.proofs.listed_calls.Following.{learned_exchange, learned_load}
+use Rattle.vbr_table_tests.proofs.listed_calls.Following.{learned_exchange, learned_found, learned_load}
 use Rattle.vbr_table_tests.proofs.listed_calls.call.Goals as goal
 
 pub store_link-requires-clause-next_in : goal.store_link-requires-clause-next_in
@@ -46,14 +46,6 @@ returns-in-Publish g c =
     (published_either _ _ _ c.args.pass.now c.publish.new.pass c.publish.result c.publish.ensures.found
     c.publish.ensures.other) c.exchanged.ensures)
 
-pub returns-in-Mark : goal.returns-in-Mark
-returns-in-Mark g c =
-    subst (λ (s : Step). Learned s c.args.pass.now.trace c.mark.new.pass.trace c.exchanged-in-Mark.result)
-    (sym c.in-Mark.is)
-    (learned_exchange _ _ _ c.in-Mark.expected c.mark.result _ (λ w. refl) (λ n. refl)
-    (found_either _ c.args.pass.now c.mark.new.pass _ c.mark.result c.mark.ensures.found c.mark.ensures.other)
-    c.exchanged-in-Mark.ensures)
-
 pub returns-in-Replace : goal.returns-in-Replace
 returns-in-Replace g c =
     subst (λ (s : Step). Learned s c.args.pass.now.trace c.replace.new.pass.trace c.exchanged-in-Replace.result)
@@ -61,14 +53,6 @@ returns-in-Replace g c =
     (learned_exchange _ _ _ c.in-Replace.expected c.replace.result _ (λ w. refl) (λ n. refl)
     (replaced_either _ _ _ c.args.pass.now c.replace.new.pass c.replace.result c.replace.ensures.found
     c.replace.ensures.other) c.exchanged-in-Replace.ensures)
-
-pub returns-in-Unlink : goal.returns-in-Unlink
-returns-in-Unlink g c =
-    subst (λ (s : Step). Learned s c.args.pass.now.trace c.unlink.new.pass.trace c.exchanged-in-Unlink.result)
-    (sym c.in-Unlink.is)
-    (learned_exchange _ _ _ c.in-Unlink.expected c.unlink.result _ (λ w. refl) (λ n. refl)
-    (found_either _ c.args.pass.now c.unlink.new.pass _ c.unlink.result c.unlink.ensures.found c.unlink.ensures.other)
-    c.exchanged-in-Unlink.ensures)
 
 pub returns-in-ConfirmPresent : goal.returns-in-ConfirmPresent
 returns-in-ConfirmPresent g c =
@@ -87,3 +71,13 @@ returns-in-ConfirmAbsent g c =
     (learned_load _ _ _ c.in-ConfirmAbsent.expected false c.confirm_absent.result _ (λ w. refl) (λ n. refl)
     (found_either _ c.args.pass.now c.confirm_absent.new.pass _ c.confirm_absent.result c.confirm_absent.ensures.found
     c.confirm_absent.ensures.other) c.confirmed-in-ConfirmAbsent.ensures)
+
+pub returns-in-Mark : goal.returns-in-Mark
+returns-in-Mark g c =
+    learned_found _ _ c.args.pass.now c.mark.new.pass _ c.mark.result _ c.in-Mark.is (λ w. refl) (λ n. refl)
+    c.mark.ensures.found c.mark.ensures.other c.exchanged-in-Mark.ensures
+
+pub returns-in-Unlink : goal.returns-in-Unlink
+returns-in-Unlink g c =
+    learned_found _ _ c.args.pass.now c.unlink.new.pass _ c.unlink.result _ c.in-Unlink.is (λ w. refl) (λ n. refl)
+    c.unlink.ensures.found c.unlink.ensures.other c.exchanged-in-Unlink.ensures

@@ -1,26 +1,12 @@
 -- The call, and the top-up after it.
-use Rattle.std.proofs.Common.{◌≡◌, ◌∙◌, Option, Some, ap, rules, subst, sym, of_z, to_z, w32}
+use Rattle.std.proofs.Common.{◌∙◌, rules, w32}
 use Rattle.std.proofs.lemmas.Int.{to_z-of_z}
-use Rattle.vbr_slots.specs.Views.{PassView, counted_steps, steps_of}
-use Rattle.vbr_set.specs.Members.{MemberView as Member}
-use Rattle.vbr_handles.specs.ValueCalls.{TellsPut}
-use Rattle.vbr_handles.specs.declared.owner.Owner.{Owner}
-use Rattle.vbr_handles.proofs.ToppingUp.{calls_and_tops_up}
+use Rattle.vbr_handles.proofs.ToppingUp.{calls_and_tops_up, gives_call}
 use Rattle.vbr_handles.proofs.numbers.entries.put.Goals as goal
 
 pub returns : goal.returns
-returns c =
-    let m = c.member_mut-member.result.now in
-    let full : c.args.owner.now.member ≡ Some m =
-    sym (ap (λ (o : Owner Member). o.member) c.is_empty.ensures.2) ∙ c.member_mut-member.ensures.value in
-    let counted =
-    c.steps-before.ensures ∙ ap (λ (q : PassView). counted_steps (steps_of q.trace)) c.pass.ensures.pass in
-    let shown = to_z-of_z w32 c.give.result (search rules) in
-    subst (λ (x : Option Member).
-    TellsPut x (Some c.top_up_after.new.member) c.args.key c.args.value c.args.budget c.args.found.now c.give.new.value
-    (to_z w32 (of_z w32 c.give.result))) (sym full) (record {
-      answer = c.put-answer.result;
-      is = shown ∙ c.give.ensures.code;
-      called = calls_and_tops_up c.put-answer.new.self c.put-answer.result c.has_stored_new.result c.put-answer.ensures c.put-answer.ensures.steps c.has_stored_new.ensures (c.top_up_after.ensures m.pass.trace counted);
-      writes = c.give.ensures.writes;
-    })
+returns c = gives_call _ _ _ c.is_empty.ensures.2 c.member_mut-member.ensures.value
+    (to_z-of_z w32 c.give.result (search rules) ∙ c.give.ensures.code)
+    (calls_and_tops_up c.put-answer.new.self c.put-answer.result c.has_stored_new.result c.put-answer.ensures
+    c.put-answer.ensures.steps c.has_stored_new.ensures c.pass.ensures.pass c.steps-before.ensures
+    c.top_up_after.ensures) c.give.ensures.writes

@@ -8,10 +8,8 @@ use mir.MapTy.{inst_fn}
 use mir.Val.{Val, vnull, has_ty, WT}
 use base.Logic.{ent, emp, id⊢}
 use base.Fml.{ftrue, fsep}
-use prog.Wp.{WpFn, Tables}
-use types.Logic.{Logic}
+use prog.Wp.{WpFn}
 use contract.Monad.{fact}
-use contract.Running.{tables, tables_of}
 use types.Kit.{Item, ‵, raw, ◌⊛◌, ◌$◌, ◌∵◌, !, qed, by, move, keep, drop, use1, join, split, fsplit, fjoin, fpack}
 use types.Kit.{feq_i, suffices, done}
 use types.Part.{agg}
@@ -33,7 +31,7 @@ use Rattle.core.proofs.mem.Param.{El, R, args}
 use Rattle.std.specs.declared.option.Option.TheVariants.{None}
 use Rattle.std_alloc.proofs.ResultValues.{and_tt}
 use Rattle.std_heap.specs.contracts.Global as Heap
-use Rattle.vbr_handles.proofs.Bounds.{spares}
+use Rattle.vbr_handles.proofs.Bounds.{moving, spares}
 use Rattle.vbr_handles.proofs.AsBox.{E, OwnerRow, FromOwner as To}
 use Rattle.vbr_handles.proofs.Owning.{nothing_word}
 use Rattle.vbr_handles.specs.contracts.owner.Owner.{the_type}
@@ -49,10 +47,7 @@ module _ (F : El) where
   fn' = inst_fn (args F) code.function
 
   abbrev ended : Ended
-  ended = record {
-    signature = record { lifetimes = 0; outlives = []; params = From ∷ []; result = To F };
-    kept = (yes, tt);
-  }
+  ended = record { signature = moving (From ∷ []) (To F); kept = (yes, tt) }
 
   abbrev stayed : Stays ended.signature.params ended.kept
   stayed = (stay_dropped From yes, tt)
@@ -60,40 +55,31 @@ module _ (F : El) where
   abbrev spec : {M : Type 1} (𝓤 : Ura M) → Clauses 𝓤 ended
   spec 𝓤 κs a = record { ghost = Unit {0}; requires = λ _. emp 𝓤; ensures = λ _ r _. fact 𝓤 (r.member ≡ None) }
 
-module _ (F : El) {M : Type 1} {𝓤 : Ura M} (𝓛 : Logic 𝓤) (𝓣 : Tables 𝓤 𝓛.H) where
-  open 𝓛 use {H}
-
-  walk : (z : (walk_of 𝓛 (ended F) (stayed F) (spec F 𝓤)).Ghost)
-      → ent 𝓤 ((walk_of 𝓛 (ended F) (stayed F) (spec F 𝓤)).pre z)
-      (WpFn 𝓤 H 𝓣.C 𝓣.Λ (fn' F) (z.0.4.0 ++ []) ((walk_of 𝓛 (ended F) (stayed F) (spec F 𝓤)).post z))
-  walk z =
-      let Post = (walk_of 𝓛 (ended F) (stayed F) (spec F 𝓤)).post z in
-      let a : Heap.the_row.Denot = z.0.3.0 in
-      let made : (OwnerRow F).Denot = record { ptr = null_ptr; alloc = a; member = None } in
-      qed 𝓛 ((‵ ftrue ⊛ ‵ (fsep (Heap.the_row.own_val a z.0.4.0) ftrue)) ∷ raw (emp 𝓤) ∷ []) ∵ split ! $ drop ! $ fsplit
-      ! $
-      handle_tells (E F).al ! a z.0.4.0 (λ hv ea fa. keep ! (0 ∷ []) $
-      let w = nothing_word hv in
-      let good : T (has_ty (layout (OwnerRow F)) w) × WT w =
-      (and_tt (has_ty (layout Heap.the_row) hv) fa.0, (record { fits = lit< tt }, (fa.1, tt))) in
-      nothing ! $ fpack ! (null_ptr ≡ null_ptr) (λ _. ftrue) refl $
-      nothing ! $ move ! (2 ∷ 0 ∷ []) $ fjoin ! $ feq_i ! (List Val) (vnull ∷ []) (ptr_val null_ptr ∷ []) refl $ fjoin !
-      $ feq_i ! (List Val) (w ∷ []) (w ∷ []) refl $ fjoin ! $
-      fpack ! (Valss (RawPtr ∷ Heap.the_field.row ∷ []))
-      (within (shape (the_type (R F))) (to (the_type (R F)) made) (w ∷ [])) (vnull ∷ [], (hv ∷ [], tt)) $ fjoin ! $
-      use1 𝓛 (‵ ((OwnerRow F).own_val made (w ∷ []))) (id⊢ 𝓤 _) $
-      let Γ : List (Item 𝓤) = ‵ ((OwnerRow F).own_val made (w ∷ [])) ∷ [] in
-      by ! (subst (λ (us : List Val). ent 𝓤 (types.Kit.⋆ 𝓛 Γ) (WpFn 𝓤 H 𝓣.C 𝓣.Λ (fn' F) (us ++ []) Post)) (sym ea)
-      (qed 𝓛 Γ ∵ enter ! 𝓣.C 𝓣.Λ (fn' F) (hv ∷ []) _ $ alloc_all ! (λ ls. pass_all ! refl (fa, tt) $
-      sets ! (agg ! (and_then ! (lit ! tt) (and_then ! (get ! refl) (no_more !)))) refl good $
-      returns ! (look_at ! 0 refl) $ free_all ! refl $
-      suffices ! _ (ends_at 𝓛 (ended F) (stayed F) (spec F 𝓤) z w made (tt, tt) (tt, tt)) $ says ! refl $
-      nothing ! $ nothing ! $ fjoin ! $ join ! $ nothing ! $ join ! $ done !))))
-
 pub empty_spec : {M : Type 1} → stated.statement M
-unfolding tables_of
 empty_spec 𝓤 𝓛 𝓜 𝓡 wired X L y =
     let F : El = record { row = X; laws = L } in
     spares 𝓛 𝓜 𝓡 (ended F) (stayed F) (spec F 𝓤) (Goes-dropped 𝓛 0 From yes (λ κs x f. refl), tt) 1 (X.lives, tt)
-    (#self (args F)) (fn' F) (code.unfolded 𝓤 𝓛.H 𝓜 𝓡 wired (X, tt))
-    (walk F 𝓛 (tables_of 𝓤 𝓛.H 𝓜 (tables 𝓤 𝓛.H 𝓜 𝓡 𝓡.env))) ((y.0.0, y.0.1, tt, y.0.3, y.0.4), y.1)
+    (#self (args F)) (fn' F) (code.unfolded 𝓤 𝓛.H 𝓜 𝓡 wired (X, tt)) (λ C Λ z.
+    let Post = (walk_of 𝓛 (ended F) (stayed F) (spec F 𝓤)).post z in
+    let a : Heap.the_row.Denot = z.0.3.0 in
+    let made : (OwnerRow F).Denot = record { ptr = null_ptr; alloc = a; member = None } in
+    qed 𝓛 ((‵ ftrue ⊛ ‵ (fsep (Heap.the_row.own_val a z.0.4.0) ftrue)) ∷ raw (emp 𝓤) ∷ []) ∵ split ! $ drop ! $ fsplit
+    ! $
+    handle_tells (E F).al ! a z.0.4.0 (λ hv ea fa. keep ! (0 ∷ []) $
+    let w = nothing_word hv in
+    let good : T (has_ty (layout (OwnerRow F)) w) × WT w =
+    (and_tt (has_ty (layout Heap.the_row) hv) fa.0, (record { fits = lit< tt }, (fa.1, tt))) in
+    nothing ! $ fpack ! (null_ptr ≡ null_ptr) (λ _. ftrue) refl $
+    nothing ! $ move ! (2 ∷ 0 ∷ []) $ fjoin ! $ feq_i ! (List Val) (vnull ∷ []) (ptr_val null_ptr ∷ []) refl $ fjoin !
+    $ feq_i ! (List Val) (w ∷ []) (w ∷ []) refl $ fjoin ! $
+    fpack ! (Valss (RawPtr ∷ Heap.the_field.row ∷ []))
+    (within (shape (the_type (R F))) (to (the_type (R F)) made) (w ∷ [])) (vnull ∷ [], (hv ∷ [], tt)) $ fjoin ! $
+    use1 𝓛 (‵ ((OwnerRow F).own_val made (w ∷ []))) (id⊢ 𝓤 _) $
+    let Γ : List (Item 𝓤) = ‵ ((OwnerRow F).own_val made (w ∷ [])) ∷ [] in
+    by ! (subst (λ (us : List Val). ent 𝓤 (types.Kit.⋆ 𝓛 Γ) (WpFn 𝓤 𝓛.H C Λ (fn' F) (us ++ []) Post)) (sym ea)
+    (qed 𝓛 Γ ∵ enter ! C Λ (fn' F) (hv ∷ []) _ $ alloc_all ! (λ ls. pass_all ! refl (fa, tt) $
+    sets ! (agg ! (and_then ! (lit ! tt) (and_then ! (get ! refl) (no_more !)))) refl good $
+    returns ! (look_at ! 0 refl) $ free_all ! refl $
+    suffices ! _ (ends_at 𝓛 (ended F) (stayed F) (spec F 𝓤) z w made (tt, tt) (tt, tt)) $ says ! refl $
+    nothing ! $ nothing ! $ fjoin ! $ join ! $ nothing ! $ join ! $ done !)))))
+    ((y.0.0, y.0.1, tt, y.0.3, y.0.4), y.1)

@@ -9,12 +9,11 @@ use mir.MapTy.{inst_fn}
 use mir.Val.{Val}
 use mir.Raw.{raw as bare}
 use base.Logic.{SProp, ent, sep, emp, via, fst∗, id⊢}
-use prog.Wp.{Env, Calls, Loops, WpFn, Tables}
+use prog.Wp.{Env, Calls, Loops, WpFn}
 use types.Logic.{Logic, sem}
 use contract.Monad.{fact}
-use contract.Running.{tables, tables_of}
 use denote.Exit.{no}
-use denote.RattleType.{RattleType, owns}
+use denote.RattleType.{owns}
 use denote.Memory.{part_at}
 use denote.RawPtr.{block_ptr}
 use denote.Signature.{plain}
@@ -30,12 +29,12 @@ use types.ByLocal.{alloc_all, pass_all, free_all, look_at, get, get_in, through,
 use denote.Triple.Walked.{says, Stays, stay_dropped, walk_of, ends_at, Goes-dropped}
 use Rattle.core.proofs.alloc.Calls.{token, Fits, Goes-blank}
 use Rattle.std_alloc.proofs.RawLayout.{as_written}
-use Rattle.std_alloc.proofs.OfVacant.{Vacant, vacant_val, vacant_typed, Vacant-had}
-use Rattle.std_alloc.proofs.BoxSteps.Form.{Bx, args, X, D, τ, own, Good, R, P, word, handle, box_typed}
+use Rattle.std_alloc.proofs.OfVacant.{vacant_val, vacant_typed, Vacant-had}
+use Rattle.std_alloc.proofs.BoxSteps.Form.{Bx, args, X, D, τ, own, Good, R, word, handle, box_typed}
 use Rattle.std_alloc.proofs.BoxSteps.Steps.{el_in, el_tells, box_in}
 use Rattle.std_alloc.proofs.VecSteps.Shapes.{after}
-use Rattle.vbr_handles.proofs.Bounds.{spares}
-use Rattle.vbr_handles.specs.contracts.parts.Parts as parts
+use Rattle.vbr_handles.proofs.AsBox.{BlockOf as V, PartsOf as To}
+use Rattle.vbr_handles.proofs.Bounds.{moving, spares}
 use Rattle.vbr_handles.specs.contracts.parts.Parts.write_into.Key.{name as #self}
 use Rattle.vbr_handles.proofs.parts.Parts.write_into.Statement as stated
 use Rattle.vbr_handles.proofs.parts.Parts.write_into.Code as code
@@ -44,26 +43,14 @@ module _ (E : Bx) where
   abbrev fn' : Fn
   fn' = inst_fn (args E) code.function
 
-  abbrev V : RattleType
-  V = Vacant E.al (R E)
-
-  abbrev To : RattleType
-  To = parts.the_row (R E) (P E) E.al.g
-
   abbrev ended : Ended
   ended = record {
-    signature =
-        record {
-          lifetimes = 0;
-          outlives = [];
-          params = plain (λ _. V) ∷ plain (λ _. R E) ∷ [];
-          result = plain (λ _. To);
-        };
+    signature = moving (plain (λ _. V E) ∷ plain (λ _. R E) ∷ []) (plain (λ _. To E));
     kept = (no, (no, tt));
   }
 
   abbrev stayed : Stays ended.signature.params ended.kept
-  stayed = (stay_dropped (plain (λ _. V)) no, (stay_dropped (plain (λ _. R E)) no, tt))
+  stayed = (stay_dropped (plain (λ _. V E)) no, (stay_dropped (plain (λ _. R E)) no, tt))
 
   abbrev spec : {M : Type 1} (𝓤 : Ura M) → Clauses 𝓤 ended
   spec 𝓤 κs a = record { ghost = Unit {0}; requires = λ _. emp 𝓤; ensures = λ _ r _. fact 𝓤 (r.value ≡ a.1.0) }
@@ -119,12 +106,10 @@ module _ (E : Bx) {M : Type 1} {𝓤 : Ura M} (𝓛 : Logic 𝓤) (C : Calls �
       (walk b o hv v fa t))))
 
 pub write_into_spec : {M : Type 1} → stated.statement M
-unfolding tables_of
 write_into_spec 𝓤 𝓛 𝓜 𝓡 wired Y Z L LZ g d dd met md y =
     let E : Bx = record { row = Y; laws = L; al = record { row = Z; laws = LZ; g = g; d = d; drops = dd } } in
-    let 𝓣 : Tables 𝓤 𝓛.H = tables_of 𝓤 𝓛.H 𝓜 (tables 𝓤 𝓛.H 𝓜 𝓡 𝓡.env) in
     spares 𝓛 𝓜 𝓡 (ended E) (stayed E) (spec E 𝓤)
     (Goes-blank 𝓛 0 (plain (λ _. V E)) no (λ κs x f. tt), (Goes-dropped 𝓛 0 (plain (λ _. R E)) no (λ κs x f. refl), tt))
     2 (Y.lives, (Z.lives, tt)) (#self (args E)) (fn' E) (code.unfolded 𝓤 𝓛.H 𝓜 𝓡 wired (Y, (Z, tt)) d dd)
-    (λ z. via 𝓤 _ (fst∗ 𝓤 _ (emp 𝓤)) (entry E 𝓛 𝓣.C 𝓣.Λ z.0.3.0 z.0.3.1.0 z.0.4.0 z.0.4.1.0))
+    (λ C Λ z. via 𝓤 _ (fst∗ 𝓤 _ (emp 𝓤)) (entry E 𝓛 C Λ z.0.3.0 z.0.3.1.0 z.0.4.0 z.0.4.1.0))
     ((y.0.0, y.0.1, tt, y.0.3, y.0.4), y.1)

@@ -1,11 +1,10 @@
-use Rattle.vbr_list.proofs.Names.{rules, refl, Bool, sym, subst}
-use Rattle.vbr_list.proofs.Names.{AddsAnswer, Call, DecidesKey, Has, Held, IsUnmarked, knows, Made, set_call}
-use Rattle.vbr_list.specs.Told.{kept_call}
+use Rattle.vbr_list.proofs.Names.{rules, refl, Bool, sym, subst, false}
+use Rattle.vbr_list.proofs.Names.{DecidesKey, Has, Held, IsUnmarked, knows, set_call}
+use Rattle.vbr_at_table.specs.Answering.{IsAnswered}
 use Rattle.vbr_list.specs.Walking.{LosesHeld}
 use Rattle.vbr_list.proofs.Disturbing.{loses_link}
 use Rattle.vbr_list.proofs.Going.{settles_step}
-use Rattle.vbr_list.proofs.Sights.{sight_answers, sight_held, sight_unmarked}
-use Rattle.vbr_list.proofs.Told.{told_bare}
+use Rattle.vbr_list.proofs.Sights.{answers_bare, sight_answers, sight_held, sight_unmarked}
 use Rattle.vbr_list.proofs.call.PendingCall.answer_has.Goals as goal
 
 pub confirm_look_up-outcome-requires-clause-held : goal.confirm_look_up-outcome-requires-clause-held
@@ -26,29 +25,17 @@ confirm_look_up-outcome-requires-clause-decides g c =
     (sight_answers p.start (knows p) c.args.self.now.key c.args.sight c.requires.sight)
 
 pub returns-in-Ok-clause-settles : goal.returns-in-Ok-clause-settles
-returns-in-Ok-clause-settles g c =
-    let keeps = c.confirm_look_up-outcome.ensures.keeps.keeps in
-    settles_step (search rules) refl keeps.took keeps.own keeps.takes_no_slot
+returns-in-Ok-clause-settles g c = settles_step (search rules) refl c.confirm_look_up-outcome.ensures.keeps.keeps
 
 pub returns-in-Err-clause-settles : goal.returns-in-Err-clause-settles
-returns-in-Err-clause-settles g c =
-    let keeps = c.confirm_look_up-outcome.ensures.keeps.keeps in
-    settles_step (search rules) refl keeps.took keeps.own keeps.takes_no_slot
+returns-in-Err-clause-settles g c = settles_step (search rules) refl c.confirm_look_up-outcome.ensures.keeps.keeps
 
 pub returns-in-Ok-clause-answers : goal.returns-in-Ok-clause-answers
 returns-in-Ok-clause-answers g c =
     let p = c.args.self.now.at.stepper.now.trace in
     let q = c.confirm_look_up-outcome.new.at.stepper.now.trace in
-    let key = c.args.self.now.key in
-    let answers = c.in-Ok.ensures.answers in
-    let M : Bool → Type 0 = λ reply. Made (kept_call p.start (set_call p.who Has key reply)) p q in
-    let A : Bool → Type 0 = λ reply. AddsAnswer (kept_call p.start (set_call p.who Has key reply)) p q in
-    let present = sym c.without_value.ensures in
-    let same = told_bare p.start p.who Has key c.told_by-present.result.1 in
-    record {
-      made = subst M present (subst (λ (call : Call). Made call p q) same answers.made);
-      adds = subst A present (subst (λ (call : Call). AddsAnswer call p q) same answers.adds);
-    }
+    let P : Bool → Type 0 = λ reply. IsAnswered p q (set_call p.who Has c.args.self.now.key reply) in
+    answers_bare false c.without_value.result refl (subst P (sym c.without_value.ensures) c.in-Ok.ensures.answers)
 
 pub returns-in-Err-clause-rolls : goal.returns-in-Err-clause-rolls
 returns-in-Err-clause-rolls g c =

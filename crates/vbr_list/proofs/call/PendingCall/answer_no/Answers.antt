@@ -36,10 +36,8 @@ returns-then-not-found-clause-made g c =
 
 pub returns-clause-made : goal.returns-clause-made
 returns-clause-made g c =
-    let f = c.args.found.now in
     let p = c.args.self.now.at.stepper.now.trace in
-    let key = key_found (knows p) c.args.self.now.key f.pred c.in-Some.cur f.cur f.present c.requires.locates.end
-    c.in-Some.is c.if-not-found.false in
+    let key = key_found c.requires.locates c.in-Some.is c.if-not-found.false in
     let P : Bool → Type 0 =
     λ present. IfOk c.confirm_present.result
     (λ _. Made (set_call p.who (denied present) c.args.self.now.key false) p

@@ -1,7 +1,6 @@
 use Rattle.vbr_list.proofs.Names.{◌≡◌, true, arith, sym, ◌∙◌}
-use Rattle.vbr_list.proofs.Names.{ChangesNone, knows, quiet_on, unchanged_by_none}
+use Rattle.vbr_list.proofs.Names.{knows, quiet_on}
 use Rattle.vbr_list.specs.Wanted.{wants}
-use Rattle.vbr_list.proofs.Disturbing.{run_at}
 use Rattle.vbr_list.proofs.FoundValues.{asks_read, asks_then, tells_since}
 use Rattle.vbr_list.proofs.ReadFirst.{found_lost_since}
 use Rattle.vbr_list.proofs.Sufficing.{any_error}
@@ -14,11 +13,11 @@ returns-in_err-there-clause-asks g c =
 
 pub returns-in_err-there-clause-lost : goal.returns-in_err-there-clause-lost
 returns-in_err-there-clause-lost g c =
-    let r = c.read_found.ensures in
     let lost = c.in_err-there.ensures.lost in
-    let used = rw lost.present at r.used in
+    let used = rw lost.present at c.read_found.ensures.used in
     any_error c.from_residual.result
-    (λ rollback. record { quiet = r.reads.quiet; loses = lost.loses; more = omega (arith, used) })
+    (λ rollback.
+    record { quiet = c.read_found.ensures.reads.quiet; loses = lost.loses; more = omega (arith, used) })
 
 pub returns-then-wants-clause-asks : goal.returns-then-wants-clause-asks
 returns-then-wants-clause-asks g c =
@@ -42,21 +41,15 @@ returns-in_err-tell_found-clause-asks g c =
 
 pub returns-in_err-tell_found-clause-lost : goal.returns-in_err-tell_found-clause-lost
 returns-in_err-tell_found-clause-lost g c =
-    let p = c.args.self.now.at.stepper.now.trace in
-    let q = c.read_found.new.self.at.stepper.now.trace in
     let r = c.read_found.ensures in
-    let quiet = r.reads.quiet in
     let lost = c.in_err-tell_found.ensures.lost in
-    let none : ChangesNone p q =
-    unchanged_by_none c.law.ensures.start (run_at p q quiet.same (quiet.is_run c.law.ensures.is_run)) quiet.same
-    quiet.seen r.reads.adds_none in
     let used = r.used in
     let one = c.tell_found.ensures.used in
     any_error c.from_residual-in_err-tell_found.result
     (λ rollback.
     record {
-      quiet = quiet_on quiet lost.quiet;
-      loses = found_lost_since c.args.found.now quiet c.in_ok-there.ensures.found.keeps none lost.loses;
+      quiet = quiet_on r.reads.quiet lost.quiet;
+      loses = found_lost_since c.args.found.now c.law.ensures r.reads c.in_ok-there.ensures.found.keeps lost.loses;
       more = omega (arith, used, one);
     })
 

@@ -1,8 +1,7 @@
-use Rattle.vbr_list.proofs.Names.{rules, refl, false, subst}
-use Rattle.vbr_list.proofs.Names.{AddsAnswer, Call, Get, Made}
+use Rattle.vbr_list.proofs.Names.{rules, refl, None, true}
 use Rattle.vbr_list.proofs.Disturbing.{loses_link}
 use Rattle.vbr_list.proofs.Going.{settles_step}
-use Rattle.vbr_list.proofs.Told.{told_bare}
+use Rattle.vbr_list.proofs.Sights.{answers_bare}
 use Rattle.vbr_list.proofs.call.PendingCall.give_none.Goals as goal
 
 pub confirm_absent-outcome-requires-clause-gap : goal.confirm_absent-outcome-requires-clause-gap
@@ -14,25 +13,13 @@ pub confirm_absent-outcome-requires-clause-op : goal.confirm_absent-outcome-requ
 confirm_absent-outcome-requires-clause-op g c = record { other = λ e. absurd (cc); asked = λ get. c.requires.values }
 
 pub returns-in-Ok-clause-settles : goal.returns-in-Ok-clause-settles
-returns-in-Ok-clause-settles g c =
-    let keeps = c.confirm_absent-outcome.ensures.keeps.keeps in
-    settles_step (search rules) refl keeps.took keeps.own keeps.takes_no_slot
+returns-in-Ok-clause-settles g c = settles_step (search rules) refl c.confirm_absent-outcome.ensures.keeps.keeps
 
 pub returns-in-Err-clause-settles : goal.returns-in-Err-clause-settles
-returns-in-Err-clause-settles g c =
-    let keeps = c.confirm_absent-outcome.ensures.keeps.keeps in
-    settles_step (search rules) refl keeps.took keeps.own keeps.takes_no_slot
+returns-in-Err-clause-settles g c = settles_step (search rules) refl c.confirm_absent-outcome.ensures.keeps.keeps
 
 pub returns-in-Ok-clause-answers : goal.returns-in-Ok-clause-answers
-returns-in-Ok-clause-answers g c =
-    let p = c.args.self.now.at.stepper.now.trace in
-    let q = c.confirm_absent-outcome.new.at.stepper.now.trace in
-    let answers = c.in-Ok.ensures.answers in
-    let same = told_bare p.start p.who Get c.args.self.now.key false in
-    record {
-      made = subst (λ (call : Call). Made call p q) same answers.made;
-      adds = subst (λ (call : Call). AddsAnswer call p q) same answers.adds;
-    }
+returns-in-Ok-clause-answers g c = answers_bare true None refl c.in-Ok.ensures.answers
 
 pub returns-in-Err-clause-rolls : goal.returns-in-Err-clause-rolls
 returns-in-Err-clause-rolls g c =

@@ -9,7 +9,7 @@ use Rattle.vbr_list.proofs.Reaching.{key_kept}
 use Rattle.vbr_list.proofs.Sights.{keyed_slot}
 use Rattle.vbr_list.proofs.Sufficing.{any_error}
 use Rattle.vbr_list.proofs.Told.{given_kept, told_since}
-use Rattle.vbr_list.proofs.ValueReads.{few_to_value, settles_read, steps_read}
+use Rattle.vbr_list.proofs.ValueReads.{few_read, settles_read, steps_read}
 use Rattle.vbr_list.proofs.call.PendingCall.give_value.Goals as goal
 
 pub value_if_any-read-requires-clause-held : goal.value_if_any-read-requires-clause-held
@@ -48,10 +48,7 @@ returns-in_err-value-clause-settles g c =
 
 pub returns-in_err-value-clause-few : goal.returns-in_err-value-clause-few
 returns-in_err-value-clause-few g c =
-    let reads = c.value_if_any-read.ensures.reads in
-    let two = steps_read c.steps_to_value_of.ensures c.value_if_any-read.new.at.own.1 reads.quiet.same.start
-    ∙ ap steps_where c.requires.values in
-    omega (arith, two)
+    let two = few_read _ c.steps_to_value_of.ensures in omega (arith, two)
 
 pub returns-in_err-value-clause-rolls : goal.returns-in_err-value-clause-rolls
 returns-in_err-value-clause-rolls g c =
@@ -63,37 +60,19 @@ returns-in_err-value-clause-rolls g c =
 
 pub returns-in-Ok-clause-settles : goal.returns-in-Ok-clause-settles
 returns-in-Ok-clause-settles g c =
-    let reads = c.value_if_any-read.ensures.reads in
-    let keeps = c.confirm_present-outcome.ensures.keeps.keeps in
-    settles_read (search rules) refl
-    (steps_read c.steps_to_value_of.ensures c.value_if_any-read.new.at.own.1 reads.quiet.same.start) reads keeps.took
-    keeps.own keeps.takes_no_slot
+    settles_read (search rules) refl c.steps_to_value_of.ensures c.value_if_any-read.new.at.own.1
+    c.value_if_any-read.ensures.reads c.confirm_present-outcome.ensures.keeps.keeps
 
 pub returns-in-Err-clause-settles : goal.returns-in-Err-clause-settles
 returns-in-Err-clause-settles g c =
-    let reads = c.value_if_any-read.ensures.reads in
-    let keeps = c.confirm_present-outcome.ensures.keeps.keeps in
-    settles_read (search rules) refl
-    (steps_read c.steps_to_value_of.ensures c.value_if_any-read.new.at.own.1 reads.quiet.same.start) reads keeps.took
-    keeps.own keeps.takes_no_slot
+    settles_read (search rules) refl c.steps_to_value_of.ensures c.value_if_any-read.new.at.own.1
+    c.value_if_any-read.ensures.reads c.confirm_present-outcome.ensures.keeps.keeps
 
 pub returns-in-Ok-clause-few : goal.returns-in-Ok-clause-few
-returns-in-Ok-clause-few g c =
-    omega (
-      arith,
-      steps_read c.steps_to_value_of.ensures c.value_if_any-read.new.at.own.1
-          c.value_if_any-read.ensures.reads.quiet.same.start,
-      few_to_value c.args.self.now.at.stepper.now.trace.start,
-    )
+returns-in-Ok-clause-few g c = let two = few_read _ c.steps_to_value_of.ensures in omega (arith, two)
 
 pub returns-in-Err-clause-few : goal.returns-in-Err-clause-few
-returns-in-Err-clause-few g c =
-    omega (
-      arith,
-      steps_read c.steps_to_value_of.ensures c.value_if_any-read.new.at.own.1
-          c.value_if_any-read.ensures.reads.quiet.same.start,
-      few_to_value c.args.self.now.at.stepper.now.trace.start,
-    )
+returns-in-Err-clause-few g c = let two = few_read _ c.steps_to_value_of.ensures in omega (arith, two)
 
 pub returns-in-Ok-clause-only_loads : goal.returns-in-Ok-clause-only_loads
 returns-in-Ok-clause-only_loads g c =

@@ -1,47 +1,38 @@
-use Rattle.vbr_list.proofs.Names.{refl, ◌≡◌, ◌+◌, ℕ, true, false, Option, Some, rules, arith, sym, ap, ◌∙◌, subst, inl, inr, ◌⊎◌}
-use Rattle.vbr_list.proofs.Names.{At, counts_on, Get, Held, held_kept, KeyAt, knows, made_then, Names, no_room}
-use Rattle.vbr_list.proofs.Names.{quiet_on, Remove, Start, unchanged_by_none}
+use Rattle.vbr_list.proofs.Names.{refl, ◌≡◌, ◌+◌, ℕ, true, false, Some, rules, arith, sym, ap, ◌∙◌, subst, inl, inr}
+use Rattle.vbr_list.proofs.Names.{◌⊎◌}
+use Rattle.vbr_list.proofs.Names.{At, counts_on, Get, held_kept, KeyAt, knows, made_then, Names, no_room, quiet_on}
+use Rattle.vbr_list.proofs.Names.{Start}
 use Rattle.vbr_list.specs.Pieces.{Goes}
 use Rattle.vbr_list.specs.Told.{given_call}
 use Rattle.vbr_list.specs.Removing.{RemovesLate, RemovesSoon}
-use Rattle.vbr_list.specs.Walking.{LosesNext}
 use Rattle.vbr_list.specs.Budgets.{steps_to_value_of, steps_where}
 use Rattle.vbr_list.proofs.Clearing.{leaves_clear}
-use Rattle.vbr_list.proofs.Disturbing.{lost_place_later, moves_epoch, moves_on, run_at}
+use Rattle.vbr_list.proofs.Disturbing.{moves_epoch, moves_on, run_at}
 use Rattle.vbr_list.proofs.Expected.{kept_expected, kept_gets, taken_removes, told_op}
 use Rattle.vbr_list.proofs.Going.{by_either, call_on, goes_counted}
 use Rattle.vbr_list.proofs.KeptHands.{hand_on}
 use Rattle.vbr_list.proofs.Marks.{apart, marks_behind}
-use Rattle.vbr_list.proofs.Moments.{key_found, key_found_since}
+use Rattle.vbr_list.proofs.Moments.{cur_is, key_found, key_found_since}
 use Rattle.vbr_list.proofs.FoundValues.{located_on, value_found}
-use Rattle.vbr_list.proofs.ReadFirst.{found_lost_since}
-use Rattle.vbr_list.proofs.Reaching.{key_kept, pred_on, slot_same}
+use Rattle.vbr_list.proofs.Marking.{mark_made, mark_told, pred_marked}
+use Rattle.vbr_list.proofs.ReadFirst.{cur_lost_since, found_lost_since}
+use Rattle.vbr_list.proofs.Reaching.{key_kept, slot_same}
 use Rattle.vbr_list.proofs.Sufficing.{any_error}
-use Rattle.vbr_list.proofs.Told.{given_kept, given_same, told_as, told_since}
-use Rattle.vbr_list.proofs.ValueReads.{cur_is, few_to_value, read_then_step, settles_read, slot_at, steps_read}
-use Rattle.vbr_list.proofs.ValueReads.{valued_since}
+use Rattle.vbr_list.proofs.Told.{given_kept, told_as, told_since}
+use Rattle.vbr_list.proofs.ValueReads.{few_read, read_then_step, settles_read, slot_at, steps_read, valued_since}
 use Rattle.vbr_list.proofs.call.PendingCall.mark_and_unlink.Goals as goal
 
 pub value_if_any-read-requires-clause-held : goal.value_if_any-read-requires-clause-held
-value_if_any-read-requires-clause-held g c =
-    let f = c.args.found.now in
-    (cur_is (knows c.args.self.now.at.stepper.now.trace) c.args.self.now.key f.pred c.in-Some.cur f.cur f.present
-    c.requires.locates.end c.in-Some.is).held
+value_if_any-read-requires-clause-held g c = (cur_is c.requires.locates c.in-Some.is).held
 
 pub value_if_any-read-requires-clause-slot : goal.value_if_any-read-requires-clause-slot
-value_if_any-read-requires-clause-slot g c =
-    let f = c.args.found.now in
-    slot_at (cur_is (knows c.args.self.now.at.stepper.now.trace) c.args.self.now.key f.pred c.in-Some.cur f.cur
-    f.present c.requires.locates.end c.in-Some.is)
+value_if_any-read-requires-clause-slot g c = slot_at (cur_is c.requires.locates c.in-Some.is)
 
 pub mark-outcome-requires-clause-node : goal.mark-outcome-requires-clause-node
 mark-outcome-requires-clause-node g c =
-    let f = c.args.found.now in
-    let y = cur_is (knows c.args.self.now.at.stepper.now.trace) c.args.self.now.key f.pred c.in-Some.cur f.cur f.present
-    c.requires.locates.end c.in-Some.is in
+    let y = cur_is c.requires.locates c.in-Some.is in
     let keeps = c.in_ok-value.ensures.value.keeps in
-    let there = key_found_since c.args.self.now.key f.pred c.in-Some.cur f.cur f.present keeps c.requires.locates.end
-    c.in-Some.is c.requires.present in
+    let there = key_found_since keeps c.requires.locates c.in-Some.is c.requires.present in
     record { held = held_kept c.in-Some.cur keeps y.held; key = (c.args.self.now.key, there); unmarked = y.unmarked }
 
 pub mark-outcome-requires-clause-valued : goal.mark-outcome-requires-clause-valued
@@ -52,21 +43,15 @@ mark-outcome-requires-clause-valued g c = λ has. (
 
 pub unlink_marked-requires-clause-marked : goal.unlink_marked-requires-clause-marked
 unlink_marked-requires-clause-marked g c =
-    let f = c.args.found.now in
-    let y = cur_is (knows c.args.self.now.at.stepper.now.trace) c.args.self.now.key f.pred c.in-Some.cur f.cur f.present
-    c.requires.locates.end c.in-Some.is in
-    let keeps = c.in_ok-value.ensures.value.keeps in
-    let there = key_found_since c.args.self.now.key f.pred c.in-Some.cur f.cur f.present keeps c.requires.locates.end
-    c.in-Some.is c.requires.present in
-    let same = c.value_if_any-read.ensures.reads.quiet.same in
-    let made = c.in_ok-marked.ensures.removed.made c.args.self.now.key c.in_ok-value.value there
-    (valued_since same c.in_ok-value.ensures.value.value) in
+    let y = cur_is c.requires.locates c.in-Some.is in
+    let read = c.in_ok-value.ensures.value in
+    let there = key_found_since read.keeps c.requires.locates c.in-Some.is c.requires.present in
     let mark = c.mark-outcome.ensures.keeps in
     let removed = c.in_ok-marked.ensures.removed in
-    let pred = pred_on c.args.self.now.key f.pred made.same mark.keeps
-    (pred_on c.args.self.now.key f.pred same keeps c.requires.locates.pred) in
+    let pred = pred_marked c.requires.locates c.in-Some.is c.requires.present c.value_if_any-read.ensures.reads read
+    removed mark.keeps in
     let P : At → Type 0 = λ place. KeyAt (knows c.mark-outcome.new.at.stepper.now.trace) place c.args.self.now.key in
-    let Q : ℕ → Type 0 = Names f.pred in
+    let Q : ℕ → Type 0 = Names c.args.found.now.pred in
     record {
       may = record {
         held = pred.held;
@@ -124,35 +109,26 @@ tell_found-requires-clause-knows g c =
 
 pub returns-in_err-tell_found-clause-settles : goal.returns-in_err-tell_found-clause-settles
 returns-in_err-tell_found-clause-settles g c =
-    let reads = c.value_if_any-read.ensures.reads in
-    let keeps = c.tell_found.ensures.keeps in
     settles_read (call_on (search rules) c.tell_found.ensures.call) c.tell_found.ensures.used
-    (steps_read c.steps_to_value_of.ensures c.value_if_any-read.new.at.own.1 reads.quiet.same.start) reads keeps.took
-    keeps.own keeps.takes_no_slot
+    c.steps_to_value_of.ensures c.value_if_any-read.new.at.own.1 c.value_if_any-read.ensures.reads
+    c.tell_found.ensures.keeps
 
 pub returns-then-not-takes_out-clause-settles : goal.returns-then-not-takes_out-clause-settles
 returns-then-not-takes_out-clause-settles g c =
-    let reads = c.value_if_any-read.ensures.reads in
-    let keeps = c.tell_found.ensures.keeps in
     settles_read (call_on (search rules) c.tell_found.ensures.call) c.tell_found.ensures.used
-    (steps_read c.steps_to_value_of.ensures c.value_if_any-read.new.at.own.1 reads.quiet.same.start) reads keeps.took
-    keeps.own keeps.takes_no_slot
+    c.steps_to_value_of.ensures c.value_if_any-read.new.at.own.1 c.value_if_any-read.ensures.reads
+    c.tell_found.ensures.keeps
 
 pub returns-in_err-tell_found-clause-rolls : goal.returns-in_err-tell_found-clause-rolls
 returns-in_err-tell_found-clause-rolls g c =
     let reads = c.value_if_any-read.ensures.reads in
     let lost = c.in_err-tell_found.ensures.lost in
-    let p = c.args.self.now.at.stepper.now.trace in
-    let steps = steps_read c.steps_to_value_of.ensures c.value_if_any-read.new.at.own.1 reads.quiet.same.start in
-    let two = few_to_value p.start in
+    let two = few_read _ c.steps_to_value_of.ensures in
     let one = c.tell_found.ensures.used in
     any_error c.from_residual-in_err-tell_found.result (λ rollback. record {
       quiet = quiet_on reads.quiet lost.quiet;
-      few = omega (arith, steps, two, one);
-      loses = found_lost_since c.args.found.now reads.quiet c.in_ok-value.ensures.value.keeps
-          (unchanged_by_none c.law.ensures.start
-          (run_at p c.value_if_any-read.new.at.stepper.now.trace reads.quiet.same
-          (reads.quiet.is_run c.law.ensures.is_run)) reads.quiet.same reads.quiet.seen reads.adds_none) lost.loses;
+      few = omega (arith, two, one);
+      loses = found_lost_since c.args.found.now c.law.ensures reads c.in_ok-value.ensures.value.keeps lost.loses;
     })
 
 pub returns-then-not-takes_out-clause-answers : goal.returns-then-not-takes_out-clause-answers
@@ -181,70 +157,51 @@ returns-then-not-takes_out-clause-answers g c =
 
 pub returns-in_err-marked-clause-settles : goal.returns-in_err-marked-clause-settles
 returns-in_err-marked-clause-settles g c =
-    let reads = c.value_if_any-read.ensures.reads in
-    let mark = c.mark-outcome.ensures.keeps in
-    settles_read (search rules) refl
-    (steps_read c.steps_to_value_of.ensures c.value_if_any-read.new.at.own.1 reads.quiet.same.start) reads mark.took
-    mark.own mark.takes_no_slot
+    settles_read (search rules) refl c.steps_to_value_of.ensures c.value_if_any-read.new.at.own.1
+    c.value_if_any-read.ensures.reads c.mark-outcome.ensures.keeps
 
 pub returns-in_err-marked-clause-rolls : goal.returns-in_err-marked-clause-rolls
 returns-in_err-marked-clause-rolls g c =
     let reads = c.value_if_any-read.ensures.reads in
     let lost = c.in_err-marked.ensures.lost in
-    let p = c.args.self.now.at.stepper.now.trace in
-    let r = c.mark-outcome.new.at.stepper.now.trace in
-    let Q : Option Held → Type 0 = LosesNext p r in
-    let steps = steps_read c.steps_to_value_of.ensures c.value_if_any-read.new.at.own.1 reads.quiet.same.start in
-    let two = few_to_value p.start in
+    let two = few_read _ c.steps_to_value_of.ensures in
     any_error c.from_residual-in_err-marked.result (λ rollback. record {
       quiet = quiet_on reads.quiet lost.quiet;
-      few = omega (arith, steps, two);
-      loses = inr (subst Q (sym c.in-Some.is)
-          (lost_place_later c.in-Some.cur _ reads.quiet c.in_ok-value.ensures.value.keeps
-          (unchanged_by_none c.law.ensures.start
-          (run_at p c.value_if_any-read.new.at.stepper.now.trace reads.quiet.same
-          (reads.quiet.is_run c.law.ensures.is_run)) reads.quiet.same reads.quiet.seen reads.adds_none) lost.lost
-          lost.unchanged));
+      few = omega (arith, two);
+      loses = cur_lost_since c.args.found.now c.law.ensures reads c.in_ok-value.ensures.value.keeps c.in-Some.is lost;
     })
 
 pub returns-then-affords-clause-settles : goal.returns-then-affords-clause-settles
 returns-then-affords-clause-settles g c =
-    let reads = c.value_if_any-read.ensures.reads in
-    let mark = c.mark-outcome.ensures.keeps in
-    let then = read_then_step c.args.self.now.used c.steps_to_value_of.result
-    (steps_read c.steps_to_value_of.ensures c.value_if_any-read.new.at.own.1 reads.quiet.same.start) reads mark.took
-    mark.own mark.takes_no_slot in
+    let then = read_then_step c.args.self.now.used c.steps_to_value_of.result c.steps_to_value_of.ensures
+    c.value_if_any-read.new.at.own.1 c.value_if_any-read.ensures.reads c.mark-outcome.ensures.keeps in
     let more = c.unlink_marked.ensures.goes in
-    record { call = search rules; counts = counts_on then.0 more.goes.counts; hand = hand_on then.1 more.goes.hand; more = let m = more.more in omega (arith, m) }
+    let least = more.more in
+    record {
+      call = search rules;
+      counts = counts_on then.0 more.goes.counts;
+      hand = hand_on then.1 more.goes.hand;
+      more = omega (arith, least);
+    }
 
 pub returns-then-affords-clause-answers : goal.returns-then-affords-clause-answers
 returns-then-affords-clause-answers g c =
     let f = c.args.found.now in
-    let y = cur_is (knows c.args.self.now.at.stepper.now.trace) c.args.self.now.key f.pred c.in-Some.cur f.cur f.present
-    c.requires.locates.end c.in-Some.is in
-    let key = key_found (knows c.args.self.now.at.stepper.now.trace) c.args.self.now.key f.pred c.in-Some.cur f.cur
-    f.present c.requires.locates.end c.in-Some.is c.requires.present in
-    let keeps = c.in_ok-value.ensures.value.keeps in
-    let there = key_found_since c.args.self.now.key f.pred c.in-Some.cur f.cur f.present keeps c.requires.locates.end
-    c.in-Some.is c.requires.present in
-    let same = c.value_if_any-read.ensures.reads.quiet.same in
-    let made = c.in_ok-marked.ensures.removed.made c.args.self.now.key c.in_ok-value.value there
-    (valued_since same c.in_ok-value.ensures.value.value) in
+    let key = key_found c.requires.locates c.in-Some.is c.requires.present in
+    let reads = c.value_if_any-read.ensures.reads in
+    let read = c.in_ok-value.ensures.value in
+    let removed = c.in_ok-marked.ensures.removed in
+    let made = mark_made c.requires.locates c.in-Some.is c.requires.present reads read removed in
+    let told = mark_told c.requires.locates c.in-Some.is c.requires.present reads read removed in
     let taken = taken_removes c.args.expected (Some c.in_ok-value.value)
     (sym c.takes_out.ensures ∙ c.if-not-takes_out.false) in
-    let told = told_since c.value_if_any-read.ensures.reads.quiet
-    (given_same same Remove c.args.self.now.key (Some c.in_ok-value.value)) made in
     let then = c.unlink_marked.ensures.goes.goes.quiet in
     let p = c.args.self.now.at.stepper.now in
     let q = c.value_if_any-read.new.at.stepper.now in
     let r = c.mark-outcome.new.at.stepper.now in
-    let reads = c.value_if_any-read.ensures.reads in
-    let steps = steps_read c.steps_to_value_of.ensures c.value_if_any-read.new.at.own.1 same.start in
-    let first : Goes p q c.args.self.now.used (c.args.self.now.used + c.steps_to_value_of.result) =
-    goes_counted c.args.self.now.used c.steps_to_value_of.result (steps_to_value_of p.trace.start) steps reads in
+    let steps = steps_read c.steps_to_value_of.ensures c.value_if_any-read.new.at.own.1 reads.quiet.same.start in
     let mark = c.mark-outcome.ensures.keeps in
-    let pred = pred_on c.args.self.now.key f.pred made.same mark.keeps
-    (pred_on c.args.self.now.key f.pred same keeps c.requires.locates.pred) in
+    let pred = pred_marked c.requires.locates c.in-Some.is c.requires.present reads read removed mark.keeps in
     let E : Type 0 =
     RemovesSoon c.args.expected c.args.self.now c.unlink_marked.new.self (Some c.in_ok-value.value) ⊎
     RemovesLate c.args.expected c.args.self.now c.unlink_marked.new.self f (Some c.in_ok-value.value) in
@@ -263,12 +220,11 @@ returns-then-affords-clause-answers g c =
             late = record {
               marked = r.trace;
               marks = marks_behind p.trace q.trace r.trace c.args.self.now.key f.pred c.in-Some.cur c.law.ensures.start
-                  (run_at p.trace r.trace told.same told.is_run) reads.quiet reads.adds_none made.same
-                  c.in_ok-marked.ensures.removed.leaves
+                  (run_at p.trace r.trace told.same told.is_run) reads.quiet reads.adds_none made.same removed.leaves
                   (apart p.trace c.law.ensures.start c.law.ensures.is_run f.pred.at c.in-Some.cur.at c.args.self.now.key
                   c.requires.locates.pred.behind key)
-                  (mark.keeps.epoch ∙ keeps.epoch) (mark.takes_no_slot.count ∙ first.hand.takes_no_slot.count) pred.held
-                  pred.unmarked pred.inside;
+                  (mark.keeps.epoch ∙ read.keeps.epoch) (mark.takes_no_slot.count ∙ reads.takes_no_slot.count)
+                  pred.held pred.unmarked pred.inside;
               used = c.args.self.now.used + c.steps_to_value_of.result + 1;
               few = omega (arith, steps);
               searches = on;
@@ -279,30 +235,27 @@ returns-then-affords-clause-answers g c =
 
 pub returns-else-affords-clause-settles : goal.returns-else-affords-clause-settles
 returns-else-affords-clause-settles g c =
-    let reads = c.value_if_any-read.ensures.reads in
-    let won = c.mark-outcome.ensures.keeps in
-    settles_read (search rules) refl (steps_read c.steps_to_value_of.ensures c.value_if_any-read.new.at.own.1 reads.quiet.same.start) reads won.took won.own won.takes_no_slot
+    let then = read_then_step c.args.self.now.used c.steps_to_value_of.result c.steps_to_value_of.ensures
+    c.value_if_any-read.new.at.own.1 c.value_if_any-read.ensures.reads c.mark-outcome.ensures.keeps in
+    record { call = search rules; counts = then.0; hand = then.1; more = omega arith }
 
 pub returns-else-affords-clause-answers : goal.returns-else-affords-clause-answers
 returns-else-affords-clause-answers g c =
-    let f = c.args.found.now in
-    let keeps = c.in_ok-value.ensures.value.keeps in
-    let there = key_found_since c.args.self.now.key f.pred c.in-Some.cur f.cur f.present keeps c.requires.locates.end
-    c.in-Some.is c.requires.present in
-    let same = c.value_if_any-read.ensures.reads.quiet.same in
-    let made = c.in_ok-marked.ensures.removed.made c.args.self.now.key c.in_ok-value.value there
-    (valued_since same c.in_ok-value.ensures.value.value) in
+    let reads = c.value_if_any-read.ensures.reads in
+    let told = mark_told c.requires.locates c.in-Some.is c.requires.present reads c.in_ok-value.ensures.value
+    c.in_ok-marked.ensures.removed in
     let taken = taken_removes c.args.expected (Some c.in_ok-value.value)
     (sym c.takes_out.ensures ∙ c.if-not-takes_out.false) in
-    let told = told_since c.value_if_any-read.ensures.reads.quiet
-    (given_same same Remove c.args.self.now.key (Some c.in_ok-value.value)) made in
-    let steps = steps_read c.steps_to_value_of.ensures c.value_if_any-read.new.at.own.1 same.start in
-    let short = no_room (c.args.self.now.used + c.steps_to_value_of.result + 1) c.args.self.now.budget c.affords.result c.if-affords.false c.affords.ensures.1 in
+    let steps = steps_read c.steps_to_value_of.ensures c.value_if_any-read.new.at.own.1 reads.quiet.same.start in
+    let short = no_room (c.args.self.now.used + c.steps_to_value_of.result + 1) c.args.self.now.budget c.affords.result
+    c.if-affords.false c.affords.ensures.1 in
     record {
-      made = told_as (told_op c.args.self.now.at.stepper.now.trace c.args.self.now.key (Some c.in_ok-value.value) (sym taken)) told;
+      made = told_as
+          (told_op c.args.self.now.at.stepper.now.trace c.args.self.now.key (Some c.in_ok-value.value) (sym taken))
+          told;
       paid = inl (record {
         few = omega (arith, steps);
         leaves = λ yes room. absurd (omega (arith, steps, short, room));
       });
-      unlists = λ yes room. (let f = c.if-affords.false in let z = c.affords.ensures.1 room in let w : false ≡ true = sym f ∙ z in absurd (cc));
+      unlists = λ yes room. (let w : false ≡ true = sym c.if-affords.false ∙ c.affords.ensures.1 room in absurd (cc));
     }

@@ -1,17 +1,18 @@
-use Rattle.vbr_list.proofs.Names.{◌≡◌, ◌+◌, true, sym, ap, ◌∙◌, subst, arith}
-use Rattle.vbr_list.proofs.Names.{counts_none, no_room, quiet_on, quiet_refl, Start}
-use Rattle.vbr_list.specs.Settling.{has_wanted}
+use Rattle.vbr_list.proofs.Names.{◌≡◌, ◌+◌, true, sym, ap, ◌∙◌, subst, arith, ◌<◌}
+use Rattle.vbr_list.proofs.Names.{counts_none, Ghosts, PassLaw, PIECE, quiet_on, quiet_refl, Start}
+use Rattle.vbr_list.specs.Pieces.{GoesOn, pass_in, trace_in}
+use Rattle.vbr_list.specs.Settling.{MeetTires, Meeting, has_wanted}
+use Rattle.vbr_list.specs.Walking.{WalksAgain}
 use Rattle.vbr_list.specs.Wanted.{WasWanted, steps_to_compare}
+use Rattle.vbr_list.specs.declared.call.PendingCall.{PendingCall}
 use Rattle.vbr_list.specs.declared.wanted.Wanted.{Wanted}
-use Rattle.vbr_list.proofs.Disturbing.{run_at}
 use Rattle.vbr_list.proofs.FoundValues.{tells_since}
-use Rattle.vbr_list.proofs.Going.{call_on, call_refl, goes_further, tries_on, within_call}
+use Rattle.vbr_list.proofs.Going.{call_on, call_refl, within_call}
 use Rattle.vbr_list.proofs.KeptHands.{hand_on, hand_refl}
 use Rattle.vbr_list.proofs.Linking.{located}
-use Rattle.vbr_list.proofs.LostWalks.{search_ends}
-use Rattle.vbr_list.proofs.Moments.{found_since, was_so}
+use Rattle.vbr_list.proofs.LostWalks.{found_in, HasSearched, searched_for, searched_more, searched_on, searched_until}
+use Rattle.vbr_list.proofs.LostWalks.{short_of, so_in}
 use Rattle.vbr_list.proofs.Preparing.{steps_gone, within_on}
-use Rattle.vbr_list.proofs.Walking.{search_round_on, searches_later}
 use Rattle.vbr_list.proofs.Wants.{met_as, was_compared, was_plain}
 use Rattle.vbr_list.proofs.call.PendingCall.meet.Goals as goal
 
@@ -28,26 +29,11 @@ ask-requires-clause-open g c = sym c.has_wanted.ensures ∙ c.if-has_wanted.fals
 
 pub loop-found-preserved : goal.loop-found-preserved
 loop-found-preserved g c =
-    let s = c.search.ensures.goes in
     let a = c.ask.ensures.asks in
     let lost = c.in_default-ask.ensures.lost in
-    let begun = call_on c.loop-found.invariant.0 s.call in
-    let found = tries_on c.loop-found.invariant.1 s.goes s.more (within_call begun) in
-    let same = call_on begun a.call in
-    let few = a.few in (
-      same,
-      tries_on found (record { quiet = lost.quiet; counts = a.counts; hand = a.hand }) a.more (within_call same),
-      let p = c.args.self.now.at.stepper.now.trace in
-          let q = c.loop-found.self.at.stepper.now.trace in
-          let m = c.search.new.self.at.stepper.now.trace in
-          let r = c.ask.new.self.at.stepper.now.trace in
-          let first = c.loop-found.invariant.1.goes.quiet in
-          let whole = quiet_on (quiet_on first s.goes.quiet) lost.quiet in
-          search_round_on p q m r c.law.ensures.start (run_at p r whole.same (whole.is_run c.law.ensures.is_run))
-          c.args.self.now.key 4 first.same s.goes.quiet.same whole.same first.seen s.goes.quiet.seen lost.quiet.seen
-          a.hand.takes_no_slot.count c.loop-found.invariant.2 c.in-Some.found
-          (rw c.loop-found.invariant.0.key at c.in-Some.ensures.found.last) (omega (arith, few)) lost.loses,
-    )
+    let few = a.few in
+    searched_more c.law.ensures c.loop-found.invariant c.search.ensures.goes c.in-Some.found c.in-Some.ensures.found
+    a.call (record { quiet = lost.quiet; counts = a.counts; hand = a.hand }) a.more (omega (arith, few)) lost.loses
 
 pub loop-found-smaller : goal.loop-found-smaller
 loop-found-smaller g c =
@@ -79,24 +65,28 @@ returns-in-Anything-clause-met g c =
       searches = record { lost = 0; few = omega arith; paid = omega arith };
     }
 
+-- no call was made
+meets_none : {N : Type 0} {kind : Ghosts N} {b c d : PendingCall N kind} → PassLaw (pass_in b) → HasSearched b c →
+    GoesOn c d → Meeting b d
+meets_none law so went =
+    let gone = searched_on law so went in
+    record { call = gone.call; counts = steps_gone gone; hand = gone.goes.hand }
+
 pub returns-in_default-search-clause-meets : goal.returns-in_default-search-clause-meets
 returns-in_default-search-clause-meets g c =
-    let gone = goes_further c.loop-found.invariant.0 c.loop-found.invariant.1 c.search.ensures.goes in
-    record { call = gone.call; counts = steps_gone gone; hand = gone.goes.hand }
+    meets_none c.law.ensures c.loop-found.invariant c.search.ensures.goes
 
 pub returns-then-has_wanted-clause-meets : goal.returns-then-has_wanted-clause-meets
 returns-then-has_wanted-clause-meets g c =
-    let gone = goes_further c.loop-found.invariant.0 c.loop-found.invariant.1 c.search.ensures.goes in
-    record { call = gone.call; counts = steps_gone gone; hand = gone.goes.hand }
+    meets_none c.law.ensures c.loop-found.invariant c.search.ensures.goes
 
 pub returns-then-not-affords-clause-meets : goal.returns-then-not-affords-clause-meets
 returns-then-not-affords-clause-meets g c =
-    let gone = goes_further c.loop-found.invariant.0 c.loop-found.invariant.1 c.search.ensures.goes in
-    record { call = gone.call; counts = steps_gone gone; hand = gone.goes.hand }
+    meets_none c.law.ensures c.loop-found.invariant c.search.ensures.goes
 
 pub returns-in-Ok-clause-meets : goal.returns-in-Ok-clause-meets
 returns-in-Ok-clause-meets g c =
-    let gone = goes_further c.loop-found.invariant.0 c.loop-found.invariant.1 c.search.ensures.goes in
+    let gone = searched_on c.law.ensures c.loop-found.invariant c.search.ensures.goes in
     let a = c.ask.ensures.asks in
     let same = call_on gone.call a.call in
     record {
@@ -105,55 +95,46 @@ returns-in-Ok-clause-meets g c =
       hand = hand_on gone.goes.hand a.hand;
     }
 
+-- the budget had no room for one more piece
+meets_short : {N : Type 0} {kind : Ghosts N} {b c d : PendingCall N kind} → PassLaw (pass_in b) → HasSearched b c →
+    GoesOn c d → WalksAgain 9 (trace_in c) (trace_in d) c.key c.used d.used → b.budget < d.used + PIECE → MeetTires b d
+meets_short {b = b} law so went walks short =
+    record {
+      quiet = (searched_on law so went).goes.quiet;
+      short = short;
+      searches = searched_for law so went walks (b.budget + 1) 8 11 (omega (arith, short)) (omega arith);
+    }
+
 pub returns-in_default-search-clause-tired : goal.returns-in_default-search-clause-tired
 returns-in_default-search-clause-tired g c =
-    let gone = goes_further c.loop-found.invariant.0 c.loop-found.invariant.1 c.search.ensures.goes in
     let tired = c.in_default-search.ensures.tired in
-    let short = rw c.loop-found.invariant.0.budget at tired.tired in
-    record {
-      quiet = gone.goes.quiet;
-      short = short;
-      searches = search_ends c.law.ensures c.loop-found.invariant.0 c.loop-found.invariant.1.goes.quiet
-          c.search.ensures.goes c.loop-found.invariant.2 tired.walks (c.args.self.now.budget + 1) 8 11
-          (omega (arith, short)) (omega arith);
-    }
+    meets_short c.law.ensures c.loop-found.invariant c.search.ensures.goes tired.walks
+    (rw c.loop-found.invariant.0.budget at tired.tired)
 
 pub returns-then-not-affords-clause-tired : goal.returns-then-not-affords-clause-tired
 returns-then-not-affords-clause-tired g c =
-    let gone = goes_further c.loop-found.invariant.0 c.loop-found.invariant.1 c.search.ensures.goes in
-    let short = rw gone.call.budget at
-    (no_room c.search.new.self.used c.search.new.self.budget c.affords.result c.if-not-affords.true
-    c.affords.ensures.1) in
-    record {
-      quiet = gone.goes.quiet;
-      short = short;
-      searches = search_ends c.law.ensures c.loop-found.invariant.0 c.loop-found.invariant.1.goes.quiet
-          c.search.ensures.goes c.loop-found.invariant.2 c.in-Some.ensures.found.walks (c.args.self.now.budget + 1) 8 11
-          (omega (arith, short)) (omega arith);
-    }
+    let gone = searched_on c.law.ensures c.loop-found.invariant c.search.ensures.goes in
+    meets_short c.law.ensures c.loop-found.invariant c.search.ensures.goes c.in-Some.ensures.found.walks
+    (short_of gone.call c.affords.result c.if-not-affords.true c.affords.ensures.1)
 
 pub returns-then-has_wanted-clause-met : goal.returns-then-has_wanted-clause-met
 returns-then-has_wanted-clause-met g c =
-    let gone = goes_further c.loop-found.invariant.0 c.loop-found.invariant.1 c.search.ensures.goes in
+    let gone = searched_on c.law.ensures c.loop-found.invariant c.search.ensures.goes in
     let p = c.args.self.now.at.stepper.now.trace in
     let m = c.search.new.self.at.stepper.now.trace in
-    let key = c.args.self.now.key in
-    let first = c.loop-found.invariant.1.goes.quiet in
     let is : has_wanted c.args.wanted c.in-Some.found.present ≡ true =
     sym c.has_wanted.ensures ∙ c.if-has_wanted.true in
-    let so = was_so key c.in-Some.found c.law.ensures.start gone.goes.quiet.same
-    (found_since key c.in-Some.found first (rw c.loop-found.invariant.0.key at c.in-Some.ensures.found.found)) in
+    let so = so_in c.law.ensures c.loop-found.invariant c.search.ensures.goes c.in-Some.found c.in-Some.ensures.found in
     record {
       quiet = gone.goes.quiet;
-      was = was_plain p m key c.args.wanted c.in-Some.found.present is so;
-      searches = search_ends c.law.ensures c.loop-found.invariant.0 first c.search.ensures.goes c.loop-found.invariant.2
-          c.in-Some.ensures.found.walks c.search.new.self.used 0 (steps_to_compare c.args.wanted + 3) (omega arith)
-          (omega arith);
+      was = was_plain p m c.args.self.now.key c.args.wanted c.in-Some.found.present is so;
+      searches = searched_for c.law.ensures c.loop-found.invariant c.search.ensures.goes c.in-Some.ensures.found.walks
+          c.search.new.self.used 0 (steps_to_compare c.args.wanted + 3) (omega arith) (omega arith);
     }
 
 pub returns-in-Ok-clause-met : goal.returns-in-Ok-clause-met
 returns-in-Ok-clause-met g c =
-    let gone = goes_further c.loop-found.invariant.0 c.loop-found.invariant.1 c.search.ensures.goes in
+    let gone = searched_on c.law.ensures c.loop-found.invariant c.search.ensures.goes in
     let b = c.args.self.now in
     let d = c.search.new.self in
     let e = c.ask.new.self in
@@ -162,9 +143,8 @@ returns-in-Ok-clause-met g c =
     let r = e.at.stepper.now.trace in
     let wanted = c.args.wanted in
     let found = c.in-Some.found in
-    let first = c.loop-found.invariant.1.goes.quiet in
     let few = c.ask.ensures.asks.few in
-    let there = found_since b.key found first (rw c.loop-found.invariant.0.key at c.in-Some.ensures.found.found) in
+    let there = found_in c.law.ensures c.loop-found.invariant c.search.ensures.goes found c.in-Some.ensures.found in
     met_as b d e wanted found c.in-Ok.met
     (λ value x.
     let whole = quiet_on gone.goes.quiet x.quiet in
@@ -173,11 +153,9 @@ returns-in-Ok-clause-met g c =
       quiet = whole;
       was = was_compared b.key found wanted value c.law.ensures.start whole.same x.quiet x.reads.keeps c.requires.values
           there (sym c.has_wanted.ensures ∙ c.if-has_wanted.false) x.is x.reads.known.is;
-      searches = searches_later p m r c.law.ensures.start (run_at p r whole.same (whole.is_run c.law.ensures.is_run))
-          b.key gone.goes.quiet.seen x.quiet.seen (steps_to_compare wanted + 3) (omega arith)
-          (search_ends c.law.ensures c.loop-found.invariant.0 first c.search.ensures.goes c.loop-found.invariant.2
-          c.in-Some.ensures.found.walks e.used (steps_to_compare wanted) (steps_to_compare wanted + 3) compared
-          (omega arith));
+      searches = searched_until c.law.ensures gone x.quiet (steps_to_compare wanted + 3) (omega arith)
+          (searched_for c.law.ensures c.loop-found.invariant c.search.ensures.goes c.in-Some.ensures.found.walks e.used
+          (steps_to_compare wanted) (steps_to_compare wanted + 3) compared (omega arith));
     })
     (λ value x. record {
       tells = record { told = tells_since b d e value gone.call.key gone.goes.quiet x.told; is_not = x.is_not };
@@ -185,8 +163,8 @@ returns-in-Ok-clause-met g c =
         ended = m;
         quiet = gone.goes.quiet;
         to = x.told.seen;
-        searches = search_ends c.law.ensures c.loop-found.invariant.0 first c.search.ensures.goes
-            c.loop-found.invariant.2 c.in-Some.ensures.found.walks e.used 3 6 few (omega arith);
+        searches = searched_for c.law.ensures c.loop-found.invariant c.search.ensures.goes
+            c.in-Some.ensures.found.walks e.used 3 6 few (omega arith);
       };
     })
     c.in-Ok.ensures.met

@@ -1,12 +1,15 @@
 use Rattle.vbr_list.proofs.Names.{◌+◌, ◌∙◌, inl, arith, err_from_is_err_and}
-use Rattle.vbr_list.proofs.Names.{gained, quiet_on, some_grown, steps_to_take_among}
+use Rattle.vbr_list.proofs.Names.{gained, Ghosts, PassView, Quiet, quiet_on, steps_to_take_among, TriesOnlyWhere}
+use Rattle.vbr_list.proofs.Names.{TriesWhereEmpty}
+use Rattle.vbr_list.proofs.LostWalks.{searched_until}
 use Rattle.vbr_list.specs.Disturbed.{steps_to_prepare}
-use Rattle.vbr_list.specs.Settling.{MeetsOther, MeetsWanted}
-use Rattle.vbr_list.specs.Wanted.{steps_to_compare}
-use Rattle.vbr_list.proofs.Disturbing.{run_at}
-use Rattle.vbr_list.proofs.Preparing.{prepares_none, prepares_on, steps_gone, takes_after, tries_after}
-use Rattle.vbr_list.proofs.Sufficing.{take_after, take_least}
-use Rattle.vbr_list.proofs.Walking.{searches_later}
+use Rattle.vbr_list.specs.Pieces.{pass_in, trace_in}
+use Rattle.vbr_list.specs.Settling.{Meeting, MeetsOther, MeetsWanted}
+use Rattle.vbr_list.specs.Wanted.{WasWanted, steps_to_compare}
+use Rattle.vbr_list.specs.declared.call.PendingCall.{PendingCall}
+use Rattle.vbr_list.specs.declared.wanted.Wanted.{Wanted}
+use Rattle.vbr_list.proofs.Preparing.{prepares_none, prepares_on, takes_gone, tries_after}
+use Rattle.vbr_list.proofs.Sufficing.{take_least, taken_after}
 use Rattle.vbr_list.proofs.Wants.{met_goes, searches_more_steps, store_in_vain, wanted_for, was_before}
 use Rattle.vbr_list.proofs.call.PendingCall.prepare_store.Goals as goal
 
@@ -40,25 +43,23 @@ returns-in_default-clause-tries g c = inl c.meet.ensures.meets.hand.takes_no_slo
 pub returns-in-Otherwise-clause-tries : goal.returns-in-Otherwise-clause-tries
 returns-in-Otherwise-clause-tries g c = inl c.meet.ensures.meets.hand.takes_no_slot.tries
 
+-- the key was met as it is wanted, and then a slot was tried for
+wanted_tries : {N : Type 0} {kind : Ghosts N} {c d : PendingCall N kind} (wanted : Wanted) (r : PassView) →
+    Meeting c d → MeetsWanted wanted c d → Quiet (trace_in d) r.trace → TriesWhereEmpty (pass_in d) r →
+    TriesOnlyWhere (WasWanted wanted (trace_in c) r.trace c.key) (pass_in c) r
+wanted_tries {c = c} {d = d} wanted r meets met quiet tries =
+    tries_after (pass_in c) (pass_in d) r meets.hand.takes_no_slot tries
+    (was_before (trace_in c) (trace_in d) r.trace c.key wanted met.was quiet)
+
 pub returns-in_err-hand-in-AsWanted-clause-tries : goal.returns-in_err-hand-in-AsWanted-clause-tries
 returns-in_err-hand-in-AsWanted-clause-tries g c =
-    let met : MeetsWanted c.args.wanted c.args.self.now c.meet.new.self =
-    rw c.in-AsWanted.is at c.in-Some.ensures.met in
-    let p = c.args.self.now.at.stepper.now in
-    let m = c.meet.new.self.at.stepper.now in
-    let r = c.provide.new.self.at.stepper.now in
-    tries_after p m r c.meet.ensures.meets.hand.takes_no_slot c.provide.ensures.tries
-    (was_before p.trace m.trace r.trace c.args.self.now.key c.args.wanted met.was c.provide.ensures.quiet)
+    wanted_tries c.args.wanted c.provide.new.self.at.stepper.now c.meet.ensures.meets
+    (rw c.in-AsWanted.is at c.in-Some.ensures.met) c.provide.ensures.quiet c.provide.ensures.tries
 
 pub returns-in_ok-hand-in-AsWanted-clause-tries : goal.returns-in_ok-hand-in-AsWanted-clause-tries
 returns-in_ok-hand-in-AsWanted-clause-tries g c =
-    let met : MeetsWanted c.args.wanted c.args.self.now c.meet.new.self =
-    rw c.in-AsWanted.is at c.in-Some.ensures.met in
-    let p = c.args.self.now.at.stepper.now in
-    let m = c.meet.new.self.at.stepper.now in
-    let r = c.provide.new.self.at.stepper.now in
-    tries_after p m r c.meet.ensures.meets.hand.takes_no_slot c.provide.ensures.tries
-    (was_before p.trace m.trace r.trace c.args.self.now.key c.args.wanted met.was c.provide.ensures.quiet)
+    wanted_tries c.args.wanted c.provide.new.self.at.stepper.now c.meet.ensures.meets
+    (rw c.in-AsWanted.is at c.in-Some.ensures.met) c.provide.ensures.quiet c.provide.ensures.tries
 
 pub returns-in_default-clause-refused : goal.returns-in_default-clause-refused
 returns-in_default-clause-refused g c =
@@ -107,21 +108,17 @@ returns-in_err-hand-in-AsWanted-clause-refused g c =
     let p = c.args.self.now.at.stepper.now in
     let m = c.meet.new.self.at.stepper.now in
     let r = c.provide.new.self.at.stepper.now in
-    let whole = quiet_on gone.goes.quiet d in
-    let some = some_grown p m gone.goes.hand.takes_no_slot.grows in
-    let taken = take_after p m r.trace gone.goes.quiet some in
+    let taken = taken_after gone r.trace in
     rw (error.1, error.2) (record {
-      quiet = whole;
+      quiet = quiet_on gone.goes.quiet d;
       hand = none.hand;
-      says = takes_after p m r gone.goes.quiet some (steps_gone gone) d refusal (rw gone.call.budget at none.says);
+      says = takes_gone gone r d refusal none.says;
       so = wanted_for p.trace r.trace c.args.self.now.key c.args.wanted
           (was_before p.trace m.trace r.trace c.args.self.now.key c.args.wanted met.was d) refusal;
       searches = store_in_vain c.args.self.now.key c.args.self.now.budget
           (steps_to_take_among m.trace.start m.pool (gained m.trace r.trace))
           (steps_to_prepare c.args.wanted p r.trace + 10)
-          (searches_later p.trace m.trace r.trace c.law.ensures.start
-          (run_at p.trace r.trace whole.same (whole.is_run c.law.ensures.is_run)) c.args.self.now.key
-          gone.goes.quiet.seen d.seen (steps_to_compare c.args.wanted + 3) (omega arith) met.searches)
+          (searched_until c.law.ensures gone d (steps_to_compare c.args.wanted + 3) (omega arith) met.searches)
           refusal (rw gone.call.budget at none.enough) (omega (arith, taken));
     })
 
@@ -133,18 +130,17 @@ returns-in_ok-hand-in-AsWanted-clause-prepared g c =
     let d = c.provide.ensures.quiet in
     let hand = c.in_ok-hand-in-AsWanted.ensures.hand in
     let p = c.args.self.now.at.stepper.now in
-    let m = c.meet.new.self.at.stepper.now in
-    let r = c.provide.new.self.at.stepper.now in
-    let taken = take_after p m r.trace gone.goes.quiet (some_grown p m gone.goes.hand.takes_no_slot.grows) in
+    let r = c.provide.new.self.at.stepper.now.trace in
+    let taken = taken_after gone r in
     let few = hand.few in
     record {
       quiet = quiet_on gone.goes.quiet d;
       hand = hand.has;
       searched = record {
-        ended = m.trace;
+        ended = c.meet.new.self.at.stepper.now.trace;
         quiet = gone.goes.quiet;
         to = d.seen;
-        searches = searches_more_steps c.provide.new.self.used (steps_to_prepare c.args.wanted p r.trace + 3)
+        searches = searches_more_steps c.provide.new.self.used (steps_to_prepare c.args.wanted p r + 3)
             (omega (arith, few, taken)) met.searches;
       };
     }

@@ -1,41 +1,30 @@
-use Rattle.vbr_list.proofs.Names.{◌≡◌, ℕ, ◌+◌, ◌<◌, ◌≤◌, Bool, true, List, Option, Some, length, rules, arith, refl}
-use Rattle.vbr_list.proofs.Names.{inl, inr, sym, ap, ◌∙◌, subst}
-use Rattle.vbr_list.proofs.Names.{At, counts_on, CountsSteps, Ghosts, had_spent, HandView, Held, held_kept, IsRun}
-use Rattle.vbr_list.proofs.Names.{keeps_on, key_on, KeyAt, knows, Names, none_on, PassView, POOL, quiet_on, ReadsIn}
-use Rattle.vbr_list.proofs.Names.{replaced_since, Start, steps_to_birth, steps_to_update, steps_to_value}
-use Rattle.vbr_list.proofs.Names.{unchanged_by_none, value_on}
+use Rattle.vbr_list.proofs.Names.{◌≡◌, ℕ, ◌+◌, ◌<◌, ◌≤◌, Bool, true, List, Some, length, rules, arith, refl, inl, sym}
+use Rattle.vbr_list.proofs.Names.{ap, ◌∙◌, subst}
+use Rattle.vbr_list.proofs.Names.{At, counts_on, CountsSteps, Ghosts, had_spent, HandView, held_kept, IsRun, keeps_on}
+use Rattle.vbr_list.proofs.Names.{key_on, KeyAt, knows, Names, none_on, PassView, POOL, quiet_on, ReadsIn}
+use Rattle.vbr_list.proofs.Names.{replaced_since, Start, steps_to_birth, steps_to_update, steps_to_value, value_on}
 use Rattle.vbr_list.proofs.Going.{counts_step, goes_counted, took_same}
 use Rattle.vbr_at_table.specs.Exchanges.{StoresIn}
 use Rattle.vbr_list.specs.Pieces.{IsSameCall, pass_in, trace_in}
 use Rattle.vbr_list.specs.Replacing.{MayStoreNode}
-use Rattle.vbr_list.specs.Walking.{LosesNext}
 use Rattle.vbr_list.specs.declared.call.PendingCall.{PendingCall}
-use Rattle.vbr_list.proofs.Disturbing.{lost_place_later, moves_epoch, moves_on, run_at}
+use Rattle.vbr_list.proofs.Disturbing.{moves_epoch, moves_on, run_at}
 use Rattle.vbr_list.proofs.FoundValues.{some_birth, two_told}
 use Rattle.vbr_list.proofs.Marks.{apart, marks_behind}
-use Rattle.vbr_list.proofs.Moments.{key_found}
+use Rattle.vbr_list.proofs.Moments.{cur_is, key_found}
 use Rattle.vbr_list.proofs.Reaching.{key_kept, pred_on, slot_same}
+use Rattle.vbr_list.proofs.ReadFirst.{cur_lost_since}
 use Rattle.vbr_list.proofs.Stores.{had_same, hand_kept, two_since}
-use Rattle.vbr_list.proofs.ValueReads.{cur_is}
 use Rattle.vbr_list.proofs.call.PendingCall.replace_found.Goals as goal
 
 pub birth_after-named-requires : goal.birth_after-named-requires
-birth_after-named-requires g c =
-    let f = c.args.found.now in
-    record {
-      held =
-          (cur_is (knows c.args.self.now.at.stepper.now.trace) c.args.self.now.key f.pred c.in-Some.cur f.cur f.present
-          c.requires.read.1.locates.end c.in-Some.is).held;
-    }
+birth_after-named-requires g c = record { held = (cur_is c.requires.read.1.locates c.in-Some.is).held }
 
 pub replace-requires-clause-node : goal.replace-requires-clause-node
 replace-requires-clause-node g c =
-    let f = c.args.found.now in
     let k = c.requires.read.1 in
-    let know = knows c.args.self.now.at.stepper.now.trace in
-    let y = cur_is know c.args.self.now.key f.pred c.in-Some.cur f.cur f.present k.locates.end c.in-Some.is in
-    let there = key_found know c.args.self.now.key f.pred c.in-Some.cur f.cur f.present k.locates.end c.in-Some.is
-    k.is.present in
+    let y = cur_is k.locates c.in-Some.is in
+    let there = key_found k.locates c.in-Some.is k.is.present in
     let keeps = c.in-Ok.ensures.birth.keeps in
     let key = key_on c.in-Some.cur.at c.args.self.now.key keeps there in
     record {
@@ -133,9 +122,8 @@ returns-in-Ok-replace-clause-replaced g c =
     told.made c.requires.read.0
     (value_on c.in-Some.cur.at c.requires.read.0 read (first.is.known c.in-Some.cur c.in-Some.is)) in
     let has : q.start.shape.values ≡ true = ap (λ (d : Start). d.shape.values) quiet.same.start ∙ first.values in
-    let y = cur_is (knows p) k f.pred c.in-Some.cur f.cur f.present first.locates.end c.in-Some.is in
-    let there = key_found (knows p) k f.pred c.in-Some.cur f.cur f.present first.locates.end c.in-Some.is
-    first.is.present in
+    let y = cur_is first.locates c.in-Some.is in
+    let there = key_found first.locates c.in-Some.is first.is.present in
     let keeps = keeps_on read c.replace.ensures.stores.keeps in
     let two = two_since quiet (two_told q.start q.who k c.requires.read.0 c.args.value has made_now) in
     let pred = pred_on k f.pred two.same keeps first.locates.pred in
@@ -184,24 +172,17 @@ returns-in-Err-clause-had g c =
 
 pub returns-in-Err-clause-back : goal.returns-in-Err-clause-back
 returns-in-Err-clause-back g c =
-    let p = c.args.self.now.at.stepper.now.trace in
-    let q = c.birth_after-named.new.at.stepper.now.trace in
-    let r = c.replace.new.at.stepper.now.trace in
     let reads = c.birth_after-named.ensures.reads in
     let read = goes_counted c.args.self.now.used c.steps_to_birth.result (steps_to_birth c.in-Some.cur.word)
     c.steps_to_birth.ensures.is reads in
     let lost = c.in-Err.ensures.lost in
     let P : List ℕ → Type 0 = λ l. length l < POOL in
-    let Q : Option Held → Type 0 = LosesNext p r in
-    let run_q = run_at p q read.quiet.same (read.quiet.is_run c.law.ensures.is_run) in
-    let none = unchanged_by_none c.law.ensures.start run_q read.quiet.same read.quiet.seen reads.adds_none in
     record {
       quiet = quiet_on read.quiet lost.exchange.quiet;
       hand = record {
         is = lost.hand;
         room = subst P (sym c.replace.ensures.stores.pool) (read.hand.room c.requires.hand.room);
       };
-      loses = inr (subst Q (sym c.in-Some.is)
-          (lost_place_later c.in-Some.cur _ read.quiet c.in-Ok.ensures.birth.keeps none lost.exchange.lost
-          lost.exchange.unchanged));
+      loses = cur_lost_since c.args.found.now c.law.ensures reads c.in-Ok.ensures.birth.keeps c.in-Some.is
+          lost.exchange;
     }

@@ -1,17 +1,14 @@
 use Rattle.vbr_list.proofs.Names.{ap, ◌∙◌, arith}
 use Rattle.vbr_list.proofs.Names.{bucket_of}
 use Rattle.vbr_list.specs.Disturbed.{disturbed_at}
-use Rattle.vbr_list.proofs.Going.{call_on, call_refl, goes_further, tries_on, tries_refl, within_call}
+use Rattle.vbr_list.proofs.Going.{call_on, goes_further, tries_on, within_call}
+use Rattle.vbr_list.proofs.LostWalks.{searched_none}
 use Rattle.vbr_list.proofs.Moments.{found_since}
-use Rattle.vbr_list.proofs.Walking.{last_walk, lost_on, repeated_none_in, walks_again}
+use Rattle.vbr_list.proofs.Walking.{last_walk, lost_on, walks_again}
 use Rattle.vbr_list.proofs.call.PendingCall.search.Goals as goal
 
 pub loop-found-init : goal.loop-found-init
-loop-found-init g c = (
-  call_refl c.args.self.now,
-  tries_refl c.args.self.now.at.stepper.now c.args.self.now.used c.args.self.now.budget c.args.self.now.within,
-  repeated_none_in 9 c.args.self.now.at.stepper.now.trace c.args.self.now.bucket 3 c.args.self.now.used,
-)
+loop-found-init g c = searched_none c.args.self.now c.args.self.now.bucket 3
 
 pub loop-found-preserved : goal.loop-found-preserved
 loop-found-preserved g c =

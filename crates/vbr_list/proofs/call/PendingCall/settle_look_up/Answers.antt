@@ -1,5 +1,5 @@
-use Rattle.vbr_list.proofs.Names.{◌+◌, ◌≤◌, Bool, arith, sym, subst, IfOk, IfErr}
-use Rattle.vbr_list.specs.LookUpPieces.{IsSightFor, LookUpAnswers, LookUpRollsBack, steps_to_answer}
+use Rattle.vbr_list.proofs.Names.{◌+◌, ◌≤◌, Bool, arith, sym, subst, IfOk}
+use Rattle.vbr_list.specs.LookUpPieces.{IsSightFor, LookUpAnswers, steps_to_answer}
 use Rattle.vbr_list.specs.declared.looking.Sight.{Sight}
 use Rattle.vbr_list.proofs.call.PendingCall.settle_look_up.Goals as goal
 
@@ -51,13 +51,7 @@ returns-in-Absent-clause-answers g c =
     subst P (sym c.if-not-gives.false) c.give_none.ensures.answers
 
 pub returns-in-Present-clause-rolls : goal.returns-in-Present-clause-rolls
-returns-in-Present-clause-rolls g c =
-    let P : Sight → Type 0 =
-    λ sight. IfErr c.give_value.result (LookUpRollsBack c.args.self.now c.give_value.new.self sight) in
-    subst P (sym c.in-Present.is) c.give_value.ensures.rolls
+returns-in-Present-clause-rolls g c = rw c.in-Present.is c.give_value.ensures.rolls
 
 pub returns-in-Absent-clause-rolls : goal.returns-in-Absent-clause-rolls
-returns-in-Absent-clause-rolls g c =
-    let P : Sight → Type 0 =
-    λ sight. IfErr c.give_none.result (LookUpRollsBack c.args.self.now c.give_none.new.self sight) in
-    subst P (sym c.in-Absent.is) c.give_none.ensures.rolls
+returns-in-Absent-clause-rolls g c = rw c.in-Absent.is c.give_none.ensures.rolls

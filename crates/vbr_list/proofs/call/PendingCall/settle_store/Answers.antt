@@ -1,11 +1,9 @@
 use Rattle.vbr_list.proofs.Names.{◌≡◌, ◌<◌, Bool, true, false, rules, arith, sym, ◌∙◌, subst}
-use Rattle.vbr_list.proofs.Names.{ChangesNone, counts_on, Get, had_back, had_grown, had_on, Made, none_on, quiet_on}
-use Rattle.vbr_list.proofs.Names.{Trace, unchanged_by_none}
+use Rattle.vbr_list.proofs.Names.{counts_on, Get, had_back, had_grown, had_on, Made, none_on, quiet_on, Trace}
 use Rattle.vbr_list.specs.Settling.{SettlesIn}
 use Rattle.vbr_list.specs.Storing.{HasUnlessStored}
 use Rattle.vbr_list.specs.Told.{given_call}
 use Rattle.vbr_list.specs.Wanted.{wants}
-use Rattle.vbr_list.proofs.Disturbing.{run_at}
 use Rattle.vbr_list.proofs.FoundValues.{asks_then, few_where, read_goes, tells_since}
 use Rattle.vbr_list.proofs.Going.{call_on}
 use Rattle.vbr_list.proofs.Linking.{takes_back}
@@ -85,23 +83,17 @@ returns-in-Ok-change-clause-paid g c =
 
 pub returns-in-Err-clause-back : goal.returns-in-Err-clause-back
 returns-in-Err-clause-back g c =
-    let p = c.args.self.now.at.stepper.now.trace in
-    let q = c.read_found.new.self.at.stepper.now.trace in
-    let r = c.change.new.self.at.stepper.now.trace in
     let read = c.read_found.ensures in
-    let quiet = read.reads.quiet in
     let back = c.in-Err.ensures.back in
-    let none : ChangesNone p q =
-    unchanged_by_none c.law.ensures.start (run_at p q quiet.same (quiet.is_run c.law.ensures.is_run)) quiet.same
-    quiet.seen read.reads.adds_none in
     let few = few_where c.args.found.now.present in
     let used = read.used in
     let more = back.few in
     record {
       given = record {
-        quiet = quiet_on quiet back.given.quiet;
+        quiet = quiet_on read.reads.quiet back.given.quiet;
         hand = back.given.hand;
-        loses = found_lost_since c.args.found.now quiet c.in-Ok.ensures.found.keeps none back.given.loses;
+        loses = found_lost_since c.args.found.now c.law.ensures read.reads c.in-Ok.ensures.found.keeps
+            back.given.loses;
       };
       few = omega (arith, few, used, more);
     }
@@ -132,24 +124,17 @@ returns-then-is_err-clause-had g c =
 
 pub returns-then-is_err-clause-back : goal.returns-then-is_err-clause-back
 returns-then-is_err-clause-back g c =
-    let p = c.args.self.now.at.stepper.now.trace in
-    let q = c.read_found.new.self.at.stepper.now.trace in
-    let r = c.tell_found.new.self.at.stepper.now.trace in
     let read = c.read_found.ensures in
     let t = c.tell_found.ensures in
-    let quiet = read.reads.quiet in
     let asks = asks_then {c = c.args.self.now} c.args.found.now.present read.call read.used read.reads t.call t.used
     t.keeps in
     let lost = if_failed c.tell_found.result (sym c.is_err.ensures.value ∙ c.if-is_err.true) t.lost in
-    let none : ChangesNone p q =
-    unchanged_by_none c.law.ensures.start (run_at p q quiet.same (quiet.is_run c.law.ensures.is_run)) quiet.same
-    quiet.seen read.reads.adds_none in
     let few = asks.few in
     record {
       given = record {
-        quiet = quiet_on quiet lost.quiet;
+        quiet = quiet_on read.reads.quiet lost.quiet;
         hand = hand_kept c.args.hand asks.hand c.requires.has.hand;
-        loses = found_lost_since c.args.found.now quiet c.in-Ok.ensures.found.keeps none lost.loses;
+        loses = found_lost_since c.args.found.now c.law.ensures read.reads c.in-Ok.ensures.found.keeps lost.loses;
       };
       few = omega (arith, few);
     }

@@ -45,8 +45,7 @@ returns-clause-told g c =
     let f = c.args.found.now in
     let p = c.args.self.now.at.stepper.now.trace in
     let value = there_value (knows p) f c.args.there (rw c.if-is_none.false at c.is_none.ensures) c.requires.knows.is in
-    let key = key_found (knows p) c.args.self.now.key f.pred c.in-Some.cur f.cur f.present c.requires.knows.locates.end
-    c.in-Some.is value.2.present in
+    let key = key_found c.requires.knows.locates c.in-Some.is value.2.present in
     let P : Option ℕ → Type 0 =
     λ there. IfOk c.confirm_present.result
     (λ _. Made (given_call p.who Get c.args.self.now.key there) p c.confirm_present.new.at.stepper.now.trace) in

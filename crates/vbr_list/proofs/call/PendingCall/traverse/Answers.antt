@@ -6,7 +6,7 @@ use Rattle.vbr_list.proofs.Going.{call_on, goes_further, goes_on, tries_on, with
 use Rattle.vbr_list.proofs.Moments.{cur_found}
 use Rattle.vbr_list.proofs.Reaching.{node_found, node_reached, pred_inside, pred_on, stood_since, traverses_on}
 use Rattle.vbr_list.proofs.Visits.{knows_now, met_knows, met_open, met_paid, met_past, met_to, paid_so_far}
-use Rattle.vbr_list.proofs.Visits.{stands_still_on, starts_none, starts_walk, visit_changes_none, visit_paid}
+use Rattle.vbr_list.proofs.Visits.{stands_still_on, start_stops, starts_walk, visit_changes_none, visit_paid}
 use Rattle.vbr_list.proofs.Visits.{visited_run, walk_helped}
 use Rattle.vbr_list.proofs.call.PendingCall.traverse.Goals as goal
 
@@ -147,12 +147,8 @@ returns-clause-found g c =
 
 pub returns-in_default-clause-stopped : goal.returns-in_default-clause-stopped
 returns-in_default-clause-stopped g c =
-    let used = c.start.ensures.used in (
-      omega (arith, used),
-      omega (arith, used),
-      starts_none c.law.ensures c.args.self.now.bucket c.start.ensures.goes.goes.quiet c.start.ensures.observes
-          c.in_default.ensures.moved,
-    )
+    start_stops c.law.ensures c.args.self.now.bucket c.start.ensures.goes.goes.quiet c.start.ensures.observes 9
+    c.start.ensures.used c.in_default.ensures.moved
 
 pub returns-then-not-affords-2-clause-stopped : goal.returns-then-not-affords-2-clause-stopped
 returns-then-not-affords-2-clause-stopped g c =

@@ -3,7 +3,7 @@ use Rattle.vbr_list.proofs.Names.{None, ◌==◌, nat_tests, is_some}
 use Rattle.vbr_list.proofs.Names.{Held, Link, link_of}
 use Rattle.vbr_list.proofs.Following.{follows_head, follows_marked, follows_node, visit_lost}
 use Rattle.vbr_list.proofs.Going.{call_on, goes_further}
-use Rattle.vbr_list.proofs.Visits.{met_open, met_paid, paid_so_far, starts_none, stood_on}
+use Rattle.vbr_list.proofs.Visits.{met_open, met_paid, paid_so_far, start_stops, stood_on}
 use Rattle.vbr_list.proofs.Observing.{observes_on}
 use Rattle.vbr_list.proofs.Reaching.{node_found}
 use Rattle.vbr_list.proofs.Passing.{absent_at_end, absent_before, present_at}
@@ -135,12 +135,8 @@ returns-in-Err-clause-stopped g c =
 
 pub returns-in_default-clause-stopped : goal.returns-in_default-clause-stopped
 returns-in_default-clause-stopped g c =
-    let used = c.start.ensures.used in (
-      omega (arith, used),
-      omega (arith, used),
-      starts_none c.law.ensures c.args.self.now.bucket c.start.ensures.goes.goes.quiet c.start.ensures.observes
-          c.in_default.ensures.moved,
-    )
+    start_stops c.law.ensures c.args.self.now.bucket c.start.ensures.goes.goes.quiet c.start.ensures.observes 5
+    c.start.ensures.used c.in_default.ensures.moved
 
 pub returns-then-not-affords-2-clause-stopped : goal.returns-then-not-affords-2-clause-stopped
 returns-then-not-affords-2-clause-stopped g c = (

@@ -5,6 +5,5 @@ use Rattle.vbr_set.proofs.member.Member.has.Goals as goal
 pub invariant_of-self : goal.invariant_of-self
 invariant_of-self g c = record {
   part = search rules;
-  counted = kept once_in_set c.set.result.now _ c.self.inside.pass c.has.new.pass c.args.budget c.has.result
-      c.set.ensures c.has.ensures c.self.inside.balance c.self.invariant.counted (λ reply. refl);
+  counted = kept once_in_set c.set.ensures c.has.ensures c.self.invariant.counted (λ reply. refl);
 }

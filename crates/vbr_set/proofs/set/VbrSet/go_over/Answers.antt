@@ -1,10 +1,8 @@
-use Rattle.std.proofs.Common.{◌≡◌, ℕ, ◌^◌, ◌<◌, [], Option, Some, None, Result, Ok, sym, ap, ◌∙◌, subst, arith}
+use Rattle.std.proofs.Common.{◌≡◌, ◌^◌, ◌<◌, [], Some, None, Ok, sym, ap, ◌∙◌, subst, arith}
 use Rattle.vbr_list.specs.declared.cursor.Cursor.{Cursor}
-use Rattle.vbr_at_table.specs.declared.refusal.Refusal.{Refusal}
-use Rattle.vbr_set.specs.Iterating.{CallsNextWhere}
 use Rattle.vbr_set.specs.Members.{as_member}
-use Rattle.vbr_set.proofs.Listing.{GathersAs, gone_over, goes_over, later_bucket, gathered_later, gathered_on}
-use Rattle.vbr_set.proofs.Listing.{lists_none, nearer, nearer_later, stands_short, stood, stood_not}
+use Rattle.vbr_set.proofs.Listing.{GathersAs, answered_as, gone_over, goes_over, later_bucket, gathered_later}
+use Rattle.vbr_set.proofs.Listing.{gathered_on, lists_none, nearer, nearer_later, stands_short, stood, stood_not}
 use Rattle.vbr_set.proofs.set.VbrSet.go_over.Given as given
 use Rattle.vbr_set.proofs.set.VbrSet.go_over.Goals as goal
 
@@ -34,24 +32,16 @@ pub loop-key-smaller-else-not-add : goal.loop-key-smaller-else-not-add
 loop-key-smaller-else-not-add g c =
     let whole : c.next_where-next.result ≡ Ok (Some (c.in-Ok-Some.key, c.in-Ok-Some.value)) =
     c.in-Ok-Some.is ∙ ap Ok (rw c.in-Ok-Some.is at c.in-Ok-Some.field-0-is) in
-    let P : Result (Option (ℕ × ℕ)) Refusal → Type 0 =
-    λ answer. CallsNextWhere (as_member c.args.self.now c.loop-key.pass)
-    (as_member c.args.self.now c.next_where-next.new.pass) c.loop-key.cursor c.next_where-next.new.cursor c.args.budget
-    answer in
-    let gives = (subst P whole c.next_where-next.ensures).iterates.gives.0 in
+    let gives = (answered_as whole c.next_where-next.ensures).iterates.gives.0 in
     nearer c.loop-key.pass.trace.start c.loop-key.cursor c.next_where-next.new.cursor c.in-Ok-Some.key
     c.loop-key.invariant.1 (omega arith) (omega arith) gives.0.was.0 gives.1
 
 pub loop-key-preserved-else-not-add : goal.loop-key-preserved-else-not-add
 loop-key-preserved-else-not-add g c =
     let whole : c.next_where-next.result ≡ Ok (Some (c.in-Ok-Some.key, c.in-Ok-Some.value)) =
-    c.in-Ok-Some.is ∙ ap Ok (rw c.in-Ok-Some.is at c.in-Ok-Some.field-0-is) in
-    let P : Result (Option (ℕ × ℕ)) Refusal → Type 0 =
-    λ answer. CallsNextWhere (as_member c.args.self.now c.loop-key.pass)
-    (as_member c.args.self.now c.next_where-next.new.pass) c.loop-key.cursor c.next_where-next.new.cursor c.args.budget
-    answer in (
+    c.in-Ok-Some.is ∙ ap Ok (rw c.in-Ok-Some.is at c.in-Ok-Some.field-0-is) in (
       gathered_on _ c.args.budget c.loop-key.invariant.0 c.in-Ok-Some.key c.in-Ok-Some.value
-          (subst P whole c.next_where-next.ensures)
+          (answered_as whole c.next_where-next.ensures)
           (c.add.ensures.added _ c.loop-key.invariant.0.are c.if-not-add.false),
       omega arith,
     )
@@ -65,11 +55,7 @@ pub returns-in-Ok-None : goal.returns-in-Ok-None
 returns-in-Ok-None g c =
     let whole : c.next_where-next.result ≡ Ok None =
     c.in-Ok-None.is ∙ ap Ok (rw c.in-Ok-None.is at c.in-Ok-None.field-0-is) in
-    let P : Result (Option (ℕ × ℕ)) Refusal → Type 0 =
-    λ answer. CallsNextWhere (as_member c.args.self.now c.loop-key.pass)
-    (as_member c.args.self.now c.next_where-next.new.pass) c.loop-key.cursor c.next_where-next.new.cursor c.args.budget
-    answer in
-    let y = subst P whole c.next_where-next.ensures in
+    let y = answered_as whole c.next_where-next.ensures in
     let x = c.loop-key.invariant.0 in
     let over = gone_over _ c.args.budget x.lists c.law.ensures.start y in
     goes_over _ c.args.budget x.lists (Ok c.loop-key.gathered) y
@@ -77,11 +63,7 @@ returns-in-Ok-None g c =
 
 pub returns-then-eq : goal.returns-then-eq
 returns-then-eq g c =
-    let P : Result (Option (ℕ × ℕ)) Refusal → Type 0 =
-    λ answer. CallsNextWhere (as_member c.args.self.now c.loop-key.pass)
-    (as_member c.args.self.now c.next_where-next.new.pass) c.loop-key.cursor c.next_where-next.new.cursor c.args.budget
-    answer in
-    let y = subst P c.in-Err.is c.next_where-next.ensures in
+    let y = answered_as c.in-Err.is c.next_where-next.ensures in
     let x = c.loop-key.invariant.0 in
     goes_over _ c.args.budget x.lists _ y tt (stands_short _ c.args.budget x.lists c.in-Err.refusal c.law.ensures y (stood c.loop-key.cursor c.next_where-next.new.cursor (sym c.eq.ensures ∙ c.if-eq.true)))
 
@@ -91,20 +73,12 @@ elsewhere g c = stood_not c.loop-key.cursor c.next_where-next.new.cursor (sym c.
 
 pub loop-key-smaller : goal.loop-key-smaller
 loop-key-smaller g c =
-    let P : Result (Option (ℕ × ℕ)) Refusal → Type 0 =
-    λ answer. CallsNextWhere (as_member c.args.self.now c.loop-key.pass)
-    (as_member c.args.self.now c.next_where-next.new.pass) c.loop-key.cursor c.next_where-next.new.cursor c.args.budget
-    answer in
-    let y = subst P c.in-Err.is c.next_where-next.ensures in
+    let y = answered_as c.in-Err.is c.next_where-next.ensures in
     let later = later_bucket y.iterates.refused.moved (elsewhere g c) in
     nearer_later c.loop-key.cursor c.next_where-next.new.cursor c.loop-key.invariant.1 (omega arith) (omega arith) later
 
 pub loop-key-preserved : goal.loop-key-preserved
 loop-key-preserved g c =
-    let P : Result (Option (ℕ × ℕ)) Refusal → Type 0 =
-    λ answer. CallsNextWhere (as_member c.args.self.now c.loop-key.pass)
-    (as_member c.args.self.now c.next_where-next.new.pass) c.loop-key.cursor c.next_where-next.new.cursor c.args.budget
-    answer in
-    let y = subst P c.in-Err.is c.next_where-next.ensures in
+    let y = answered_as c.in-Err.is c.next_where-next.ensures in
     let later = later_bucket y.iterates.refused.moved (elsewhere g c) in
     (gathered_later _ c.args.budget c.loop-key.invariant.0 c.in-Err.refusal y later, omega arith)

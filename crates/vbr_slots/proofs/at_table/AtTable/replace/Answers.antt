@@ -3,9 +3,8 @@ use Rattle.vbr_slots.proofs.Steppers.{well_after}
 use Rattle.vbr_slots.proofs.at_table.AtTable.replace.Goals as goal
 
 pub invariant_of-stepper : goal.invariant_of-stepper
-invariant_of-stepper g c =
-    well_after c.stepper.inside _ c.exchange-found.ensures refl (search rules) c.stepper.invariant
+invariant_of-stepper g c = well_after c.stepper.inside c.exchange-found.ensures refl (search rules) c.stepper.invariant
 
 pub invariant_of-stepper-2 : goal.invariant_of-stepper-2
 invariant_of-stepper-2 g c =
-    well_after c.stepper.inside _ c.exchange-found.ensures refl (search rules) c.stepper.invariant
+    well_after c.stepper.inside c.exchange-found.ensures refl (search rules) c.stepper.invariant

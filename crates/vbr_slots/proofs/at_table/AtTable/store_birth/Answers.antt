@@ -14,7 +14,7 @@ invariant_of-stepper g c =
     let trace = ap (λ (v : PassView). v.trace) c.stepper.view_is ∙ c.leave_pool.ensures.trace in
     let left = ap (λ (v : PassView). v.pool) c.stepper.view_is ∙ c.leave_pool.ensures.pool in
     let start = ap (λ (t : Trace). t.start) trace ∙ c.args.self.now.own.1 in
-    well_after p _ d refl
+    well_after p d refl
     (pool_born p.runner c.store.new.runner c.args.slot _ _ p.pool.items p.hand d
     (subst (λ (s : Start). c.args.slot < s.shape.slots) (sym start) c.requires.slot)
     (subst (λ (xs : List ℕ). ¬ (Contains xs c.args.slot)) (sym left)

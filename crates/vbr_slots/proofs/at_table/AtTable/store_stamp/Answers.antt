@@ -3,4 +3,4 @@ use Rattle.vbr_slots.proofs.Steppers.{well_after}
 use Rattle.vbr_slots.proofs.at_table.AtTable.store_stamp.Goals as goal
 
 pub invariant_of-stepper : goal.invariant_of-stepper
-invariant_of-stepper g c = well_after c.stepper.inside _ c.store.ensures refl (search rules) c.stepper.invariant
+invariant_of-stepper g c = well_after c.stepper.inside c.store.ensures refl (search rules) c.stepper.invariant

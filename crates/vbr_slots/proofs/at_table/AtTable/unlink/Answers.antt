@@ -27,7 +27,7 @@ invariant_of-stepper g c =
     let accepted : Accepts p.runner.start (knows p.runner) step =
     subst (λ (t : Trace). Accepts t.start (knows t) step) (sym (ap (λ (v : PassView). v.trace) c.stepper.view_is))
     mine in
-    well_after p p.hand d refl
+    well_after p d refl
     (pool_unlinked p.runner c.exchange-found.new.runner c.args.pred c.args.expected c.args.slot c.exchange-found.result
     p.pool.items p.hand c.stepper.invariant.start accepted d c.stepper.invariant.pool)
     c.stepper.invariant

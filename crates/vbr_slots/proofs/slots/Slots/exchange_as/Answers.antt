@@ -1,8 +1,8 @@
-use Rattle.std.proofs.Common.{◌==◌, refl, sym, ap, ◌∙◌}
+use Rattle.std.proofs.Common.{◌==◌, sym, ap, ◌∙◌, rules}
 use prog.Atomic.{either}
 use Rattle.vbr_machine.specs.Machine.{word_made}
 use Rattle.vbr_slots.proofs.Learning.{shows_itself, by_either}
-use Rattle.vbr_slots.proofs.Steps.{asks_alone, stepped}
+use Rattle.vbr_slots.proofs.Steps.{asks_alone, steps_did, steps_sound}
 use Rattle.vbr_slots.proofs.slots.Slots.exchange_as.Goals as goal
 
 pub compare_exchange-found-requires : goal.compare_exchange-found-requires
@@ -14,13 +14,7 @@ compare_exchange-found-requires g c =
     (shows_itself c.args.step) c.requires.accepted
 
 pub invariant_of-runner : goal.invariant_of-runner
-invariant_of-runner g c =
-    (stepped c.runner.invariant c.runner.view_is c.requires.own c.requires.named
-    (record c.runner.inside { seat = c.compare_exchange-found.new.seat; epoch = c.keep_epoch.new.epoch })
-    c.compare_exchange-found.ensures.2 c.compare_exchange-found.ensures.0 (refl, refl, c.keep_epoch.ensures)).sound
+invariant_of-runner g c = search (rules, steps_sound)
 
 pub returns : goal.returns
-returns g c =
-    (stepped c.runner.invariant c.runner.view_is c.requires.own c.requires.named
-    (record c.runner.inside { seat = c.compare_exchange-found.new.seat; epoch = c.keep_epoch.new.epoch })
-    c.compare_exchange-found.ensures.2 c.compare_exchange-found.ensures.0 (refl, refl, c.keep_epoch.ensures)).did
+returns g c = search (rules, steps_did)

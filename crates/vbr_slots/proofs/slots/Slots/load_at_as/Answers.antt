@@ -1,9 +1,9 @@
-use Rattle.std.proofs.Common.{refl, sym, ap, ◌∙◌}
+use Rattle.std.proofs.Common.{sym, ap, ◌∙◌, rules}
 use Rattle.vbr_words.specs.Places as places
 use Rattle.vbr_machine.specs.Machine.{word_made}
 use Rattle.vbr_slots.proofs.Learning.{shows_itself}
 use Rattle.vbr_slots.proofs.LinkIndices.{link_is}
-use Rattle.vbr_slots.proofs.Steps.{asks_alone, stepped}
+use Rattle.vbr_slots.proofs.Steps.{asks_alone, steps_did, steps_sound}
 use Rattle.vbr_slots.proofs.slots.Slots.load_at_as.Goals as goal
 
 pub load-found-requires : goal.load-found-requires
@@ -14,13 +14,7 @@ load-found-requires g c =
     (λ n. sym (ap (λ a. word_made a n) c.requires.access)) (shows_itself c.args.step) c.requires.accepted
 
 pub invariant_of-runner : goal.invariant_of-runner
-invariant_of-runner g c =
-    (stepped c.runner.invariant c.runner.view_is c.requires.own c.requires.named
-    (record c.runner.inside { seat = c.load-found.new.seat; epoch = c.keep_epoch.new.epoch }) c.load-found.ensures.2
-    c.load-found.ensures.0 (refl, refl, c.keep_epoch.ensures)).sound
+invariant_of-runner g c = search (rules, steps_sound)
 
 pub returns : goal.returns
-returns g c =
-    (stepped c.runner.invariant c.runner.view_is c.requires.own c.requires.named
-    (record c.runner.inside { seat = c.load-found.new.seat; epoch = c.keep_epoch.new.epoch }) c.load-found.ensures.2
-    c.load-found.ensures.0 (refl, refl, c.keep_epoch.ensures)).did
+returns g c = search (rules, steps_did)

@@ -1,4 +1,4 @@
-use Rattle.std.proofs.Common.{ℕ, ◌≤◌, length, refl, sym, ap, ◌∙◌, subst, arith}
+use Rattle.std.proofs.Common.{ℕ, ◌≤◌, length, sym, ap, ◌∙◌, subst, arith}
 use Rattle.vbr_machine.specs.Start.{IsStart}
 use Rattle.vbr_slots.specs.Snapshots.{AreReadBy}
 use Rattle.vbr_slots.specs.Views.{TableView}
@@ -27,23 +27,13 @@ pub invariant_of-runner : goal.invariant_of-runner
 invariant_of-runner g c =
     let s = c.split_seat-others.ensures in
     sound_again _ _ c.requires.of_table c.loop-kept.invariant.halting c.in-Some.ensures.items
-    (record {
-      seat = c.split_seat-others.new.seat;
-      opening = c.in-Some.kept.opening;
-      who = c.in-Some.kept.who;
-      epoch = c.in-Some.kept.epoch;
-    }) s.0 s.2 (refl, refl, refl)
+    c.split_seat-others.new.seat s.0 s.2
 
 pub invariant_of-stepper : goal.invariant_of-stepper
 invariant_of-stepper g c =
     let s = c.split_seat-others.ensures in
     well_again _ _ c.requires.of_table c.loop-kept.invariant.halting c.in-Some.ensures.items
-    (record {
-      seat = c.split_seat-others.new.seat;
-      opening = c.in-Some.kept.opening;
-      who = c.in-Some.kept.who;
-      epoch = c.in-Some.kept.epoch;
-    }) s.0 s.2 (refl, refl, refl)
+    c.split_seat-others.new.seat s.0 s.2
 
 pub invariant_of-push : goal.invariant_of-push
 invariant_of-push g c =
@@ -51,12 +41,7 @@ invariant_of-push g c =
     record {
       steps =
           exact_again _ _ c.requires.of_table c.loop-kept.invariant.halting c.in-Some.ensures.items
-          (record {
-            seat = c.split_seat-others.new.seat;
-            opening = c.in-Some.kept.opening;
-            who = c.in-Some.kept.who;
-            epoch = c.in-Some.kept.epoch;
-          }) s.0 s.2 (refl, refl, refl);
+          c.split_seat-others.new.seat s.0 s.2;
     }
 
 pub loop-kept-preserved : goal.loop-kept-preserved
@@ -65,12 +50,7 @@ loop-kept-preserved g c =
     let i = c.loop-kept.invariant in
     record {
       halting = one_again _ _ c.requires.of_table i.halting c.in-Some.ensures.items
-          (record {
-            seat = c.split_seat-others.new.seat;
-            opening = c.in-Some.kept.opening;
-            who = c.in-Some.kept.who;
-            epoch = c.in-Some.kept.epoch;
-          }) s.0 s.2 (refl, refl, refl)
+          c.split_seat-others.new.seat s.0 s.2
           c.in-Ok.ensures.items s.3 s.4;
       room = let room = i.room in let more = c.in-Ok.ensures.capacity in omega arith;
     }

@@ -1,8 +1,8 @@
-use Rattle.std.proofs.Common.{refl, sym, ap}
+use Rattle.std.proofs.Common.{sym, ap, rules}
 use Rattle.vbr_machine.specs.Machine.{word_made}
 use Rattle.vbr_slots.proofs.Learning.{blind}
 use Rattle.vbr_slots.specs.Views.{knows}
-use Rattle.vbr_slots.proofs.Steps.{asks_alone, stepped}
+use Rattle.vbr_slots.proofs.Steps.{asks_alone, steps_did, steps_sound}
 use Rattle.vbr_slots.proofs.slots.Slots.store_as.Goals as goal
 
 pub store-requires : goal.store-requires
@@ -13,13 +13,7 @@ store-requires g c =
     (λ n. blind (knows c.args.runner.now) c.args.step c.args.new c.requires.access c.args.new n) c.requires.accepted
 
 pub invariant_of-runner : goal.invariant_of-runner
-invariant_of-runner g c =
-    (stepped c.runner.invariant c.runner.view_is c.requires.own c.requires.named
-    (record c.runner.inside { seat = c.store.new.seat; epoch = c.keep_epoch.new.epoch }) c.store.ensures.2
-    c.store.ensures.0 (refl, refl, c.keep_epoch.ensures)).sound
+invariant_of-runner g c = search (rules, steps_sound)
 
 pub returns : goal.returns
-returns g c =
-    (stepped c.runner.invariant c.runner.view_is c.requires.own c.requires.named
-    (record c.runner.inside { seat = c.store.new.seat; epoch = c.keep_epoch.new.epoch }) c.store.ensures.2
-    c.store.ensures.0 (refl, refl, c.keep_epoch.ensures)).did
+returns g c = search (rules, steps_did)

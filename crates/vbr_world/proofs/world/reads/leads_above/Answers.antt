@@ -1,51 +1,7 @@
-use Rattle.std.proofs.Common.{ℕ, Option, refl, arith, true≢false, sym, ◌∙◌}
-use Rattle.vbr_machine.specs.Acceptance.{IsBefore}
-use Rattle.vbr_world.proofs.MarkedSearches.{reached, reached_here, never, none_yet, one_turn, same_slot}
 use Rattle.vbr_world.proofs.world.reads.leads_above.Goals as goal
 
-pub loop-init : goal.loop-init
-loop-init c = record { here = refl; none = λ turns lt. absurd (omega arith) }
-
-pub returns-then-is_before : goal.returns-then-is_before
-returns-then-is_before c =
-    let P : Option ℕ → Type 0 = IsBefore c.args.reads.now c.args.key in (
-      λ _. let m =
-          reached P c.args.reads.now c.args.next c.loop.here c.loop.counter c.loop.invariant.here c.args.most
-          (let h = c.loop-test.true in omega arith) (c.is_before.ensures.0 c.if-is_before.true) in
-          record { turns = m.0; within = m.1; before = m.2 },
-      λ _. refl,
-    )
-
-pub returns-then-eq : goal.returns-then-eq
-returns-then-eq c =
-    let P : Option ℕ → Type 0 = IsBefore c.args.reads.now c.args.key in
-    let not : ¬ (P c.loop.here) = λ h. true≢false (sym (c.is_before.ensures.1 h) ∙ c.if-is_before.false) in
-    let still = sym c.past_marked-there.ensures
-    ∙ same_slot c.past_marked-there.result c.loop.here (sym c.eq.ensures ∙ c.if-eq.true) in (
-      λ e. absurd (true≢false (sym e)),
-      λ m. absurd (never P c.args.reads.now c.args.next c.loop.here c.loop.counter c.loop.invariant.here still not
-          c.loop.invariant.none m.turns m.before),
-    )
-
-pub loop-preserved : goal.loop-preserved
-loop-preserved c =
-    let P : Option ℕ → Type 0 = IsBefore c.args.reads.now c.args.key in
-    record {
-      here = c.past_marked-there.ensures
-          ∙ one_turn P c.args.reads.now c.args.next c.loop.here c.loop.counter c.loop.invariant.here;
-      none = none_yet P c.args.reads.now c.args.next c.loop.here c.loop.counter c.loop.invariant.here
-          (λ h. true≢false (sym (c.is_before.ensures.1 h) ∙ c.if-is_before.false)) c.loop.invariant.none;
-    }
-
 pub returns : goal.returns
-returns c =
-    let P : Option ℕ → Type 0 = IsBefore c.args.reads.now c.args.key in
-    let e = c.loop.auto.counter-end in
-    let f = c.loop-test.false in (
-      λ t. let m =
-          reached P c.args.reads.now c.args.next c.loop.here c.loop.counter c.loop.invariant.here c.args.most e
-          (c.is_before-2.ensures.0 t) in record { turns = m.0; within = m.1; before = m.2 },
-      λ m. c.is_before-2.ensures.1
-          (reached_here P c.args.reads.now c.args.next c.loop.here c.loop.counter c.loop.invariant.here
-          c.loop.invariant.none m.turns (let le = m.within in omega arith) m.before),
-    )
+returns c = (
+  λ t. let m = c.leads.ensures.0 t in record { turns = m.turns; within = m.within; before = m.ends },
+  λ m. c.leads.ensures.1 (record { turns = m.turns; within = m.within; ends = m.before }),
+)

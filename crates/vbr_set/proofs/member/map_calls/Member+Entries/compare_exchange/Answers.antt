@@ -5,7 +5,6 @@ use Rattle.vbr_set.proofs.member.map_calls.«Member+Entries».compare_exchange.G
 pub invariant_of-self : goal.invariant_of-self
 invariant_of-self c = record {
   part = search rules;
-  counted = kept once_in_map c.set.result.now _ c.self.inside.pass c.compare_exchange.new.pass c.args.budget
-      c.compare_exchange.result c.set.ensures c.compare_exchange.ensures c.self.inside.balance c.self.invariant.counted
+  counted = kept once_in_map c.set.ensures c.compare_exchange.ensures c.self.invariant.counted
       (exchange_keeps c.self.inside.pass.trace.who c.args.key c.args.value c.args.expected);
 }

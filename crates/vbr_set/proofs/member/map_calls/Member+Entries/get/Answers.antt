@@ -5,6 +5,5 @@ use Rattle.vbr_set.proofs.member.map_calls.«Member+Entries».get.Goals as goal
 pub invariant_of-self : goal.invariant_of-self
 invariant_of-self c = record {
   part = search rules;
-  counted = kept once_in_map c.set.result.now _ c.self.inside.pass c.get.new.pass c.args.budget c.get.result
-      c.set.ensures c.get.ensures c.self.inside.balance c.self.invariant.counted (λ given. refl);
+  counted = kept once_in_map c.set.ensures c.get.ensures c.self.invariant.counted (λ given. refl);
 }

@@ -1,13 +1,11 @@
-use Rattle.std.proofs.Common.{rules, ◌∙◌}
+use Rattle.std.proofs.Common.{rules}
 use Rattle.vbr_set.proofs.Balances.{absent_adds, added, once_in_map}
 use Rattle.vbr_set.proofs.member.map_calls.«Member+Entries».get_or_insert.Goals as goal
 
 pub invariant_of-self : goal.invariant_of-self
 invariant_of-self c = record {
   part = search rules;
-  counted = added once_in_map c.set.result.now _ c.self.inside.pass c.get_or_insert-answer.new.pass c.args.budget
-      c.get_or_insert-answer.result c.set.ensures c.get_or_insert-answer.ensures c.self.inside.balance
-      c.self.invariant.counted c.one_if_wanted.result (search rules) (search rules)
-      (c.one_if_wanted.ensures
-      ∙ absent_adds c.self.inside.pass.trace.who c.args.key c.args.value c.get_or_insert-answer.result);
+  counted = added once_in_map c.set.ensures c.get_or_insert-answer.ensures c.self.invariant.counted _
+      c.one_if_wanted.ensures
+      (absent_adds c.self.inside.pass.trace.who c.args.key c.args.value c.get_or_insert-answer.result);
 }

@@ -1,12 +1,10 @@
-use Rattle.std.proofs.Common.{rules, ◌∙◌}
+use Rattle.std.proofs.Common.{rules}
 use Rattle.vbr_set.proofs.Balances.{added, once_in_map, stored_adds}
 use Rattle.vbr_set.proofs.member.map_calls.«Member+Entries».insert.Goals as goal
 
 pub invariant_of-self : goal.invariant_of-self
 invariant_of-self c = record {
   part = search rules;
-  counted = added once_in_map c.set.result.now _ c.self.inside.pass c.insert-answer.new.pass c.args.budget
-      c.insert-answer.result c.set.ensures c.insert-answer.ensures c.self.inside.balance c.self.invariant.counted
-      c.one_if_yes.result (search rules) (search rules)
-      (c.one_if_yes.ensures ∙ stored_adds c.self.inside.pass.trace.who c.args.key c.args.value c.insert-answer.result);
+  counted = added once_in_map c.set.ensures c.insert-answer.ensures c.self.invariant.counted _ c.one_if_yes.ensures
+      (stored_adds c.self.inside.pass.trace.who c.args.key c.args.value c.insert-answer.result);
 }

@@ -1,12 +1,10 @@
-use Rattle.std.proofs.Common.{rules, ◌∙◌}
+use Rattle.std.proofs.Common.{rules}
 use Rattle.vbr_set.proofs.Balances.{added, once_in_map, put_adds}
 use Rattle.vbr_set.proofs.member.map_calls.«Member+Entries».put.Goals as goal
 
 pub invariant_of-self : goal.invariant_of-self
 invariant_of-self c = record {
   part = search rules;
-  counted = added once_in_map c.set.result.now _ c.self.inside.pass c.put-answer.new.pass c.args.budget
-      c.put-answer.result c.set.ensures c.put-answer.ensures c.self.inside.balance c.self.invariant.counted
-      c.one_if_wanted.result (search rules) (search rules)
-      (c.one_if_wanted.ensures ∙ put_adds c.self.inside.pass.trace.who c.args.key c.args.value c.put-answer.result);
+  counted = added once_in_map c.set.ensures c.put-answer.ensures c.self.invariant.counted _ c.one_if_wanted.ensures
+      (put_adds c.self.inside.pass.trace.who c.args.key c.args.value c.put-answer.result);
 }

@@ -5,8 +5,6 @@ use Rattle.vbr_set.proofs.member.map_calls.«Member+Entries».remove.Goals as go
 pub invariant_of-self : goal.invariant_of-self
 invariant_of-self c = record {
   part = search rules;
-  counted = taken once_in_map c.set.result.now _ c.self.inside.pass c.remove-answer.new.pass c.args.budget
-      c.remove-answer.result c.set.ensures c.remove-answer.ensures c.self.inside.balance c.self.invariant.counted
-      c.one_if_wanted.result _ (search rules) (search rules) c.one_if_wanted.ensures
+  counted = taken once_in_map c.set.ensures c.remove-answer.ensures c.self.invariant.counted _ c.one_if_wanted.ensures
       (given_takes c.self.inside.pass.trace.who c.args.key c.remove-answer.result);
 }

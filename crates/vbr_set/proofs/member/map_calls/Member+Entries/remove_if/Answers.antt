@@ -5,8 +5,7 @@ use Rattle.vbr_set.proofs.member.map_calls.«Member+Entries».remove_if.Goals as
 pub invariant_of-self : goal.invariant_of-self
 invariant_of-self c = record {
   part = search rules;
-  counted = taken once_in_map c.set.result.now _ c.self.inside.pass c.remove_if-answer.new.pass c.args.budget
-      c.remove_if-answer.result c.set.ensures c.remove_if-answer.ensures c.self.inside.balance c.self.invariant.counted
-      c.one_if_wanted.result _ (search rules) (search rules) c.one_if_wanted.ensures
+  counted = taken once_in_map c.set.ensures c.remove_if-answer.ensures c.self.invariant.counted _
+      c.one_if_wanted.ensures
       (removal_takes c.self.inside.pass.trace.who c.args.key c.args.expected c.remove_if-answer.result);
 }

@@ -1,6 +1,6 @@
 -- The head stays held.
 use Rattle.vbr_table_tests.proofs.retiring.HeldThrough.{held_through}
-use Rattle.vbr_table_tests.proofs.lost_stores.last_node.Goals as goal
+use Rattle.vbr_table_tests.proofs.retiring.last_node.Goals as goal
 
 pub returns-clause-head : goal.returns-clause-head
 returns-clause-head g c =

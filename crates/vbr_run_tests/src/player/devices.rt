@@ -208,22 +208,47 @@ fn a_flush_that_fails_is_a_write_fault(rt: HostRuntime) {
     }
 }
 
+// Runs the program with these arguments on a faulty script: its exit status, and what it writes. What it doesn't read of
+// standard input is left.
+fn run_on<T: Threads + Wait, F: Read + Drop, O: Fn(&str) -> io::Result<F>, E: Write>(
+    rt: &T,
+    alloc: Global,
+    arguments: &[&str],
+    reader: &mut &[u8],
+    files: &O,
+    errors: &mut E,
+) -> (u8, Vec<u8>)
+    requires { O.IsAlwaysCallable files.now }
+{
+    let mut output = Vec::new(alloc);
+    let status = vbr_run::run(
+        rt,
+        alloc,
+        arguments,
+        reader,
+        files,
+        &mut output,
+        errors,
+        &NoGate,
+    );
+    (status, output)
+}
+
+// A script that is refused.
+const FAULTY: &[u8] = b"0 insert";
+
 /// A writer of standard error that fails is ignored.
 #[test]
 fn failing_errors_are_ignored(rt: HostRuntime) {
-    let arguments = ["vbr_run"];
-    let mut reader = b"0 insert".as_slice();
-    let mut output = Vec::new(rt.alloc());
     let mut errors = SmallWriter::new(rt.alloc(), 9, AtEnd::Fails(ErrorKind::Other));
-    let status = vbr_run::run(
+    let mut reader = FAULTY;
+    let (status, output) = run_on(
         &rt,
         rt.alloc(),
-        arguments.as_slice(),
+        &["vbr_run"],
         &mut reader,
         &no_file,
-        &mut output,
         &mut errors,
-        &NoGate,
     );
     assert_eq!(rt; status, 3);
     assert!(rt; output.is_empty());
@@ -246,23 +271,19 @@ fn brittle_file(_name: &str) -> io::Result<BrittleReader> {
 /// A file that can't be read to its end is reported by its name, and standard input is left as it was.
 #[test]
 fn a_failing_file_is_a_file_fault(rt: HostRuntime) {
-    let arguments = ["vbr_run", "a.script"];
-    let mut reader = b"0 insert".as_slice();
-    let mut output = Vec::new(rt.alloc());
     let mut errors = Vec::new(rt.alloc());
-    let status = vbr_run::run(
+    let mut reader = FAULTY;
+    let (status, output) = run_on(
         &rt,
         rt.alloc(),
-        arguments.as_slice(),
+        &["vbr_run", "a.script"],
         &mut reader,
         &brittle_file,
-        &mut output,
         &mut errors,
-        &NoGate,
     );
     assert_eq!(rt; status, 4);
     assert!(rt; output.is_empty());
-    assert_eq!(rt; reader, b"0 insert".as_slice());
+    assert_eq!(rt; reader, FAULTY);
     let line = b"vbr_run: file fault: can't be read: a.script\n".as_slice();
     assert_eq!(rt; errors.as_slice(), line);
 }

@@ -2,7 +2,7 @@
 use Rattle.std.proofs.Common.{rules}
 use Rattle.vbr_at_table.proofs.Lemmas.{held_kept}
 use Rattle.vbr_table_tests.proofs.lost_exchanges.Kept.{hand_kept, own_replaced}
-use Rattle.vbr_table_tests.proofs.lost_exchanges.replace_another.Goals as goal
+use Rattle.vbr_table_tests.proofs.lost_exchanges.go_on.Goals as goal
 
 pub replace_entry-requires-clause-hand : goal.replace_entry-requires-clause-hand
 replace_entry-requires-clause-hand g c = hand_kept c.args.hand c.read_entry.ensures.keeps c.requires.hand

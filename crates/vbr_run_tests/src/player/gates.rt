@@ -4,11 +4,9 @@ use crate::player::{expect_map_totals, expect_totals};
 use std::alloc::Global;
 use std::hint::spin_loop;
 use std::process::Abort;
-use std::sync::Wait;
 use std::sync::atomic::{AtomicBool, AtomicU32, Ordering};
 use std::test::Fail;
-use std::thread::Threads;
-use vbr_run::{Config, Gate, MapTotals, Reply, Totals, play, play_map};
+use vbr_run::{Config, Gate, Reply, RunError, play, play_map};
 use vbr_words::Shape;
 use vbr_words::shape::MAX_EPOCH;
 
@@ -21,27 +19,17 @@ fn two_workers() -> Result<Config, Fail> {
     Ok(Config::new(shape, 2, 100_000, false)?)
 }
 
-// Plays a script for two workers at a gate: what is written, and the totals.
-fn play_at<T: Threads + Wait, G: Gate + Sync>(
-    rt: &T,
+// Plays a script for two workers at a gate, by a call of the player: what is written, and the totals.
+fn play_at<G, Told, F: FnOnce(Config, &mut &[u8], &mut Vec<u8>, &G) -> Result<Told, RunError>>(
     alloc: Global,
     mut script: &[u8],
     gate: &G,
-) -> Result<(Vec<u8>, Totals), Fail> {
+    player: F,
+) -> Result<(Vec<u8>, Told), Fail>
+    requires { F.IsAlwaysCallable player }
+{
     let mut output = Vec::new(alloc);
-    let totals = play(rt, alloc, two_workers()?, &mut script, &mut output, gate)?;
-    Ok((output, totals))
-}
-
-// The same of a script that is played on a map.
-fn play_map_at<T: Threads + Wait, G: Gate + Sync>(
-    rt: &T,
-    alloc: Global,
-    mut script: &[u8],
-    gate: &G,
-) -> Result<(Vec<u8>, MapTotals), Fail> {
-    let mut output = Vec::new(alloc);
-    let totals = play_map(rt, alloc, two_workers()?, &mut script, &mut output, gate)?;
+    let totals = player(two_workers()?, &mut script, &mut output, gate)?;
     Ok((output, totals))
 }
 
@@ -95,36 +83,51 @@ impl Gate for Crossing {
     }
 }
 
-// Nobody gave up at a crossing, and this was written. With a player that has one worker play at a time, a wait
-// gives up.
-fn expect_crossed(rt: &impl Abort, gate: &Crossing, output: &[u8], wanted: &[u8]) {
+// A script, and what is written.
+type Played = (&'static [u8], &'static [u8]);
+
+// Plays a script at a crossing, at which nobody gives up, and compares what it writes: gives the totals. With a player
+// that has one worker play at a time, a wait gives up.
+fn cross<Told, F: FnOnce(Config, &mut &[u8], &mut Vec<u8>, &Crossing) -> Result<Told, RunError>>(
+    rt: &impl Abort,
+    alloc: Global,
+    played: Played,
+    player: F,
+) -> Result<Told, Fail>
+    requires { F.IsAlwaysCallable player }
+{
+    let (script, wanted) = played;
+    let gate = Crossing::new();
+    let (output, totals) = play_at(alloc, script, &gate, player)?;
     assert!(rt; !gate.gave_up.load(Ordering::SeqCst));
-    assert_eq!(rt; output, wanted);
+    assert_eq!(rt; output.as_slice(), wanted);
+    Ok(totals)
 }
 
-const INSERTS: &[u8] = b"0 insert 1\n1 insert 2\n";
+const INSERTS: Played = (
+    b"0 insert 1\n1 insert 2\n",
+    b"yes\nyes\ninserted 2\nremoved 0\nfound 0\nrefused 0\nkeys 1 2\n",
+);
 
-const INSERTS_OUTPUT: &[u8] = b"yes\nyes\ninserted 2\nremoved 0\nfound 0\nrefused 0\nkeys 1 2\n";
+const STORES: Played = (
+    b"0 insert 1 70\n1 insert 2 71\n",
+    b"yes\nyes\ninserted 2\nremoved 0\nfound 0\nrefused 0\nentries 1=70 2=71\n",
+);
 
 #[test]
 fn workers_run_at_the_same_time(rt: HostRuntime) -> Result<(), Fail> {
-    let gate = Crossing::new();
-    let (output, totals) = play_at(&rt, rt.alloc(), INSERTS, &gate)?;
-    expect_crossed(&rt, &gate, &output, INSERTS_OUTPUT);
+    let totals = cross(&rt, rt.alloc(), INSERTS, |config, script, output, gate| {
+        play(&rt, rt.alloc(), config, script, output, gate)
+    })?;
     expect_totals(&rt, &totals, [2, 0, 0, 0], 1, &[1, 2]);
     Ok(())
 }
 
-const STORES: &[u8] = b"0 insert 1 70\n1 insert 2 71\n";
-
-const STORES_OUTPUT: &[u8] =
-    b"yes\nyes\ninserted 2\nremoved 0\nfound 0\nrefused 0\nentries 1=70 2=71\n";
-
 #[test]
 fn workers_of_a_map_run_at_the_same_time(rt: HostRuntime) -> Result<(), Fail> {
-    let gate = Crossing::new();
-    let (output, totals) = play_map_at(&rt, rt.alloc(), STORES, &gate)?;
-    expect_crossed(&rt, &gate, &output, STORES_OUTPUT);
+    let totals = cross(&rt, rt.alloc(), STORES, |config, script, output, gate| {
+        play_map(&rt, rt.alloc(), config, script, output, gate)
+    })?;
     expect_map_totals(&rt, &totals, [2, 0, 0, 0], 1, &[(1, 70), (2, 71)]);
     Ok(())
 }
@@ -219,28 +222,42 @@ impl Gate for Recorder {
     }
 }
 
-// A recorder was called for each phase before its lines; and each worker called it for each of its lines once
-// before the call and once after it, with its reply.
-fn expect_recorded(rt: &impl Abort, gate: &Recorder) {
+// Plays a script at a recorder, which is called for each phase before its lines; and each worker calls it for each of
+// its lines once before the call and once after it, with its reply.
+fn expect_recorded<
+    Told: Drop,
+    F: FnOnce(Config, &mut &[u8], &mut Vec<u8>, &Recorder) -> Result<Told, RunError>,
+>(rt: &impl Abort, alloc: Global, calls: Calls, script: &[u8], player: F) -> Result<(), Fail>
+    requires { F.IsAlwaysCallable player }
+{
+    let gate = Recorder::new(calls);
+    play_at(alloc, script, &gate, player)?;
     assert!(rt; !gate.was_misled.load(Ordering::SeqCst));
     assert_eq!(rt; gate.phases.load(Ordering::SeqCst), 3);
     for count in gate.begun.iter().chain(gate.answered.iter()) {
         assert_eq!(rt; count.load(Ordering::SeqCst), 1);
     }
+    Ok(())
 }
 
 #[test]
 fn a_gate_is_told_of_each_phase_and_call(rt: HostRuntime) -> Result<(), Fail> {
-    let gate = Recorder::new(CALLS);
-    play_at(&rt, rt.alloc(), SCRIPT, &gate)?;
-    expect_recorded(&rt, &gate);
-    Ok(())
+    expect_recorded(
+        &rt,
+        rt.alloc(),
+        CALLS,
+        SCRIPT,
+        |config, script, output, gate| { play(&rt, rt.alloc(), config, script, output, gate) },
+    )
 }
 
 #[test]
 fn a_gate_is_told_of_each_phase_and_call_on_a_map(rt: HostRuntime) -> Result<(), Fail> {
-    let gate = Recorder::new(MAP_CALLS);
-    play_map_at(&rt, rt.alloc(), MAP_SCRIPT, &gate)?;
-    expect_recorded(&rt, &gate);
-    Ok(())
+    expect_recorded(
+        &rt,
+        rt.alloc(),
+        MAP_CALLS,
+        MAP_SCRIPT,
+        |config, script, output, gate| { play_map(&rt, rt.alloc(), config, script, output, gate) },
+    )
 }

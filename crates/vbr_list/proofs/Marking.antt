@@ -1,0 +1,32 @@
+-- The mark of a node that was found, once its value was read.
+use Rattle.vbr_list.proofs.Names.{◌≡◌, ℕ, true, Some}
+use Rattle.vbr_list.proofs.Names.{Held, Keeps, knows, Made, Marked, PassView, ReadsIn, Remove, Trace}
+use Rattle.vbr_at_table.specs.Values.{MarksEntry}
+use Rattle.vbr_list.specs.Places.{IsPred, Locates}
+use Rattle.vbr_list.specs.Told.{given_in}
+use Rattle.vbr_list.specs.Valuing.{ReadsValue}
+use Rattle.vbr_list.specs.declared.found.Found.{Found}
+use Rattle.vbr_list.proofs.Moments.{key_found_since}
+use Rattle.vbr_list.proofs.Reaching.{pred_on}
+use Rattle.vbr_list.proofs.Told.{given_same, told_since}
+use Rattle.vbr_list.proofs.ValueReads.{valued_since}
+
+module _ {p q : PassView} {r : Trace} {key value steps : ℕ} {found : Found} {cur : Held} {gone : Marked}
+    (locates : Locates p.trace.start (knows p.trace) key found) (is : found.cur ≡ Some cur)
+    (present : found.present ≡ true) (reads : ReadsIn p q steps) (read : ReadsValue p q cur.at value)
+    (removed : MarksEntry q.trace r cur gone) where
+  -- it is the remove of that value
+  pub mark_made : Made (given_in q.trace Remove key (Some value)) q.trace r
+  mark_made =
+      removed.made key value (key_found_since read.keeps locates is present)
+      (valued_since reads.quiet.same read.value)
+
+  -- and so it is with the reading
+  pub mark_told : Made (given_in p.trace Remove key (Some value)) p.trace r
+  mark_told = told_since reads.quiet (given_same reads.quiet.same Remove key (Some value)) mark_made
+
+  -- the place before the key stays one
+  pub pred_marked : Keeps (knows q.trace) (knows r) → IsPred r.start (knows r) key found.pred
+  pred_marked keeps =
+      pred_on key found.pred mark_made.same keeps
+      (pred_on key found.pred reads.quiet.same read.keeps locates.pred)
