@@ -23,6 +23,11 @@ impl<M> fmt::Debug for CloseAllError<M> {
 }
 
 impl<M> fmt::Display for CloseAllError<M> {
+    ghost use Rattle.std.specs.Prelude.{Some};
+    ghost use Rattle.vbr_set.specs.Messages.{close_all_error_text};
+
+    ghost output = { λ e. Some (close_all_error_text e) };
+
     fn fmt<W: fmt::Write>(&self, f: &mut fmt::Formatter<W>) -> fmt::Result {
         match self {
             CloseAllError::Missing(_) => write!(f, "there are fewer members than were opened"),

@@ -26,6 +26,11 @@ impl<M> fmt::Debug for EndError<M> {
 }
 
 impl<M> fmt::Display for EndError<M> {
+    ghost use Rattle.std.specs.Prelude.{Some};
+    ghost use Rattle.vbr_set.specs.Messages.{end_error_text};
+
+    ghost output = { λ e. Some (end_error_text e) };
+
     fn fmt<W: fmt::Write>(&self, f: &mut fmt::Formatter<W>) -> fmt::Result {
         match self {
             EndError::Lost => write!(f, "a pass never came back"),

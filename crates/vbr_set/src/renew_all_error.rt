@@ -26,6 +26,11 @@ impl<M> fmt::Debug for RenewAllError<M> {
 }
 
 impl<M> fmt::Display for RenewAllError<M> {
+    ghost use Rattle.std.specs.Prelude.{Some};
+    ghost use Rattle.vbr_set.specs.Messages.{renew_all_error_text};
+
+    ghost output = { λ e. Some (renew_all_error_text e) };
+
     fn fmt<W: fmt::Write>(&self, f: &mut fmt::Formatter<W>) -> fmt::Result {
         match self {
             RenewAllError::Missing(_) => write!(f, "there are not as many members as were opened"),
