@@ -37,7 +37,7 @@ class Crate:
 
     def edits(self):
         """Its edits that the prover must refuse, by their paths in it: those that the kit tries, and those that tools/edits does."""
-        folders = [it for it in ("must-fail", "wrong-bodies") if os.path.isdir(f"{self.folder}/{it}")]
+        folders = [it for it in ("must-fail", "wrong-bodies", "wrong-statements") if os.path.isdir(f"{self.folder}/{it}")]
         return [f"{folder}/{it}" for folder in folders for it in sorted(os.listdir(f"{self.folder}/{folder}")) if it.endswith(".edit")]
 
     def stream(self, name):
