@@ -1,5 +1,6 @@
 /* Four threads with budgets that are often too small, on a few keys of one bucket: a call that runs out of steps was disturbed,
-   and what others did at the same time says how much it can have lacked. progress [rounds]
+   and what others did at the same time says how much it can have lacked. Before they begin each handle makes calls that nothing
+   disturbs, with the least budget that is promised to be enough. progress [rounds]
 
    With n nodes in the bucket as the call begins, and m disturbances until it ends, a budget that is refused is below
        (m + 1) * (5 * (n + m) + 11)         for a look-up,
@@ -23,7 +24,9 @@
    before (docs/ARGUMENT.md).
 
    A handle surely has a slot of its own while it has stored fewer keys than slots that it had as the threads began: it then had
-   PREPARED, of keys that it had inserted and removed alone, and only an insert that is answered yes takes one. */
+   PREPARED, of keys that it had inserted and removed alone, and only an insert that is answered yes takes one. The slot that it
+   takes may be of a node that it removed in this epoch, so that the insert advances the epoch and begins anew: alone it does so
+   in most of the inserts here, and needs more than half of the bound. */
 #include "vbr.h"
 
 #include <pthread.h>
@@ -34,7 +37,7 @@
 
 #define CHECK(x) do { if (!(x)) { fprintf(stderr, "progress.c:%d: %s\n", __LINE__, #x); exit(1); } } while (0)
 
-enum { THREADS = 4, CHANGING = 4, MOST_RESTING = 24, PREPARED = 60, CALLS = 1000, AMPLE = 1 << 30 };
+enum { THREADS = 4, CHANGING = 4, MOST_RESTING = 24, PREPARED = 60, ALONE = 40, CALLS = 1000, AMPLE = 1 << 30 };
 enum { SLOTS = MOST_RESTING + CHANGING + THREADS * 64 + PREPARED };
 
 enum kind { LOOK_UP, REMOVE, INSERT, KINDS };
@@ -92,6 +95,15 @@ static struct others before_call(const struct worker *w) {
     return sum;
 }
 
+/* What a budget has to be below that is refused where n nodes are in the bucket, and m disturbances come. */
+static uint64_t bound_of(enum kind kind, uint64_t n, uint64_t m) {
+    switch (kind) {
+    case LOOK_UP: return (m + 1) * (5 * (n + m) + 11);
+    case REMOVE: return (m + 1) * (9 * (n + m) + 11);
+    default: return (m + 2) * (9 * (n + m) + 7) + 68;
+    }
+}
+
 /* A bound for the budget of a call that was refused. */
 static uint64_t bound_after(const struct worker *w, enum kind kind, struct others before) {
     uint64_t begun = 0, able[KINDS] = {0};
@@ -101,19 +113,11 @@ static uint64_t bound_after(const struct worker *w, enum kind kind, struct other
         for (int other = REMOVE; other <= INSERT; other++) able[other] += atomic_load(&it->told[other].able);
     }
     uint64_t removes = able[REMOVE] - before.stored[REMOVE], inserts = able[INSERT] - before.stored[INSERT];
-    uint64_t m = 2 * (removes + inserts) + (begun - before.ended_inserts), n = resting + CHANGING + removes;
-    switch (kind) {
-    case LOOK_UP: return (m + 1) * (5 * (n + m) + 11);
-    case REMOVE: return (m + 1) * (9 * (n + m) + 11);
-    default: return (m + 2) * (9 * (n + m) + 7) + 68;
-    }
+    return bound_of(kind, resting + CHANGING + removes, 2 * (removes + inserts) + (begun - before.ended_inserts));
 }
 
 /* The greatest budget that is tried: twice the bound of a call that nothing disturbs. */
-static uint32_t most(enum kind kind) {
-    uint32_t n = (uint32_t)resting + CHANGING;
-    return 2 * (kind == LOOK_UP ? 5 * n + 11 : kind == REMOVE ? 9 * n + 11 : 18 * n + 82);
-}
+static uint32_t most(enum kind kind) { return 2 * (uint32_t)bound_of(kind, resting + CHANGING, 0); }
 
 static vbr_answer look_up(struct worker *w, uint64_t key, uint32_t budget) {
 #ifdef vbr_has /* over maps, by values.h: a get has the bound of a look-up */
@@ -172,16 +176,29 @@ static void change(struct worker *w, uint32_t budget) {
 #endif
 }
 
+static void fail(enum kind kind, uint32_t budget, uint64_t bound) {
+    fprintf(stderr, "progress: FAILED: one of the %s was refused with a budget of %u, where a budget of %llu was enough\n",
+            names[kind], budget, (unsigned long long)bound);
+    exit(1);
+}
+
 static void judge(struct worker *w, enum kind kind, uint32_t budget, uint64_t bound) {
     struct refusals *refusals = &w->refusals[kind];
-    if (budget >= bound) {
-        fprintf(stderr, "progress: FAILED: one of the %s was refused with a budget of %u, where a budget of %llu was enough\n",
-                names[kind], budget, (unsigned long long)bound);
-        exit(1);
-    }
+    if (budget >= bound) fail(kind, budget, bound);
     refusals->all++;
     refusals->alone += bound <= most(kind) / 2;
     if ((double)budget / (double)bound > refusals->nearest) refusals->nearest = (double)budget / (double)bound;
+}
+
+/* Inserts, finds and removes a key after all others, where nobody else calls: the bounds are those of no disturbance. */
+static void call_alone(struct worker *w) {
+    static const enum kind calls[] = {INSERT, LOOK_UP, REMOVE};
+    for (size_t i = 0; i < sizeof calls / sizeof *calls; i++) {
+        uint32_t budget = (uint32_t)bound_of(calls[i], resting + (i > 0), 0);
+        vbr_answer answer = call(w, calls[i], last_key(), budget);
+        if (answer == VBR_OUT_OF_STEPS) fail(calls[i], budget, budget);
+        CHECK(answer == VBR_YES);
+    }
 }
 
 static void *work(void *of) {
@@ -215,6 +232,7 @@ static void open_set(void) {
         for (int kind = 0; kind < KINDS; kind++) w->told[kind] = (struct told){0};
         for (uint64_t own = 0; own < PREPARED; own++) CHECK(vbr_insert_within(&w->handle, 1000 + own, AMPLE) == VBR_YES);
         for (uint64_t own = 0; own < PREPARED; own++) CHECK(vbr_remove_within(&w->handle, 1000 + own, AMPLE) == VBR_YES);
+        for (int turn = 0; turn < ALONE; turn++) call_alone(w);
     }
 }
 
