@@ -7,7 +7,7 @@ use std::alloc::Global;
 use std::process::Abort;
 use std::test::Fail;
 use vbr_set::set::VbrSet;
-use vbr_set::{Kind, Pass, Shape, VbrMap};
+use vbr_set::{Kind, MapReport, Pass, Shape, VbrMap};
 
 /// Opens a set or a map with these items and one pass.
 pub fn open_alone<N: Kind>(
@@ -25,6 +25,17 @@ pub fn open_alone<N: Kind>(
     Ok((set, pass))
 }
 
+/// Compares the entries of a report, and how many nodes it tells are linked and marked and how many slots are free.
+pub fn expect_report(
+    rt: &impl Abort,
+    report: &MapReport,
+    entries: &[(u64, u64)],
+    counts: (u32, u32, u32),
+) {
+    assert_eq!(rt; report.entries.as_slice(), entries);
+    assert_eq!(rt; (report.live, report.marked, report.free), counts);
+}
+
 /// Closes a map with its one pass, and compares the entries that are left, and how many nodes are linked
 /// and marked and how many slots are free.
 pub fn expect_left(
@@ -39,7 +50,6 @@ pub fn expect_left(
     requires own { IsOf pass.trace map }
 {
     let report = map.close(alloc, Vec::from_array(alloc, [pass])?)?;
-    assert_eq!(rt; report.entries.as_slice(), entries);
-    assert_eq!(rt; (report.live, report.marked, report.free), counts);
+    expect_report(rt, &report, entries, counts);
     Ok(())
 }

@@ -4,6 +4,7 @@ ghost use Rattle.vbr_set.specs.AllMembers.{AreOfOneSet};
 
 use crate::members::{both, expect_insert, expect_remove, fill_two, open_two};
 use std::alloc::Global;
+use std::process::Abort;
 use std::test::Fail;
 use vbr_set::{Member, RenewAllError, Shape};
 
@@ -22,10 +23,15 @@ fn balances_add_up(rt: HostRuntime) -> Result<(), Fail> {
     expect_remove(&rt, &mut other, 7, true);
     expect_remove(&rt, &mut one, 7, false);
     assert!(rt; one.insert(9, 1).is_err());
-    assert_eq!(rt; one.balance(), 2);
-    assert_eq!(rt; other.balance(), -1);
+    expect_counts(&rt, &one, &other, 2, (2, -1));
     assert_eq!(rt; add_up(&one, &other), 1);
     Ok(())
+}
+
+// Compares the slots of a set, and the balances of two of its members.
+fn expect_counts(rt: &impl Abort, one: &Member, other: &Member, slots: u32, balances: (i64, i64)) {
+    assert_eq!(rt; one.shape().slots(), slots);
+    assert_eq!(rt; (one.balance(), other.balance()), balances);
 }
 
 // Lets members go on over a set of another shape. What found no memory left them, so it is tried again.
@@ -58,10 +64,8 @@ fn renew_both(alloc: Global, one: Member, other: Member, slots: u32) -> Option<(
 fn members_are_renewed(rt: HostRuntime) -> Result<(), Fail> {
     let (one, other) = fill_two(&rt, rt.alloc()).expect(&rt, "there is memory");
     let (mut one, mut other) = renew_both(rt.alloc(), one, other, 8).expect(&rt, "it is renewed");
-    assert_eq!(rt; one.shape().slots(), 8);
+    expect_counts(&rt, &one, &other, 8, (2, 0));
     assert_eq!(rt; one.pass().epoch(), 1);
-    assert_eq!(rt; one.balance(), 2);
-    assert_eq!(rt; other.balance(), 0);
     expect_remove(&rt, &mut other, 7, true);
     expect_insert(&rt, &mut one, 5, false);
     assert_eq!(rt; add_up(&one, &other), 1);
@@ -73,8 +77,7 @@ fn members_are_renewed(rt: HostRuntime) -> Result<(), Fail> {
 fn renewal_has_no_room(rt: HostRuntime) -> Result<(), Fail> {
     let (one, other) = fill_two(&rt, rt.alloc()).expect(&rt, "there is memory");
     let (mut one, other) = renew_both(rt.alloc(), one, other, 1).expect(&rt, "it is given back");
-    assert_eq!(rt; one.shape().slots(), 2);
-    assert_eq!(rt; other.balance(), 1);
+    expect_counts(&rt, &one, &other, 2, (1, 1));
     expect_insert(&rt, &mut one, 5, false);
     Ok(())
 }

@@ -16,13 +16,19 @@ const BUDGET: u32 = 1_000;
 // How many keys: two whole batches, and one key more.
 const MANY: usize = 33;
 
-// Two members of a set with the keys 1, 3 and so on, below as many as are looked up.
+// Puts in the keys 1, 3 and so on, below as many as are looked up.
+fn insert_odd(member: &mut Member) -> Result<(), Refusal> {
+    for i in 0..MANY / 2 {
+        member.insert(2 * i as u64 + 1, BUDGET)?;
+    }
+    Ok(())
+}
+
+// Two members of a set with these keys.
 fn open_odd(alloc: Global) -> Option<(Member, Member)> {
     let members = Member::open(alloc, Shape::new(64, 16, 100).ok()?, 2).ok()?;
     let [mut one, other] = <[Member; 2]>::try_from(members).ok()?;
-    for i in 0..MANY / 2 {
-        one.insert(2 * i as u64 + 1, BUDGET).ok()?;
-    }
+    insert_odd(&mut one).ok()?;
     Some((one, other))
 }
 
@@ -103,33 +109,32 @@ fn few_keys(rt: HostRuntime) -> Result<(), Fail> {
     assert_eq!(rt; single[0], Ok(true));
     let mut twice = [Ok(false); 3];
     one.has_all(&[7, 8, 7], &mut twice, BUDGET);
-    assert_eq!(rt; twice[0], Ok(true));
-    assert_eq!(rt; twice[1], Ok(false));
-    assert_eq!(rt; twice[2], Ok(true));
+    assert_eq!(rt; twice, [Ok(true), Ok(false), Ok(true)]);
     Ok(())
+}
+
+// A member of a set with eight buckets, the first of which has the keys 0, 8 and 16.
+fn open_eights(alloc: Global) -> Option<Member> {
+    let mut member = Member::open(alloc, Shape::new(8, 8, 100).ok()?, 1)
+        .ok()?
+        .pop()?;
+    for i in 0..3u64 {
+        member.insert(8 * i, BUDGET).ok()?;
+    }
+    Some(member)
 }
 
 /// A key whose bucket is too long for the budget is refused, and those after it are answered. With twenty
 /// steps a walk comes to the first node and leaves eight steps, but not to the second.
 #[test]
 fn keys_are_refused_by_themselves(rt: HostRuntime) -> Result<(), Fail> {
-    let Ok(mut members) = Member::open(rt.alloc(), Shape::new(8, 8, 100)?, 1) else {
+    let Some(mut member) = open_eights(rt.alloc()) else {
         panic!(rt; "no memory")
     };
-    let Some(mut member) = members.pop() else {
-        panic!(rt; "no member")
-    };
-    for i in 0..3u64 {
-        assert_eq!(rt; member.insert(8 * i, BUDGET), Ok(true));
-    }
     let refused = Err(Refusal::OutOfSteps { used: 13 });
     let mut answers = [Ok(false); 5];
     member.has_all(&[0, 8, 1, 16, 0], &mut answers, 20);
-    assert_eq!(rt; answers[0], Ok(true));
-    assert_eq!(rt; answers[1], refused);
-    assert_eq!(rt; answers[2], Ok(false));
-    assert_eq!(rt; answers[3], refused);
-    assert_eq!(rt; answers[4], Ok(true));
+    assert_eq!(rt; answers, [Ok(true), refused, Ok(false), refused, Ok(true)]);
     Ok(())
 }
 
@@ -143,24 +148,28 @@ fn expect_by_a_pass<N: Nodes>(rt: &impl Abort, set: &VbrSet<N>, pass: &mut Pass)
 {
     let mut answers = [Ok(false); 3];
     set.has_all(pass, &[9, 2, 1], &mut answers, 20);
-    assert_eq!(rt; answers[0], Err(Refusal::OutOfSteps { used: 13 }));
-    assert_eq!(rt; answers[1], Ok(false));
-    assert_eq!(rt; answers[2], Ok(true));
+    let refused = Err(Refusal::OutOfSteps { used: 13 });
+    assert_eq!(rt; answers, [refused, Ok(false), Ok(true)]);
     assert_eq!(rt; set.has(pass, 9, BUDGET), Ok(true));
 }
 
-/// The same by a pass beside its set, or its map, which has the values too.
+/// The same by a pass beside its set.
 #[test]
 fn keys_by_a_pass(rt: HostRuntime) -> Result<(), Fail> {
-    let shape = Shape::new(8, 8, 100)?;
-    let (set, mut pass) = open_alone::<Keys>(rt.alloc(), shape, &[1, 9])?;
+    let (set, mut pass) = open_alone::<Keys>(rt.alloc(), Shape::new(8, 8, 100)?, &[1, 9])?;
     expect_by_a_pass(&rt, &set, &mut pass);
-    let (map, mut pass) = open_alone::<Entries>(rt.alloc(), shape, &[(1, 10), (9, 90)])?;
+    Ok(())
+}
+
+/// The same by a pass beside its map, which has the values too.
+#[test]
+fn entries_by_a_pass(rt: HostRuntime) -> Result<(), Fail> {
+    let entries = [(1, 10), (9, 90)];
+    let (map, mut pass) = open_alone::<Entries>(rt.alloc(), Shape::new(8, 8, 100)?, &entries)?;
     expect_by_a_pass(&rt, &map, &mut pass);
     let mut values = [Ok(None); 3];
     map.get_all(&mut pass, &[9, 2, 1], &mut values, 20);
-    assert_eq!(rt; values[0], Err(Refusal::OutOfSteps { used: 13 }));
-    assert_eq!(rt; values[1], Ok(None));
-    assert_eq!(rt; values[2], Ok(Some(10)));
+    let refused = Err(Refusal::OutOfSteps { used: 13 });
+    assert_eq!(rt; values, [refused, Ok(None), Ok(Some(10))]);
     Ok(())
 }

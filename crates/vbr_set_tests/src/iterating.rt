@@ -23,6 +23,35 @@ fn gives(
     assert_eq!(rt; caller.pass().steps(), steps);
 }
 
+// A list and a count with this budget tell these keys.
+fn lists(
+    rt: &impl Abort,
+    alloc: Global,
+    caller: &mut VbrSetRef,
+    budget: u32,
+    keys: &[u64],
+) -> Result<(), Fail>
+    ensures { caller.new.set ≡ caller.old.set }
+{
+    let told = caller.keys_now(alloc, budget)?;
+    assert_eq!(rt; told.as_slice(), keys);
+    assert_eq!(rt; caller.count_now(budget), Ok(keys.len() as u64));
+    Ok(())
+}
+
+// Goes over 1, in bucket 1 of 4, and 5 and 6, which follow it.
+fn go_over(rt: &impl Abort, caller: &mut VbrSetRef)
+    ensures { caller.new.set ≡ caller.old.set }
+{
+    let mut cursor = Cursor::first();
+    gives(rt, caller, &mut cursor, Some(1), 11);
+    gives(rt, caller, &mut cursor, Some(5), 24);
+    gives(rt, caller, &mut cursor, Some(6), 32);
+    assert_eq!(rt; cursor, Cursor { bucket: 3, from: 0 });
+    gives(rt, caller, &mut cursor, None, 35);
+    gives(rt, caller, &mut cursor, None, 35);
+}
+
 /// Buckets come in their order, and the keys of a bucket ascend; each call makes three steps for each
 /// bucket that it enters, and five for each node that it visits. After the last key of a bucket no call
 /// enters it again.
@@ -30,17 +59,8 @@ fn gives(
 fn keys_come_bucket_by_bucket(rt: HostRuntime) -> Result<(), Fail> {
     let (set, pass) = open_alone::<Keys>(rt.alloc(), Shape::new(8, 4, 10)?, &[1, 5, 6])?;
     let mut caller = set.with_pass(pass);
-    let mut cursor = Cursor::first();
-    gives(&rt, &mut caller, &mut cursor, Some(1), 11);
-    gives(&rt, &mut caller, &mut cursor, Some(5), 24);
-    gives(&rt, &mut caller, &mut cursor, Some(6), 32);
-    assert_eq!(rt; cursor, Cursor { bucket: 3, from: 0 });
-    gives(&rt, &mut caller, &mut cursor, None, 35);
-    gives(&rt, &mut caller, &mut cursor, None, 35);
-    let keys = caller.keys_now(rt.alloc(), 100)?;
-    assert_eq!(rt; keys.as_slice(), [1, 5, 6].as_slice());
-    assert_eq!(rt; caller.count_now(100), Ok(3));
-    Ok(())
+    go_over(&rt, &mut caller);
+    lists(&rt, rt.alloc(), &mut caller, 100, &[1, 5, 6])
 }
 
 /// The greatest key is given too, and nothing behind it.
@@ -104,15 +124,13 @@ fn a_marked_node_after_the_last_key_is_passed(rt: HostRuntime) -> Result<(), Fai
 
 /// A list of all keys goes on where a call was refused and has come further. With 20 steps a call goes over
 /// five empty buckets: 11 steps give the first key, twelve calls of 15 come to the last empty bucket, 11
-/// steps give the other key, and the end takes none.
+/// steps give the other key, and the end takes none. A count makes the same steps.
 #[test]
 fn a_list_goes_on_behind_a_refusal(rt: HostRuntime) -> Result<(), Fail> {
     let (set, pass) = open_alone::<Keys>(rt.alloc(), Shape::new(8, 64, 10)?, &[1, 63])?;
     let mut caller = set.with_pass(pass);
-    let keys = caller.keys_now(rt.alloc(), 20)?;
-    assert_eq!(rt; keys.as_slice(), [1, 63].as_slice());
-    assert_eq!(rt; caller.pass().steps(), 11 + 12 * 15 + 11);
-    assert_eq!(rt; caller.count_now(20), Ok(2));
+    lists(&rt, rt.alloc(), &mut caller, 20, &[1, 63])?;
+    assert_eq!(rt; caller.pass().steps(), 2 * (11 + 12 * 15 + 11));
     Ok(())
 }
 
@@ -144,17 +162,24 @@ fn gives_entry(
     assert_eq!(rt; caller.next_entry(cursor, 100), Ok(expected));
 }
 
+// Goes over 2, 5 and 9, of which the first and the last have the same value.
+fn go_over_entries(rt: &impl Abort, caller: &mut VbrMapRef)
+    ensures { caller.new.set ≡ caller.old.set }
+{
+    let mut cursor = Cursor::first();
+    gives_entry(rt, caller, &mut cursor, Some((2, 70)));
+    gives_entry(rt, caller, &mut cursor, Some((5, 71)));
+    gives_entry(rt, caller, &mut cursor, Some((9, 70)));
+    gives_entry(rt, caller, &mut cursor, None);
+}
+
 /// Of a map it gives each key with its value.
 #[test]
 fn entries_come_with_their_values(rt: HostRuntime) -> Result<(), Fail> {
     let entries = [(2, 70), (5, 71), (9, 70)];
     let (map, pass) = open_alone::<Entries>(rt.alloc(), Shape::new(4, 2, 10)?, &entries)?;
     let mut caller = map.with_pass(pass);
-    let mut cursor = Cursor::first();
-    gives_entry(&rt, &mut caller, &mut cursor, Some((2, 70)));
-    gives_entry(&rt, &mut caller, &mut cursor, Some((5, 71)));
-    gives_entry(&rt, &mut caller, &mut cursor, Some((9, 70)));
-    gives_entry(&rt, &mut caller, &mut cursor, None);
+    go_over_entries(&rt, &mut caller);
     let all = caller.entries_now(rt.alloc(), 100)?;
     assert_eq!(rt; all.as_slice(), entries.as_slice());
     assert_eq!(rt; caller.count_now(100), Ok(3));

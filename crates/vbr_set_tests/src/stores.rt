@@ -1,7 +1,7 @@
 //! Stores in a map, and removes by a value: each call with each outcome.
 ghost use Rattle.std.specs.Prelude.{◌≡◌};
 
-use crate::alone::{expect_left, open_alone};
+use crate::alone::{expect_left, expect_report, open_alone};
 use std::alloc::Global;
 use std::process::Abort;
 use std::test::Fail;
@@ -140,7 +140,6 @@ fn two_callers_change_a_value(rt: HostRuntime) -> Result<(), Fail> {
     passes.push(one.into_pass())?;
     passes.push(other.into_pass())?;
     let report = map.close(rt.alloc(), passes)?;
-    assert_eq!(rt; report.entries.as_slice(), [].as_slice());
-    assert_eq!(rt; (report.live, report.marked, report.free), (0, 0, 8));
+    expect_report(&rt, &report, &[], (0, 0, 8));
     Ok(())
 }

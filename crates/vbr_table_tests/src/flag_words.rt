@@ -12,6 +12,14 @@ use vbr_slots::{Pass, Slots};
 use vbr_words::{Entries, Keys, Nodes, Place, Shape, place_index, word_count};
 use vbr_world::World;
 
+// All flags are up in a fresh world with seventy slots.
+fn expect_all_up(rt: &impl Abort, world: &World)
+    requires { world.now.start.shape.slots ≡ 70 }
+{
+    assert_eq!(rt; world.word(Place::Flags(0)), 18_446_744_073_709_551_615);
+    assert_eq!(rt; world.word(Place::Flags(1)), 63);
+}
+
 // A fresh world of this shape, which has seventy slots, has so many words; the last two have the flags, all up.
 fn expect_flags(rt: &impl Abort, alloc: Global, shape: Shape, words: usize) -> Result<(), Fail>
     requires { shape.slots ≡ 70 }
@@ -21,9 +29,7 @@ fn expect_flags(rt: &impl Abort, alloc: Global, shape: Shape, words: usize) -> R
         place_index(&shape, Place::Flags(1)),
         words.saturating_sub(1)
     );
-    let world = World::open(alloc, shape, 2)?;
-    assert_eq!(rt; world.word(Place::Flags(0)), 18_446_744_073_709_551_615);
-    assert_eq!(rt; world.word(Place::Flags(1)), 63);
+    expect_all_up(rt, &World::open(alloc, shape, 2)?);
     Ok(())
 }
 

@@ -16,21 +16,23 @@ fn apply(
     }
 }
 
+// Calls of one key, each with the value that it would store, and its answer.
+const CALLS: [(Op, u64, (bool, Option<u64>)); 9] = [
+    (Op::Get, 0, (false, None)),
+    (Op::Insert, 105, (true, Some(105))),
+    (Op::Insert, 205, (false, None)),
+    (Op::Get, 0, (true, Some(105))),
+    (Op::Has, 0, (true, None)),
+    (Op::Remove, 0, (true, Some(105))),
+    (Op::Remove, 0, (false, None)),
+    (Op::Insert, 305, (true, Some(305))),
+    (Op::Get, 0, (true, Some(305))),
+];
+
 #[test]
 fn answers_as_a_map(rt: HostRuntime) -> Result<(), Fail> {
     let mut map = PlainMap::new(rt.alloc());
-    let calls = [
-        (Op::Get, 0, (false, None)),
-        (Op::Insert, 105, (true, Some(105))),
-        (Op::Insert, 205, (false, None)),
-        (Op::Get, 0, (true, Some(105))),
-        (Op::Has, 0, (true, None)),
-        (Op::Remove, 0, (true, Some(105))),
-        (Op::Remove, 0, (false, None)),
-        (Op::Insert, 305, (true, Some(305))),
-        (Op::Get, 0, (true, Some(305))),
-    ];
-    for (op, value, answer) in calls {
+    for (op, value, answer) in CALLS {
         assert_eq!(rt; apply(&mut map, op, 5, value)?, answer, "{op:?}");
     }
     assert_eq!(rt; map.entries()?.as_slice(), [(5, 305)].as_slice());

@@ -95,6 +95,48 @@ fn follow_both(
     Ok((plain, world))
 }
 
+// Compares the value that each slot has in the end.
+fn expect_values(rt: &impl Abort, world: &World, shape: Shape, slots: &[(SlotPlace, u64)])
+    requires { world.now.start.shape ≡ shape }
+{
+    for (slot, (_, value)) in (0..).zip(slots) {
+        let told = word_at(world, shape, Place::Value(slot));
+        assert_eq!(rt; told, Some(*value), "slot {slot}");
+    }
+}
+
+// These calls, each with a hundred more than its key for its value.
+fn with_hundreds(alloc: Global, calls: &[Call]) -> Result<Vec<Call>, AllocError> {
+    let mut valued_calls = Vec::new(alloc);
+    for call in calls {
+        valued_calls.push(valued(call.who, call.op, call.key, call.key.saturating_add(100)))?;
+    }
+    Ok(valued_calls)
+}
+
+// The places of slots that are listed with their values.
+fn places_of(alloc: Global, slots: &[(SlotPlace, u64)]) -> Result<Vec<SlotPlace>, AllocError> {
+    slots.iter().map(|(place, _)| *place).collect(alloc)
+}
+
+// Compares what such a list leaves in a world with values, and its calls with those of a plain map.
+fn expect_valued(
+    rt: &impl Abort,
+    alloc: Global,
+    world: &World,
+    calls: &[Call],
+    slots: &[(SlotPlace, u64)],
+    incarnations: u64,
+    shape: Shape,
+) -> Result<(), Fail>
+    requires { world.now.start.shape ≡ shape }
+{
+    expect_values(rt, world, shape, slots);
+    let calls = with_hundreds(alloc, calls)?;
+    expect(rt, world, shape, &calls, &places_of(alloc, slots)?, incarnations);
+    Ok(expect_map(rt, alloc, &[], &calls)?)
+}
+
 /// Makes the steps of a list on nodes without values and on nodes with them, in one bucket, and compares their words, the
 /// calls, where each slot is and the value that it has in the end, and the number of incarnations. Each call has a
 /// hundred more than its key for its value, where there are any, and is answered as by a plain map.
@@ -109,19 +151,8 @@ pub(crate) fn expect_both(
 ) -> Result<(), Fail> {
     let shape = Shape::new(u32::try_from(slots.len()).unwrap_or(u32::MAX), 1, 10)?;
     let (plain, world) = follow_both(rt, alloc, shape, rows, looks)?;
-    let places: Vec<SlotPlace> = slots.iter().map(|(place, _)| *place).collect(alloc)?;
-    expect(rt, &plain, shape, calls, &places, incarnations);
-    for (slot, (_, value)) in (0..).zip(slots) {
-        let told = word_at(&world, shape.with_values(), Place::Value(slot));
-        assert_eq!(rt; told, Some(*value), "slot {slot}");
-    }
-    let mut valued_calls = Vec::new(alloc);
-    for call in calls {
-        valued_calls.push(valued(call.who, call.op, call.key, call.key.saturating_add(100)))?;
-    }
-    let shape = shape.with_values();
-    expect(rt, &world, shape, &valued_calls, &places, incarnations);
-    Ok(expect_map(rt, alloc, &[], &valued_calls)?)
+    expect(rt, &plain, shape, calls, &places_of(alloc, slots)?, incarnations);
+    expect_valued(rt, alloc, &world, calls, slots, incarnations, shape.with_values())
 }
 
 /// A look-up passes a marked node as it does without values, once its marked link is checked.
@@ -276,39 +307,34 @@ const MARK: Step = Step::Mark {
     expected: 33_554_432,
 };
 
+const STORE: Step = Step::StoreValue { slot: 0, value: 5 };
+
+const LOAD: Step = Step::LoadValue { slot: 0 };
+
+const LOAD_BEYOND: Step = Step::LoadValue { slot: 1 };
+
+// After how many rows, and without which one of them, a pass makes a step, and how it is refused.
+const NEXT_STEPS: [(usize, usize, u32, Step, Option<CoreRefusal>); 12] = [
+    (0, 99, 0, STORE, Some(CoreRefusal::NotOwned)),
+    (2, 99, 0, STORE, Some(CoreRefusal::NotOwned)),
+    (9, 99, 0, STORE, Some(CoreRefusal::NotOwned)),
+    (0, 99, 0, LOAD, Some(CoreRefusal::NotHeld)),
+    (0, 99, 0, LOAD_BEYOND, Some(CoreRefusal::OutOfRange)),
+    (8, 4, 0, PUBLISH, Some(CoreRefusal::OutOfRange)),
+    (8, 99, 0, PUBLISH, None),
+    (18, 16, 1, MARK, Some(CoreRefusal::NotHeld)),
+    (18, 99, 1, MARK, None),
+    (18, 16, 1, GET, Some(CoreRefusal::NotHeld)),
+    (18, 99, 1, GET, None),
+    (18, 16, 1, HAS, None),
+];
+
 /// After so many rows, one of which is left out, the step is refused so, if it is. Row 4 stores the
 /// value, and row 16 loads it.
 #[test]
 fn asks_for_values(rt: HostRuntime) -> Result<(), Fail> {
     let shape = Shape::new(1, 1, 10)?.with_values();
-    let store = Step::StoreValue { slot: 0, value: 5 };
-    let rows = [
-        (0, 99, 0, store, Some(CoreRefusal::NotOwned)),
-        (2, 99, 0, store, Some(CoreRefusal::NotOwned)),
-        (9, 99, 0, store, Some(CoreRefusal::NotOwned)),
-        (
-            0,
-            99,
-            0,
-            Step::LoadValue { slot: 0 },
-            Some(CoreRefusal::NotHeld),
-        ),
-        (
-            0,
-            99,
-            0,
-            Step::LoadValue { slot: 1 },
-            Some(CoreRefusal::OutOfRange),
-        ),
-        (8, 4, 0, PUBLISH, Some(CoreRefusal::OutOfRange)),
-        (8, 99, 0, PUBLISH, None),
-        (18, 16, 1, MARK, Some(CoreRefusal::NotHeld)),
-        (18, 99, 1, MARK, None),
-        (18, 16, 1, GET, Some(CoreRefusal::NotHeld)),
-        (18, 99, 1, GET, None),
-        (18, 16, 1, HAS, None),
-    ];
-    for (count, left_out, pass, step, refusal) in rows {
+    for (count, left_out, pass, step, refusal) in NEXT_STEPS {
         let events = events_but_one(rt.alloc(), &STORED_VALUE, count, left_out, (pass, step))?;
         let wanted = refusal.map(|refusal| (events.len().saturating_sub(1), refusal));
         let stop = stop_of(rt.alloc(), shape, 2, &events);
@@ -397,15 +423,28 @@ fn a_set_has_no_values(rt: HostRuntime) -> Result<(), Fail> {
     Ok(())
 }
 
+// Compares the words at these places.
+fn expect_at(rt: &impl Abort, world: &World, shape: Shape, words: &[(Place, u64)])
+    requires { world.now.start.shape ≡ shape }
+{
+    for (place, word) in words {
+        assert_eq!(rt; word_at(world, shape, *place), Some(*word), "{place:?}");
+    }
+}
+
 /// The value of a key stands beside it; the rest is as with keys alone.
 #[test]
 fn opens_with_entries(rt: HostRuntime) -> Result<(), Fail> {
     let shape = Shape::new(4, 2, 10)?.with_values();
     let world = World::open_with_entries(rt.alloc(), shape, 2, &[(2, 102), (5, 105), (9, 109)])?;
     expect_bare(&rt, rt.alloc(), &world, shape, &OPENED)?;
-    for (slot, value) in [(0, 102), (1, 105), (2, 109), (3, 0)] {
-        assert_eq!(rt; word_at(&world, shape, Place::Value(slot)), Some(value));
-    }
+    let values = [
+        (Place::Value(0), 102),
+        (Place::Value(1), 105),
+        (Place::Value(2), 109),
+        (Place::Value(3), 0),
+    ];
+    expect_at(&rt, &world, shape, &values);
     assert_eq!(rt; world.incarnations(), 3);
     Ok(())
 }
@@ -466,24 +505,31 @@ fn gives_the_values_of_its_opening(rt: HostRuntime) -> Result<(), Fail> {
     Ok(expect_map(&rt, rt.alloc(), &ENTRIES, &calls)?)
 }
 
-/// The same events from the opening on, and then the load of a key that isn't held.
+/// The same events from the opening on.
 #[test]
 fn replays_from_entries(rt: HostRuntime) -> Result<(), Fail> {
     let shape = Shape::new(4, 2, 10)?.with_values();
-    let mut events = events_of(rt.alloc(), &GOT_AND_TAKEN, 9)?;
+    let events = events_of(rt.alloc(), &GOT_AND_TAKEN, 9)?;
     let world = replay_with_entries(rt.alloc(), shape, 1, &ENTRIES, &events)?;
     let calls = [valued(0, Op::Get, 5, 105), valued(0, Op::Remove, 5, 105)];
     assert_eq!(rt; world.calls(), calls.as_slice());
     assert_eq!(rt; world.incarnations(), 3);
-    for (place, word) in [
+    let words = [
         (Place::Head(1), 33_554_434),
         (Place::LinkOf(1), 50_331_651),
         (Place::Value(1), 105),
         (Place::Value(2), 109),
         (Place::Value(3), 0),
-    ] {
-        assert_eq!(rt; word_at(&world, shape, place), Some(word), "{place:?}");
-    }
+    ];
+    expect_at(&rt, &world, shape, &words);
+    Ok(())
+}
+
+/// Then the load of a key that isn't held, and passes that are none or too many.
+#[test]
+fn stops_from_entries(rt: HostRuntime) -> Result<(), Fail> {
+    let shape = Shape::new(4, 2, 10)?.with_values();
+    let mut events = events_of(rt.alloc(), &GOT_AND_TAKEN, 9)?;
     let step = Step::LoadKey { slot: 3 };
     events.push(Event { pass: 0, step })?;
     for (passes, stop) in [
