@@ -134,19 +134,29 @@ fn a_list_goes_on_behind_a_refusal(rt: HostRuntime) -> Result<(), Fail> {
     Ok(())
 }
 
+// A list and a count with this budget are refused so.
+fn list_refused(
+    rt: &impl Abort,
+    alloc: Global,
+    caller: &mut VbrSetRef,
+    budget: u32,
+    refusal: Refusal,
+)
+    ensures { caller.new.set ≡ caller.old.set }
+{
+    let told = caller.keys_now(alloc, budget).err();
+    assert_eq!(rt; told, Some(ListError::Refused(refusal)));
+    assert_eq!(rt; caller.count_now(budget), Err(refusal));
+}
+
 /// With ten steps a call goes over one empty bucket, and none in a bucket with a node: so a list and a count
 /// are refused there, after three steps.
 #[test]
 fn a_list_stops_where_no_call_comes_further(rt: HostRuntime) -> Result<(), Fail> {
     let (set, pass) = open_alone::<Keys>(rt.alloc(), Shape::new(8, 64, 10)?, &[1, 63])?;
     let mut caller = set.with_pass(pass);
-    let refusal = Refusal::OutOfSteps { used: 3 };
-    assert_eq!(rt;
-        caller.keys_now(rt.alloc(), 10).err(),
-        Some(ListError::Refused(refusal))
-    );
-    assert_eq!(rt; caller.pass().steps(), 3 + 3);
-    assert_eq!(rt; caller.count_now(10), Err(refusal));
+    list_refused(&rt, rt.alloc(), &mut caller, 10, Refusal::OutOfSteps { used: 3 });
+    assert_eq!(rt; caller.pass().steps(), 2 * (3 + 3));
     Ok(())
 }
 
@@ -173,6 +183,21 @@ fn go_over_entries(rt: &impl Abort, caller: &mut VbrMapRef)
     gives_entry(rt, caller, &mut cursor, None);
 }
 
+// A list and a count of a map tell these entries.
+fn lists_entries(
+    rt: &impl Abort,
+    alloc: Global,
+    caller: &mut VbrMapRef,
+    entries: &[(u64, u64)],
+) -> Result<(), Fail>
+    ensures { caller.new.set ≡ caller.old.set }
+{
+    let told = caller.entries_now(alloc, 100)?;
+    assert_eq!(rt; told.as_slice(), entries);
+    assert_eq!(rt; caller.count_now(100), Ok(entries.len() as u64));
+    Ok(())
+}
+
 /// Of a map it gives each key with its value.
 #[test]
 fn entries_come_with_their_values(rt: HostRuntime) -> Result<(), Fail> {
@@ -180,8 +205,5 @@ fn entries_come_with_their_values(rt: HostRuntime) -> Result<(), Fail> {
     let (map, pass) = open_alone::<Entries>(rt.alloc(), Shape::new(4, 2, 10)?, &entries)?;
     let mut caller = map.with_pass(pass);
     go_over_entries(&rt, &mut caller);
-    let all = caller.entries_now(rt.alloc(), 100)?;
-    assert_eq!(rt; all.as_slice(), entries.as_slice());
-    assert_eq!(rt; caller.count_now(100), Ok(3));
-    Ok(())
+    lists_entries(&rt, rt.alloc(), &mut caller, &entries)
 }

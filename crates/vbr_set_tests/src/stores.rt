@@ -2,10 +2,11 @@
 ghost use Rattle.std.specs.Prelude.{◌≡◌};
 
 use crate::alone::{expect_left, expect_report, open_alone};
+use crate::map_rows::open_two;
 use std::alloc::Global;
 use std::process::Abort;
 use std::test::Fail;
-use vbr_set::{Refusal, Shape, VbrMap, VbrMapRef};
+use vbr_set::{Refusal, Shape, VbrMapRef};
 use vbr_words::Entries;
 
 // A key that is absent stays so for who replaces, exchanges or removes; a put stores.
@@ -130,15 +131,10 @@ fn take_turns(rt: &impl Abort, first: &mut VbrMapRef, second: &mut VbrMapRef)
 /// The map tells none of the key that both changed once it is removed.
 #[test]
 fn two_callers_change_a_value(rt: HostRuntime) -> Result<(), Fail> {
-    let (map, mut passes) = VbrMap::open(rt.alloc(), Shape::new(8, 1, 20)?, 2)?;
-    let (Some(last), Some(first)) = (passes.pop(), passes.pop()) else {
-        panic!(rt; "too few passes")
-    };
-    let mut one = map.with_pass(first);
-    let mut other = map.with_pass(last);
+    let (map, first, second) = open_two(rt.alloc(), (8, 1, 20))?;
+    let (mut one, mut other) = (map.with_pass(first), map.with_pass(second));
     take_turns(&rt, &mut one, &mut other);
-    passes.push(one.into_pass())?;
-    passes.push(other.into_pass())?;
+    let passes = Vec::from_array(rt.alloc(), [one.into_pass(), other.into_pass()])?;
     let report = map.close(rt.alloc(), passes)?;
     expect_report(&rt, &report, &[], (0, 0, 8));
     Ok(())
