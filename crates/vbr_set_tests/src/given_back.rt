@@ -168,7 +168,7 @@ fn a_closed_member_leaves_its_slots(rt: HostRuntime) -> Result<(), Fail> {
     Ok(())
 }
 
-// A reserve is what is wanted, what there is, and never more than 63.
+// A reserve is what is wanted and what there is. Its slots are nobody else's until they are given back.
 #[test]
 fn members_reserve_slots(rt: HostRuntime) -> Result<(), Fail> {
     let (mut one, mut other): (Member, Member) = open_two(&rt, rt.alloc(), 4);
@@ -180,15 +180,23 @@ fn members_reserve_slots(rt: HostRuntime) -> Result<(), Fail> {
     assert_eq!(rt; other.insert(2, 100), Err(Refusal::NoSlot));
     expect_given(&rt, &mut one, 3);
     expect_insert(&rt, &mut other, 2, true);
+    Ok(())
+}
 
+// A reserve is never more than 63.
+#[test]
+fn a_member_of_a_map_reserves_63(rt: HostRuntime) {
     let mut alone: MapMember = open_alone(&rt, rt.alloc(), 100);
     expect_reserved(&rt, &mut alone, 100, 63, 63);
+}
 
+// Of one slot there is no reserve for another member.
+#[test]
+fn members_of_a_map_reserve_one_slot(rt: HostRuntime) {
     let (mut one, mut other): (MapMember, MapMember) = open_two(&rt, rt.alloc(), 1);
     expect_reserved(&rt, &mut one, 0, 0, 0);
     expect_reserved(&rt, &mut one, 5, 1, 1);
     expect_reserved(&rt, &mut other, 5, 0, 0);
-    Ok(())
 }
 
 // The member wants so many slots and tries so often: it takes so many, a step for each try, and keeps so many then.

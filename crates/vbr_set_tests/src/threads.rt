@@ -2,6 +2,7 @@
 ghost use Rattle.std.specs.Prelude.{◌<◌};
 
 use crate::worker::{KEYS, Worker};
+use std::alloc::Global;
 use std::test::Fail;
 use std::thread::for_each_mut;
 use vbr_set::{MAX_EPOCH, Member, Refusal, Shape};
@@ -24,19 +25,27 @@ fn is_balanced(workers: &mut [Worker], key: usize) -> Result<bool, Refusal>
     Ok(inserted == removed.saturating_add(u32::from(present)))
 }
 
+// Four members of a set of one list, each with random numbers of its own.
+fn open_workers(alloc: Global, seed: u64) -> Result<Vec<Worker>, Fail>
+    requires { seed < 100 }
+{
+    let mut workers = Vec::with_capacity(alloc, 4)?;
+    for member in Member::open(alloc, Shape::new(16, 1, MAX_EPOCH)?, 4)? {
+        let random = 4 * seed + u64::from(member.pass().who());
+        workers
+            .push(Worker::new(member, random))
+            .ok()
+            .ok_or("no room")?;
+    }
+    Ok(workers)
+}
+
 /// Four threads make calls at random on a set of one list, and none runs out of steps. The answers
 /// that they get to inserts and removes of each key are balanced.
 #[test]
 fn four_threads_share_a_list(rt: HostRuntime) -> Result<(), Fail> {
-    let shape = Shape::new(16, 1, MAX_EPOCH)?;
     for seed in 0..100 {
-        let members = Member::open(rt.alloc(), shape, 4)?;
-        let mut workers = Vec::with_capacity(rt.alloc(), 4)?;
-        for member in members {
-            let random = 4 * seed + u64::from(member.pass().who());
-            let worker = Worker::new(member, random);
-            workers.push(worker).ok().ok_or("no room")?;
-        }
+        let mut workers = open_workers(rt.alloc(), seed)?;
         for_each_mut(
             &rt,
             workers.as_mut_slice(),
