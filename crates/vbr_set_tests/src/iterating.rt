@@ -155,7 +155,13 @@ fn list_refused(
 fn a_list_stops_where_no_call_comes_further(rt: HostRuntime) -> Result<(), Fail> {
     let (set, pass) = open_alone::<Keys>(rt.alloc(), Shape::new(8, 64, 10)?, &[1, 63])?;
     let mut caller = set.with_pass(pass);
-    list_refused(&rt, rt.alloc(), &mut caller, 10, Refusal::OutOfSteps { used: 3 });
+    list_refused(
+        &rt,
+        rt.alloc(),
+        &mut caller,
+        10,
+        Refusal::OutOfSteps { used: 3 },
+    );
     assert_eq!(rt; caller.pass().steps(), 2 * (3 + 3));
     Ok(())
 }

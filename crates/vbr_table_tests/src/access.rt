@@ -61,8 +61,18 @@ fn a_moved_epoch_rolls_back(rt: HostRuntime) {
     roll_back_and_read::<HostRuntime, Entries>(&rt, rt.alloc());
 }
 
-// Opens a table with one pass and one entry, 7 with 107. What found no memory left nothing, so it is
-// tried again.
+// Opens a table with one pass and one entry, 7 with 107.
+fn open_once(alloc: Global, shape: Shape) -> Result<(Slots<Entries>, Vec<Pass>), OpenError>
+    requires few { 1 ≤ shape.slots }
+    ensures buckets { IfOk result (λ r. r.0.start.shape.buckets ≡ shape.buckets) }
+    ensures values { IfOk result (λ r. r.0.start.shape.values ≡ true) }
+    ensures count { IfOk result (λ r. r.0.passes ≡ 1) }
+    ensures passes { IfOk result (λ r. r.1.items ≡ new_passes r.0 0 1) }
+{
+    Slots::open_with_entries(alloc, shape, 1, &[(7, 107)])
+}
+
+// The same. What found no memory left nothing, so it is tried again.
 fn open_with_one_entry(
     alloc: Global,
     shape: Shape,
@@ -73,8 +83,8 @@ fn open_with_one_entry(
     ensures count { IfOk result (λ r. r.0.passes ≡ 1) }
     ensures passes { IfOk result (λ r. r.1.items ≡ new_passes r.0 0 1) }
 {
-    match Slots::open_with_entries(alloc, shape, 1, &[(7, 107)]) {
-        Err(OpenError::Memory) => Slots::open_with_entries(alloc, shape, 1, &[(7, 107)]),
+    match open_once(alloc, shape) {
+        Err(OpenError::Memory) => open_once(alloc, shape),
         opened => opened,
     }
 }

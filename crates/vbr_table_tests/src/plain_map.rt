@@ -1,5 +1,6 @@
 //! The plain map on a few calls.
 use std::alloc::AllocError;
+use std::process::Abort;
 use std::test::Fail;
 use vbr_machine::{Op, PlainMap};
 
@@ -29,12 +30,18 @@ const CALLS: [(Op, u64, (bool, Option<u64>)); 9] = [
     (Op::Get, 0, (true, Some(305))),
 ];
 
+// Makes these calls, of key 5, and compares their answers.
+fn expect_answers(rt: &impl Abort, map: &mut PlainMap) -> Result<(), AllocError> {
+    for (op, value, answer) in CALLS {
+        assert_eq!(rt; apply(map, op, 5, value)?, answer, "{op:?}");
+    }
+    Ok(())
+}
+
 #[test]
 fn answers_as_a_map(rt: HostRuntime) -> Result<(), Fail> {
     let mut map = PlainMap::new(rt.alloc());
-    for (op, value, answer) in CALLS {
-        assert_eq!(rt; apply(&mut map, op, 5, value)?, answer, "{op:?}");
-    }
+    expect_answers(&rt, &mut map)?;
     assert_eq!(rt; map.entries()?.as_slice(), [(5, 305)].as_slice());
     Ok(())
 }

@@ -133,7 +133,14 @@ fn expect_valued(
 {
     expect_values(rt, world, shape, slots);
     let calls = with_hundreds(alloc, calls)?;
-    expect(rt, world, shape, &calls, &places_of(alloc, slots)?, incarnations);
+    expect(
+        rt,
+        world,
+        shape,
+        &calls,
+        &places_of(alloc, slots)?,
+        incarnations,
+    );
     Ok(expect_map(rt, alloc, &[], &calls)?)
 }
 
@@ -151,8 +158,23 @@ pub(crate) fn expect_both(
 ) -> Result<(), Fail> {
     let shape = Shape::new(u32::try_from(slots.len()).unwrap_or(u32::MAX), 1, 10)?;
     let (plain, world) = follow_both(rt, alloc, shape, rows, looks)?;
-    expect(rt, &plain, shape, calls, &places_of(alloc, slots)?, incarnations);
-    expect_valued(rt, alloc, &world, calls, slots, incarnations, shape.with_values())
+    expect(
+        rt,
+        &plain,
+        shape,
+        calls,
+        &places_of(alloc, slots)?,
+        incarnations,
+    );
+    expect_valued(
+        rt,
+        alloc,
+        &world,
+        calls,
+        slots,
+        incarnations,
+        shape.with_values(),
+    )
 }
 
 /// A look-up passes a marked node as it does without values, once its marked link is checked.
