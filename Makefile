@@ -174,6 +174,7 @@ gate:
 
 clients: lib
 	@tools/needs clients
+	@bindings/headers
 	@bindings/test
 
 faults: build

@@ -10,6 +10,7 @@ def short(library, program):
     """The trials of `make test`. The library and the program stand in target/ after the tasks of these names."""
     return [
         trial("tools", ["tests/tools"]),
+        trial("headers", ["bindings/headers"]),
         trial("clients", ["bindings/test"], library),
         trial("streams", ["tests/program", "target/vbr_run"], program),
         trial("scripts", ["tests/four-workers", "target/vbr_run"], program),
@@ -21,6 +22,7 @@ def long(library):
     """The trials of the gate, which leaves the program in target/, and the tests of vbr_set_tests as they were built."""
     return [
         trial("tools", ["tests/tools"]),
+        trial("headers", ["bindings/headers"]),
         trial("clients", ["env", "SOAK=100000000", "REALTIME=20000000", "bindings/test"], library),
         trial("faults", ["tests/faults"]),
         trial("kept-inputs", ["tests/fuzz/run", "--kept"], library),
