@@ -24,9 +24,10 @@
    before (docs/ARGUMENT.md).
 
    A handle surely has a slot of its own while it has stored fewer keys than slots that it had as the threads began: it then had
-   PREPARED, of keys that it had inserted and removed alone, and only an insert that is answered yes takes one. The slot that it
-   takes may be of a node that it removed in this epoch, so that the insert advances the epoch and begins anew: alone it does so
-   in most of the inserts here, and needs more than half of the bound. */
+   PREPARED, of keys that it had inserted and removed alone, and only an insert that is answered yes takes one.
+
+   Alone, behind all other keys, a look-up needs its bound, a remove more than half of its own, and an insert more than a third. So
+   calls that take twice the steps are refused, or, of inserts, three times. */
 #include "vbr.h"
 
 #include <pthread.h>
