@@ -26,7 +26,7 @@
    A handle surely has a slot of its own while it has stored fewer keys than slots that it had as the threads began: it then had
    PREPARED, of keys that it had inserted and removed alone, and only an insert that is answered yes takes one.
 
-   Alone, behind all other keys, a look-up needs its bound, a remove more than half of its own, and an insert more than a third. So
+   Alone, of a key after all others, a look-up needs its bound, a remove more than half of its own, and an insert more than a third. So
    calls that take twice the steps are refused, or, of inserts, three times. */
 #include "vbr.h"
 

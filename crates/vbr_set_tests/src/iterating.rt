@@ -23,20 +23,33 @@ fn gives(
     assert_eq!(rt; caller.pass().steps(), steps);
 }
 
-// A list and a count with this budget tell these keys.
+// A list and a count with this budget tell these keys, each in so many steps.
 fn lists(
     rt: &impl Abort,
     alloc: Global,
     caller: &mut VbrSetRef,
     budget: u32,
     keys: &[u64],
+    steps: u64,
 ) -> Result<(), Fail>
     ensures { caller.new.set ≡ caller.old.set }
 {
+    let before = caller.pass().steps();
     let told = caller.keys_now(alloc, budget)?;
+    let between = caller.pass().steps();
     assert_eq!(rt; told.as_slice(), keys);
     assert_eq!(rt; caller.count_now(budget), Ok(keys.len() as u64));
+    expect_steps(rt, caller.pass(), [before, between], steps);
     Ok(())
+}
+
+// Two calls, before which the pass had made so many steps, made so many each.
+fn expect_steps(rt: &impl Abort, pass: &Pass, [before, between]: [u64; 2], steps: u64) {
+    let made = (
+        between.wrapping_sub(before),
+        pass.steps().wrapping_sub(between),
+    );
+    assert_eq!(rt; made, (steps, steps));
 }
 
 // Goes over 1, in bucket 1 of 4, and 5 and 6, which follow it.
@@ -60,7 +73,7 @@ fn keys_come_bucket_by_bucket(rt: HostRuntime) -> Result<(), Fail> {
     let (set, pass) = open_alone::<Keys>(rt.alloc(), Shape::new(8, 4, 10)?, &[1, 5, 6])?;
     let mut caller = set.with_pass(pass);
     go_over(&rt, &mut caller);
-    lists(&rt, rt.alloc(), &mut caller, 100, &[1, 5, 6])
+    lists(&rt, rt.alloc(), &mut caller, 100, &[1, 5, 6], 35)
 }
 
 /// The greatest key is given too, and nothing behind it.
@@ -129,24 +142,27 @@ fn a_marked_node_after_the_last_key_is_passed(rt: HostRuntime) -> Result<(), Fai
 fn a_list_goes_on_behind_a_refusal(rt: HostRuntime) -> Result<(), Fail> {
     let (set, pass) = open_alone::<Keys>(rt.alloc(), Shape::new(8, 64, 10)?, &[1, 63])?;
     let mut caller = set.with_pass(pass);
-    lists(&rt, rt.alloc(), &mut caller, 20, &[1, 63])?;
-    assert_eq!(rt; caller.pass().steps(), 2 * (11 + 12 * 15 + 11));
-    Ok(())
+    let steps = 11 + 12 * 15 + 11;
+    lists(&rt, rt.alloc(), &mut caller, 20, &[1, 63], steps)
 }
 
-// A list and a count with this budget are refused so.
+// A list and a count with this budget are refused so, each after so many steps.
 fn list_refused(
     rt: &impl Abort,
     alloc: Global,
     caller: &mut VbrSetRef,
     budget: u32,
     refusal: Refusal,
+    steps: u64,
 )
     ensures { caller.new.set ≡ caller.old.set }
 {
+    let before = caller.pass().steps();
     let told = caller.keys_now(alloc, budget).err();
+    let between = caller.pass().steps();
     assert_eq!(rt; told, Some(ListError::Refused(refusal)));
     assert_eq!(rt; caller.count_now(budget), Err(refusal));
+    expect_steps(rt, caller.pass(), [before, between], steps);
 }
 
 /// With ten steps a call goes over one empty bucket, and none in a bucket with a node: so a list and a count
@@ -155,14 +171,8 @@ fn list_refused(
 fn a_list_stops_where_no_call_comes_further(rt: HostRuntime) -> Result<(), Fail> {
     let (set, pass) = open_alone::<Keys>(rt.alloc(), Shape::new(8, 64, 10)?, &[1, 63])?;
     let mut caller = set.with_pass(pass);
-    list_refused(
-        &rt,
-        rt.alloc(),
-        &mut caller,
-        10,
-        Refusal::OutOfSteps { used: 3 },
-    );
-    assert_eq!(rt; caller.pass().steps(), 2 * (3 + 3));
+    let refusal = Refusal::OutOfSteps { used: 3 };
+    list_refused(&rt, rt.alloc(), &mut caller, 10, refusal, 3 + 3);
     Ok(())
 }
 
