@@ -108,6 +108,8 @@ static int renewed_with(long n, int *done) {
     CHECK(vbr_open(handle, 2, 8, 2, 100) == VBR_OK);
     CHECK(vbr_insert(&handle[1], 7) == VBR_YES && vbr_insert(&handle[0], 6) == VBR_YES);
     allowed = n;
+    CHECK(vbr_renew_all(handle, 2, 1, 4, 1000) == VBR_NO_ROOM && vbr_slots(&handle[0]) == 8); /* whatever memory there is */
+    allowed = n;
     vbr_answer told = vbr_report_all(handle, 2, keys, 8, &report);
     CHECK(told == VBR_YES || (told == VBR_NO_MEMORY && report.live == 0 && keys[0] == 0));
     vbr_answer renewed = vbr_renew_all(handle, 2, 16, 4, 1000);

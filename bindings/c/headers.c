@@ -1,6 +1,7 @@
 /* The headers in C99 to C23 and C++11 to C++23, with every warning: each name of them is used once, and the program runs. */
 #include "vbr.h"
 #include "vbr_lend.h"
+#include "vbr_shared.h"
 
 #include <stdio.h>
 
@@ -130,8 +131,36 @@ static int check(void) {
     return 0;
 }
 
+static int check_shared(void) {
+    static const uint64_t opening[2] = {3, 4};
+    static const vbr_entry entries[2] = {{3, 30}, {4, 40}};
+    static vbr_shared_handle none; /* of no mapping */
+    vbr_shared_handle *set = &none, *map = &none;
+    vbr_report report = EMPTY;
+    vbr_entry given = {0, 0};
+    THROWS_NONE(vbr_inherit(&none), vbr_begin(&none));
+    CHECK(sizeof(vbr_shared_handle) == 128 && vbr_shared_size(HANDLES, SLOTS, KEYS) > 8u * (KEYS + 5 * SLOTS));
+    CHECK(vbr_open_shared(&set, HANDLES, SLOTS, KEYS, VBR_MAX_EPOCH, opening, 2) == VBR_OK && set != &none);
+    CHECK(vbr_map_open_shared(&map, 1, SLOTS, KEYS, VBR_MAX_EPOCH, entries, 2) == VBR_OK && map != set);
+    CHECK(vbr_open_shared_in(-1, &set, HANDLES, SLOTS, KEYS, VBR_MAX_EPOCH, opening, 2) == VBR_NO_MEMORY);
+    CHECK(vbr_map_open_shared_in(-1, &map, 1, SLOTS, KEYS, VBR_MAX_EPOCH, entries, 2) == VBR_NO_MEMORY);
+    vbr_begin(&set[1]);
+    CHECK(vbr_has(&set[1].set, 3) == VBR_YES && vbr_insert(&set[1].set, 5) == VBR_YES && set[1].both.in_call == 1);
+    vbr_end(&set[1]);
+    CHECK(vbr_inherit(&set[1]) == VBR_YES && vbr_inherit(&none) == VBR_NO_HANDLE);
+    CHECK(vbr_renew_shared(set, SLOTS, KEYS, VBR_MAX_EPOCH) == VBR_OK && vbr_balance(&set[0].set) == 3);
+    CHECK(vbr_map_has(&map[0].map, 3) == VBR_YES && !vbr_gather(map) && !vbr_map_gather(set));
+    CHECK(vbr_map_close_all(vbr_map_gather(map), 1, &given, 0, &report) == VBR_NO_ROOM && report.live == 2);
+    vbr_spread(map);
+    CHECK(vbr_map_remove(&map[0].map, 3, NULL) == VBR_YES);
+    CHECK(vbr_map_close(&map[0].map, &given, 1, &report) == VBR_YES && given.key == 4 && given.value == 40);
+    vbr_end_all(vbr_gather(set), HANDLES);
+    vbr_unmap_shared(set), vbr_unmap_shared(map);
+    return 0;
+}
+
 int main(void) {
-    if (check() || check_maps()) return 1;
+    if (check() || check_maps() || check_shared()) return 1;
     puts("each name of the headers: passed");
     return 0;
 }

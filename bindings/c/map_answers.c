@@ -172,7 +172,7 @@ static int outcomes_of_changes(void) {
             static const vbr_entry others[OTHERS] = {{3, 1}, {7, 2}, {11, 3}, {13, 4}};
             vbr_map_handle one = {0};
             vbr_entry all[OTHERS + 1] = {{0, 0}};
-            uint32_t nodes = OTHERS + (it->had != 0), most = it->by == REMOVE_IF ? 9 * nodes + 11 : 18 * nodes + MAP_SLOTS + 82 + 2 * (it->by == COMPARE_EXCHANGE);
+            uint32_t nodes = OTHERS + (it->had != 0), most = it->by == REMOVE_IF ? 9 * nodes + 11 : 18 * nodes + 82 + 2 * (it->by == COMPARE_EXCHANGE); /* w + 20 is less than 82 */
             CHECK(vbr_map_open_with(&one, 1, MAP_SLOTS, 1, VBR_MAX_EPOCH, others, OTHERS) == VBR_OK);
             for (int asks = 0; asks < 2; asks++) {
                 if (it->had) CHECK(vbr_map_insert(&one, key, it->had) == VBR_YES);

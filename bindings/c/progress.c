@@ -17,6 +17,8 @@
      begun, less those that were not answered yes;
    - a node that is marked as the call begins is one of a remove among these, which then counts no second time;
    - an insert advances the epoch at most once, so the advances are at most the inserts that were under way or begun;
+   - nor are they more than one, and one for each of these removes, since each advance but the first asks for a node that was
+     retired since the one before: so inserts that are begun and refused cost nothing more;
    - the nodes of the bucket as the call begins are at most the keys, and the nodes of removes among these.
    Over maps (values.h) the threads change values too, which counts as a remove and an insert that are answered yes together.
 
@@ -114,7 +116,8 @@ static uint64_t bound_after(const struct worker *w, enum kind kind, struct other
         for (int other = REMOVE; other <= INSERT; other++) able[other] += atomic_load(&it->told[other].able);
     }
     uint64_t removes = able[REMOVE] - before.stored[REMOVE], inserts = able[INSERT] - before.stored[INSERT];
-    return bound_of(kind, resting + CHANGING + removes, 2 * (removes + inserts) + (begun - before.ended_inserts));
+    uint64_t advances = begun - before.ended_inserts < 1 + removes ? begun - before.ended_inserts : 1 + removes;
+    return bound_of(kind, resting + CHANGING + removes, 2 * (removes + inserts) + advances);
 }
 
 /* The greatest budget that is tried: twice the bound of a call that nothing disturbs. */

@@ -39,7 +39,7 @@ enum {
     ABSENT = 0,      /* in place of a value: the key isn't there */
     SHORT = 8,       /* the most calls of a short history */
     SHOWN = 12,      /* how many calls are shown that ended before the one that can't be explained */
-    AMPLE = VBR_AMPLE_STEPS, /* no call runs out of it */
+    AMPLE = VBR_AMPLE_STEPS, /* no call of these runs out of it */
     WAYS = 1 << THREADS
 };
 

@@ -31,7 +31,7 @@ enum {
     STILL = 2,         /* handles that take some slots, and then stand still for the whole round */
     MAX_KEYS = 16384,  /* how many keys that come and go a round has at most */
     MOST = MAX_KEYS + MAX_KEYS / 4, /* and with those that rest */
-    AMPLE = VBR_AMPLE_STEPS, /* no call runs out of it */
+    AMPLE = VBR_AMPLE_STEPS, /* no call of these runs out of it */
     SPENT_LIMIT = 2000 /* a thread ends its round after so many inserts that found the epoch spent */
 };
 

@@ -81,8 +81,9 @@ VBR_NODISCARD uint32_t vbr_version(void) VBR_NOEXCEPT;
        if (1000 > VBR_MAX_MANY_HANDLES) return 1; // else vbr_open_many answers VBR_BAD_COUNT */
 #define VBR_MAX_MANY_HANDLES 65536u
 
-/* The ample budget, which the calls of a handle have unless it is given another: no call on a key runs out of so many steps in
-   short buckets, in a set of any number of slots. A call of a walk may, where it passes many empty buckets.
+/* The ample budget, which the calls of a handle have unless it is given another. In short buckets a call on a key runs out of so many
+   steps only where others disturb it more than a hundred times while it runs: vbr(3) says what disturbs a call, and has the numbers. A
+   call of a walk may, where it passes many empty buckets.
 
        handle[0].steps = VBR_AMPLE_STEPS; // which 0 says too */
 #define VBR_AMPLE_STEPS 400000u
@@ -104,10 +105,12 @@ typedef enum vbr_answer {
     VBR_OK = 0,            /* open, renew_all: done */
     VBR_NO = 0,            /* the answer is no; of vbr_close: others are open;
                               of vbr_next: the walk is at its end;
+                              of vbr_inherit: a call was under way, and the slots of the handle are lost for now;
                               put, get_or_insert: the key was absent, and is inserted;
                               replace, compare_exchange, remove_if: the key is absent, and nothing was changed */
     VBR_YES = 1,           /* the answer is yes; of vbr_close: it was the last, the set is closed;
                               of vbr_next: the next key is given;
+                              of vbr_inherit: no call was under way;
                               replace, put: the key was there, and has the new value; get_or_insert: the key is there;
                               compare_exchange: the key had the value that is expected, and has the new one;
                               remove_if: the key had the value that is expected, and is taken out */
@@ -305,8 +308,9 @@ typedef struct vbr_cursor {
    where no key is left. Else VBR_OUT_OF_STEPS or VBR_NO_HANDLE. Unless it answers VBR_YES no key is written. At VBR_OUT_OF_STEPS
    the cursor keeps how far it has come: call again, and with twice the budget if that may have been too small. It enters the bucket
    of the cursor at its head, and makes three steps for each bucket that it enters, three for a removed node that is still in its
-   list, and five for another. After the last node of a bucket the cursor is before the next bucket, so a walk doesn't enter the
-   bucket again. vbr(3) says what a walk gives. It takes no memory and never waits.
+   list, and five for another; where others disturb it in a bucket, it goes over that one again, once for each time at most. After
+   the last node of a bucket the cursor is before the next bucket, so a walk doesn't enter the bucket again. vbr(3) says what a walk
+   gives, and what budget brings it on. It takes no memory and never waits.
 
        do {
            told = vbr_next(&handle[0], &cursor, &key);
@@ -344,8 +348,8 @@ VBR_NODISCARD uint32_t vbr_slots(const vbr_handle *handle) VBR_NOEXCEPT VBR_NONN
        int is_crowded = 3 > 2 * vbr_buckets(&handle[0]); // three keys, and more than two for each bucket */
 VBR_NODISCARD uint32_t vbr_buckets(const vbr_handle *handle) VBR_NOEXCEPT VBR_NONNULL;
 
-/* The seed that spreads the keys of the set, drawn or given: the one that it was opened with, or, of one from 2^63 on, the one 2^63
-   less, which is its like; 0 for an empty handle.
+/* A seed below 2^63 that spreads keys over the buckets as those of the set are spread: the one that it was opened with, drawn or
+   given, or, of one from 2^63 on, the one 2^63 less; 0 for an empty handle.
 
        uint64_t seed = vbr_seed(&handle[0]); // opens a set whose keys have the same buckets */
 VBR_NODISCARD uint64_t vbr_seed(const vbr_handle *handle) VBR_NOEXCEPT VBR_NONNULL;
@@ -367,9 +371,9 @@ VBR_NODISCARD int64_t vbr_balance(const vbr_handle *handle) VBR_NOEXCEPT VBR_NON
 uint32_t vbr_spare(vbr_handle *handle) VBR_NOEXCEPT VBR_NONNULL;
 
 /* Takes slots out of the pool that all handles share until the handle keeps `wanted` to itself, or 63 if that is less, and returns
-   how many it took: fewer only where it finds no more on a way once round the slots, and 0 for an empty handle. It makes a step for
-   each slot that it takes or that others take before it, and for each 64 slots that it passes. It makes no call of the set, takes no
-   memory and can't fail. vbr_spare gives the slots back.
+   how many it took: fewer only where it finds no more on a way once round the slots, and 0 for an empty handle. It makes at most one
+   step for each slot that it takes, one for each 64 slots of the set, and one for each slot that others take out of that pool
+   meanwhile. It makes no call of the set, takes no memory and can't fail. vbr_spare gives the slots back.
 
    A handle keeps a reserve by itself: 32 slots, or slots / (8 * handles) where that is less, so none in a set with fewer than 8 slots
    for each handle. With 64 slots or more for each it takes them when it is opened or renewed, in as many tries. A try fails at a
@@ -420,9 +424,10 @@ VBR_NODISCARD vbr_answer vbr_report_all(vbr_handle *handles, size_t count, uint6
 /* Lets all `count` handles of a set, in any order, go on over a fresh set of this shape with the keys that were in it: VBR_OK. The
    set keeps its seed. The epoch is 1 again, the first handle's balance is the number of keys, and that of the others is 0. No other
    thread is in a call on one of them. It takes the memory of a report and of an opening with the keys, while the set is still
-   there, whose memory is freed then. Else the handles stay as they were, and go on: VBR_BAD_SHAPE; VBR_NO_HANDLE, one is empty;
-   VBR_MISSING, they are not as many as were opened; VBR_MIXED, two are of different sets, by a probe as in vbr_close_all;
-   VBR_NO_ROOM, there are more keys than slots; VBR_NO_MEMORY.
+   there, whose memory is freed then. Else the handles stay as they were, and go on, by the first of these tests that fails:
+   VBR_BAD_SHAPE; VBR_NO_HANDLE, one is empty; VBR_MISSING, they are not as many as were opened; VBR_MIXED, two are of different
+   sets, by a probe as in vbr_close_all; VBR_NO_ROOM, there are more keys than slots, which the balances of the handles tell where
+   there is no memory for a report; VBR_NO_MEMORY.
 
        vbr_answer renewed = vbr_renew_all(handle, 2, 2048 + 2 * 64, 2048, VBR_MAX_EPOCH); // VBR_OK: twice as large */
 VBR_NODISCARD vbr_answer vbr_renew_all(vbr_handle *handles, size_t count, uint32_t slots, uint32_t buckets,
@@ -741,7 +746,7 @@ VBR_NODISCARD uint32_t vbr_map_slots(const vbr_map_handle *handle) VBR_NOEXCEPT 
        int is_crowded = 3 > 2 * vbr_map_buckets(&map[0]); // three keys, and more than two for each bucket */
 VBR_NODISCARD uint32_t vbr_map_buckets(const vbr_map_handle *handle) VBR_NOEXCEPT VBR_NONNULL;
 
-/* The seed that spreads the keys of the map, as vbr_seed returns that of a set.
+/* A seed that spreads keys as those of the map are spread, as vbr_seed returns one of a set.
 
        uint64_t seed = vbr_map_seed(&map[0]); // opens a map whose keys have the same buckets */
 VBR_NODISCARD uint64_t vbr_map_seed(const vbr_map_handle *handle) VBR_NOEXCEPT VBR_NONNULL;

@@ -83,7 +83,8 @@ class steps {
 public:
     explicit constexpr steps(std::uint32_t most) noexcept : number(most) {}
 
-    /* The budget of a handle that is given no other: no call runs out of it in short buckets, in the largest set too.
+    /* The budget of a handle that is given no other. In short buckets a call runs out of it only where others disturb it more than a
+       hundred times, in the largest set too.
 
            static_assert(vbr::steps::ample() > vbr::steps{100000}); */
     static constexpr steps ample() noexcept { return steps(VBR_AMPLE_STEPS); }
@@ -781,7 +782,7 @@ public:
     std::uint32_t slots() const noexcept { return Kind::slots(&raw); }
     std::uint32_t buckets() const noexcept { return Kind::buckets(&raw); }
 
-    /* The seed that spreads the keys of the set, as vbr_seed returns it.
+    /* A seed that spreads keys as those of the set are spread, as vbr_seed returns it.
 
            again.seed = mine.seed(); // a shape whose sets have each key in the same bucket */
     std::uint64_t seed() const noexcept { return Kind::seed(&raw); }

@@ -15,7 +15,7 @@
    steps and of the others stand for the functions, and those without a budget call these; so pointers to calls go through them
    too, and members of these names keep one name. The sanitizer has a place for each of 16,384 groups of keys, whatever the set,
    and takes a call that would have changed something, and is answered otherwise or refused, for one that has: where keys of a
-   group meet, or after such an answer, it may miss a race. */
+   group meet, or after such an answer, it may miss a race. It knows one process alone, and isn't told of the calls of vbr_shared.h. */
 #ifndef VBR_TSAN_H
 #define VBR_TSAN_H
 

@@ -701,7 +701,7 @@ private:
         size_t room = byte() % MOST_KEYS;
         int want = told != VBR_NO ? told : m->keys.size() > room ? VBR_NO_ROOM : VBR_YES;
         int answer = Of::report_all(all, count, items, room, &report);
-        bool is_short = answer == VBR_NO_MEMORY && refused_one;
+        bool is_short = told == VBR_NO && answer == VBR_NO_MEMORY && refused_one;
         if (answer != want && !is_short && !(told == VBR_MIXED && answer == VBR_MISSING)) fail("the answer of a report by all handles");
         bool untouched = report.epoch == 77 && report.live == 77 && report.marked == 77 && report.free == 77;
         if (answer == VBR_YES || answer == VBR_NO_ROOM) check_report(*m, report);
@@ -716,7 +716,7 @@ private:
         bool bad = s < 1 || s > VBR_MAX_SLOTS || b < 1 || b > VBR_MAX_BUCKETS || e < 1 || e > VBR_MAX_EPOCH;
         int want = bad ? VBR_BAD_SHAPE : told != VBR_NO ? told : m->keys.size() > s ? VBR_NO_ROOM : VBR_NO;
         int answer = Of::renew_all(all, count, static_cast<uint32_t>(s), static_cast<uint32_t>(b), e);
-        bool is_short = !bad && answer == VBR_NO_MEMORY && refused_one;
+        bool is_short = want == VBR_NO && answer == VBR_NO_MEMORY && refused_one;
         if (answer != want && !is_short && !(want == VBR_MIXED && answer == VBR_MISSING)) fail("the answer of a renewal");
         if (answer != VBR_NO) return answer;
         m->slots = static_cast<uint32_t>(s), m->buckets = static_cast<uint32_t>(b), m->last_epoch = e;

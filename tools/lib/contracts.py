@@ -32,7 +32,7 @@ ON_SHARED_WORDS = {
         "halt_all": "join_seat",
         "read_all_as": "load",
     },
-    "warming.rt": {"peek_head": "peek", "peek_node": "peek peek"},
+    "warming.rt": {"peek": "peek"},
     "opening.rt": {"build": "split_seat"},
     "closing.rt": {"close": "load_new_seat join_seat"},
 }

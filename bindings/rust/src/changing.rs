@@ -35,8 +35,8 @@ pub enum Compared<V = u64> {
 ///
 /// A call that gives a key another value is, in the history, a remove of the old value and an insert of the new one, next to
 /// each other: no call finds the key absent in between. One that changed nothing is a look-up. While the other handles stand
-/// still, 18n + slots + 82 steps are enough, with n nodes in the bucket of the key, and two more for a
-/// [`compare_exchange`](PassOf::compare_exchange).
+/// still, 18n + 82 steps are enough, or 18n + w + 20 if that is more, with n nodes in the bucket of the key and w = slots / 64,
+/// rounded up; a [`compare_exchange`](PassOf::compare_exchange) wants two more, and a [`remove_if`](PassOf::remove_if) 9n + 11.
 ///
 /// A new value takes a slot before the slot of the old one is free, so these calls want one slot more than there are keys. The
 /// 64 of the handle in [`Shape`](crate::Shape) cover that.

@@ -76,8 +76,9 @@ pub struct OutOfSteps;
 #[non_exhaustive]
 pub enum Refusal {
     /// The budget is spent. Make the call again, with twice the budget if that may have been too small:
-    /// [`Steps::AMPLE`](crate::Steps::AMPLE) is enough in short buckets. A look-up or a remove with steps enough alone runs out
-    /// of them only where others inserted or removed in the key's bucket meanwhile, or advanced the epoch.
+    /// [`Steps::AMPLE`](crate::Steps::AMPLE) is enough in short buckets, unless others disturb the call more than a hundred
+    /// times. A look-up or a remove with steps enough alone runs out of them only where others inserted or removed in the key's
+    /// bucket meanwhile, or advanced the epoch.
     OutOfSteps,
     /// An insert of an absent key, or a call that gives a key another value, found no slot: its handle had none of its own, and
     /// none was found in the shared pool. Other handles may keep free ones: have them give these back (`spare`), remove keys,
@@ -213,7 +214,7 @@ pub enum RenewError {
     Missing,
     /// There are more keys than slots of the shape.
     Slots,
-    /// There is no memory for the report or for the fresh set.
+    /// There is no memory for the report or for the fresh set, and there are no more keys than slots.
     Memory,
     /// Of [`Table::renew_timeout`]: a handle was on loan until the time was over.
     Lent,

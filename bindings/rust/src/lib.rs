@@ -34,8 +34,9 @@
 //!   [`Refusal::EpochSpent`] until the set is renewed; look-ups and removes go on. So a program that runs for weeks renews its set
 //!   by a clock (`examples/server.rs`).
 //! - **Progress.** Each call ends within its budget, answered or refused. Nobody holds it up: what others can cost it is bounded by
-//!   what they do, and while they stand still, wherever they do, a known budget suffices. Lock-freedom, by which some call is
-//!   always answered where all are busy, isn't claimed, and neither is fairness.
+//!   what they do, and while they stand still, wherever they do, a known budget suffices. A call with a budget that is large
+//!   enough is refused for want of steps only where another handle's update is answered yes meanwhile. So whoever stands still,
+//!   of the callers that go on one is answered within a known number of steps. Fairness, by which each is answered, isn't claimed.
 //! - **Proved** of the library's calls: each answered one takes effect at one step between its beginning and its end, in one legal
 //!   history of what its caller has seen; that memory is reused safely, and what refusals and reports mean.
 //! - **Argued and tested**, and not proved: that calls which a program orders (by a lock, a channel, a join, or a release and an
@@ -120,8 +121,9 @@
 //! # Budgets
 //!
 //! Each call has the budget of its handle, [`Steps::AMPLE`] unless the shape gave another one ([`Shape::with_steps`]), and a form
-//! beside it that takes one for itself: `has_within` beside `has`, and so on. The ample one isn't spent in short buckets, so most
-//! programs never name one. A refused call made no call: give it up, or make it again.
+//! beside it that takes one for itself: `has_within` beside `has`, and so on. In short buckets the ample one is spent only where
+//! others disturb a call more than a hundred times, so most programs never name one. A refused call made no call: give it up, or
+//! make it again.
 //!
 //! # Going over all keys
 //!

@@ -63,8 +63,8 @@ impl<K: Bits, V: Bits> Kind for Entries<K, V> {
 /// The calls of maps alone.
 impl<K: Bits, V: Bits> PassOf<Entries<K, V>> {
     /// Adds a key with its value where it is absent, and says whether it was. A key that is there keeps the value that it has;
-    /// what `HashMap::insert` does, which replaces it, is [`MapPass::put`]. While the other handles stand still, 18n + slots + 82
-    /// steps are enough, with n nodes in the bucket of the key.
+    /// what `HashMap::insert` does, which replaces it, is [`MapPass::put`]. While the other handles stand still, 18n + 82 steps
+    /// are enough, or 18n + w + 20 if that is more, with n nodes in the bucket of the key and w = slots / 64, rounded up.
     ///
     /// ```
     /// # use vbr::{Map, Shape};

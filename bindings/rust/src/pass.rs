@@ -222,7 +222,8 @@ impl<T: Kind> PassOf<T> {
     /// # Errors
     ///
     /// An item is [`OutOfSteps`] where a whole call didn't come to a later bucket, as [`Iter`] says. While the other handles stand
-    /// still that is so only if the budget is below 5n + 11, with n nodes in the bucket.
+    /// still that is so only if the budget is below 5n + 11, with n nodes in the bucket. Where they disturb the call there m times,
+    /// it is so only below (m + 1)(5(n + m) + 11).
     #[inline]
     pub fn iter(&self) -> Iter<'_, T> {
         self.iter_within(self.steps())
@@ -246,7 +247,8 @@ impl<T: Kind> PassOf<T> {
     /// [`PassOf::iter`] says of one is so of these calls of one handle.
     ///
     /// It makes three steps for each bucket that it enters, three for a removed node that is still in its list, and five for
-    /// another; and of a map two more, to read the value. After the last node of a bucket the cursor is before the next bucket.
+    /// another; and of a map two more, to read the value. Where others disturb it in a bucket, it goes over that one again, once
+    /// for each time at most. After the last node of a bucket the cursor is before the next bucket.
     ///
     /// Between two of them the handle makes any other calls.
     ///
@@ -439,9 +441,9 @@ impl<T: Kind> PassOf<T> {
     }
 
     /// Takes slots out of the pool that all handles share until the handle keeps `wanted` to itself, or 63 if that is less, and
-    /// returns how many it took: fewer only where it finds no more on a way once round the slots. It makes a step for each slot
-    /// that it takes or that others take before it, and for each 64 slots that it passes. It makes no call of the set, takes no
-    /// memory and can't fail. [`PassOf::spare`] gives the slots back.
+    /// returns how many it took: fewer only where it finds no more on a way once round the slots. It makes at most one step for
+    /// each slot that it takes, one for each 64 slots of the set, and one for each slot that others take out of that pool
+    /// meanwhile. It makes no call of the set, takes no memory and can't fail. [`PassOf::spare`] gives the slots back.
     ///
     /// A handle keeps a reserve by itself: 32 slots, or slots / (8 * handles) where that is less, so none in a set with fewer
     /// than 8 slots for each handle. With 64 slots or more for each it takes them when it is opened or renewed, in as many

@@ -64,7 +64,8 @@ impl<K: Bits> Kind for Keys<K> {
 /// The calls of sets alone.
 impl<K: Bits> PassOf<Keys<K>> {
     /// Adds a key, and says whether it was absent, as `HashSet::insert` does. While the other handles stand still,
-    /// 18n + slots + 82 steps are enough, with n nodes in the bucket of the key.
+    /// 18n + 82 steps are enough, or 18n + w + 20 if that is more, with n nodes in the bucket of the key and w = slots / 64,
+    /// rounded up.
     ///
     /// ```
     /// # use vbr::{Set, Shape};

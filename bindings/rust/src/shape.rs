@@ -13,8 +13,8 @@ use core::fmt;
 /// pool that all handles share, with one handle, under a key, or in a removed node that is still in its list. A handle keeps
 /// slots to itself, at most 64 between two calls: those of the nodes that its calls took out of their lists, mostly of keys
 /// that it removed. It gives them back when it is closed or dropped, or by `spare`. A remove that is answered yes has taken
-/// its node out of its list, unless its budget ended first; [`Steps::AMPLE`] doesn't end in short buckets. What a
-/// small one leaves in a list comes back with the next insert or remove that passes it, in the same bucket, or with a renewal.
+/// its node out of its list, unless its budget ended first, as [`Steps::AMPLE`] hardly ever does in short buckets. What is
+/// left in a list comes back with the next insert or remove that passes it, in the same bucket, or with a renewal.
 ///
 /// Where no other handle makes a step during an insert, and each stands between two calls, [`Refusal::NoSlot`] comes
 /// only if the keys, the removed nodes that are still in lists, and 64 for each other handle are no fewer than the

@@ -22,8 +22,8 @@
 pub struct Steps(u32);
 
 impl Steps {
-    /// So many that no call runs out of them in short buckets: 400,000, which is no less than 100,000 and a step for each 64 of
-    /// the most slots that there may be.
+    /// So many that in short buckets a call runs out of them only where others disturb it more than a hundred times: 400,000,
+    /// which is no less than 100,000 and a step for each 64 of the most slots that there may be.
     ///
     /// ```
     /// assert!(vbr::Steps::AMPLE.count() >= 100_000 + vbr::MAX_SLOTS / 64);

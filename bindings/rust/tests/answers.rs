@@ -138,14 +138,15 @@ fn budgets_that_are_enough_alone<K: Both>() {
     let (nodes, slots) = (9, 100);
     let some: Vec<_> = (1..=u64::from(nodes)).collect();
     let mut handle = Table::<K>::handles_with(Shape::new(slots, 1, 100), &K::items(&some)).expect("a set").remove(0);
+    let to_insert = Steps::new(18 * nodes + u32::max(82, slots.div_ceil(64) + 20));
     for (key, there) in [(0, false), (4, true), (9, true), (20, false)] {
         assert_eq!(handle.has_within(key, Steps::new(5 * nodes + 11)), Ok(there));
         assert_eq!(K::remove_within(&mut handle, key, Steps::new(9 * nodes + 11)), Ok(there));
-        assert_eq!(K::insert_within(&mut handle, key, Steps::new(18 * nodes + slots + 82)), Ok(true));
+        assert_eq!(K::insert_within(&mut handle, key, to_insert), Ok(true));
         assert_eq!(K::remove_within(&mut handle, key, Steps::new(9 * (nodes + 1) + 11)), Ok(true));
         assert_eq!(handle.has_within(key, Steps::new(5 * nodes + 11)), Ok(false));
         if there {
-            assert_eq!(K::insert_within(&mut handle, key, Steps::new(18 * nodes + slots + 82)), Ok(true));
+            assert_eq!(K::insert_within(&mut handle, key, to_insert), Ok(true));
         }
     }
 }

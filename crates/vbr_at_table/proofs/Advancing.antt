@@ -13,6 +13,7 @@ use Rattle.vbr_machine.specs.Put.{put}
 use Rattle.vbr_machine.specs.Acceptance.{IsUnlinked, MayBear, stamp_in}
 use Rattle.vbr_machine.specs.Knowledge.{Know}
 use Rattle.vbr_machine.specs.Learning.{learn, reread, with_key, with_value, with_link}
+use Rattle.vbr_machine.specs.Needs.{NeedsAdvance}
 use Rattle.vbr_machine.specs.Runs.{IsRun, NoneOf, know_after, Begins}
 use Rattle.vbr_machine.specs.declared.event.Event.{Event}
 use Rattle.vbr_machine.specs.declared.event.Step.{Step}
@@ -31,7 +32,9 @@ use Rattle.vbr_at_table.specs.Advances.{AdvancesOnce, AdvancesWhereNeeded}
 use Rattle.vbr_at_table.specs.StepKinds.{is_advance, is_raise, is_try, is_unlink, advances_or_gives, made_of, advances}
 use Rattle.vbr_at_table.specs.StepKinds.{flags_raised, flags_tried}
 use Rattle.vbr_at_table.specs.KeptSlots.{GoesInTurn, HasSlot, CouldTake, HasFree, StampsUnlinked, KeepsSlots, PoolGrows}
+use Rattle.vbr_at_table.specs.FlagsInNeed.{WinsNoFlag}
 use Rattle.vbr_at_table.specs.KeptSlots.{SharesWhereFull, TakesNoSlot, TriesNoFlag}
+use Rattle.vbr_at_table.proofs.FlagsInNeed.{wins_none, wins_none_on, wins_none_refl}
 use Rattle.vbr_at_table.proofs.InTurn.{did_turn}
 use Rattle.vbr_machine.specs.Disturbances.{one_if}
 
@@ -171,7 +174,14 @@ shared_taken p q r (inr full) low b = inr (omega arith)
 -- ---- what advances no epoch
 
 pub none_refl : (p : PassView) → TakesNoSlot p p
-none_refl p = record { count = refl; kept = keeps_refl p; grows = grows_same p p refl; shared = inl refl; tries = refl }
+none_refl p = record {
+  count = refl;
+  kept = keeps_refl p;
+  grows = grows_same p p refl;
+  shared = inl refl;
+  tries = refl;
+  wins = wins_none_refl p.trace;
+}
 
 pub none_on : {p q r : PassView} → TakesNoSlot p q → TakesNoSlot q r → TakesNoSlot p r
 none_on {p} {q} {r} a b = record {
@@ -180,16 +190,19 @@ none_on {p} {q} {r} a b = record {
   grows = grows_on p q r a.grows b.grows;
   shared = shared_on p q r 1 a.shared (longer q r b.grows) b.shared;
   tries = b.tries ∙ a.tries;
+  wins = wins_none_on a.wins b.wins;
 }
 
 pub none_known : {p q : PassView} → advances q.trace ≡ advances p.trace → flags_raised q.trace ≡ flags_raised p.trace →
-    TriesNoFlag p q → KeepsPool p q → GoesInTurn p.trace q.trace → knows q.trace ≡ knows p.trace → TakesNoSlot p q
-none_known {p} {q} same flags tries pool turn known = record {
+    TriesNoFlag p q → WinsNoFlag p.trace q.trace → KeepsPool p q → GoesInTurn p.trace q.trace →
+    knows q.trace ≡ knows p.trace → TakesNoSlot p q
+none_known {p} {q} same flags tries wins pool turn known = record {
   count = same;
   kept = keeps_known p q pool turn (λ s. ap (λ (k : Know). k.own s) known);
   grows = grows_same p q pool.0;
   shared = inl flags;
   tries = tries;
+  wins = wins;
 }
 
 -- a slot that is given back
@@ -202,6 +215,7 @@ none_back p q slot same pool kept =
       grows = (slot ∷ [], pool);
       shared = inl (ap (λ (t : Trace). flags_raised t) same);
       tries = ap (λ (t : Trace). flags_tried t) same;
+      wins = subst (WinsNoFlag p.trace) (sym same) (wins_none_refl p.trace);
     }
 
 no_advance : (step : Step) → advances_or_gives step ≡ false → is_advance step ≡ false
@@ -317,6 +331,7 @@ did_free {step} {p} {q} d e pool free = record {
   grows = grows_same p q pool;
   shared = inl (same_flags d (no_raise step e));
   tries = same_tries d (no_try step e);
+  wins = wins_none d (no_try step e) (no_raise step e);
 }
 
 -- and where the hand stays too
@@ -373,6 +388,7 @@ module _ {step : Step} {p q r : PassView} {slot n : ℕ} (d : Did step p.trace q
         grows = given_grows;
         shared = given_shared;
         tries = ap (λ (t : Trace). flags_tried t) same ∙ same_tries d other;
+        wins = subst (WinsNoFlag p.trace) (sym same) (wins_none d other dark);
       }
 
 -- steps before the one that would advance the epoch
@@ -392,6 +408,8 @@ once_after {p} {q} {r} a still free b =
       advance = subst (λ (who : ℕ). Begins (b.moment ++ event_of who (Advance b.epoch) ∷ []) r.trace.seen) a.same.who
           b.advance;
       stamps = λ s h. all s (h.0, λ m. free s (m, h.1));
+      needed = subst (λ (x : Start × ℕ). NeedsAdvance (know_after x.0 b.moment x.1) b.epoch)
+          (λ i. (a.same.start i, a.same.who i)) b.needed;
     }
 
 -- and after it
@@ -410,12 +428,14 @@ once_before {p} {q} {r} a seen run same = record {
   last_read = a.last_read;
   advance = begins_trans _ q.trace.seen r.trace.seen a.advance seen;
   stamps = a.stamps;
+  needed = a.needed;
 }
 
 -- the one step itself
 pub once : {p q : PassView} {from r : ℕ} → Did (Advance from) p.trace q.trace r → (knows p.trace).epoch ≡ from →
-    ((s : ℕ) → HasSlot p s → from ≤ stamp_in ((knows p.trace).own s)) → AdvancesOnce p q
-once {p} {q} {from} d last stamps =
+    ((s : ℕ) → HasSlot p s → from ≤ stamp_in ((knows p.trace).own s)) → NeedsAdvance (knows p.trace) from →
+    AdvancesOnce p q
+once {p} {q} {from} d last stamps need =
     let left = others_leave_know p.trace.start p.trace.seen d.rest p.trace.who d.none in
     record {
       count = did_advances d;
@@ -426,6 +446,7 @@ once {p} {q} {from} d last stamps =
       advance = ([], d.seen ∙ sym (append-nil ((p.trace.seen ++ d.rest) ++ event_of p.trace.who (Advance from) ∷ [])));
       stamps = subst (λ (k : Know). (s : ℕ) → CouldTake p k s → from ≤ stamp_in (k.own s)) (sym left)
           (λ s h. stamps s (h.1 h.0));
+      needed = subst (λ (k : Know). NeedsAdvance k from) (sym left) need;
     }
 
 -- steps before and after a part that advances the epoch where it has to

@@ -21,6 +21,7 @@ use Rattle.vbr_at_table.specs.declared.refusal.Refusal.TheVariants.{OutOfSteps}
 use Rattle.vbr_at_table.proofs.InTurn.{did_turn}
 use Rattle.vbr_at_table.proofs.Advancing.{did_stamps, nobody, same_advances, same_flags, same_tries}
 use Rattle.vbr_at_table.proofs.Counting.{counts_none, counts_one}
+use Rattle.vbr_at_table.proofs.FlagsInNeed.{wins_none}
 use Rattle.vbr_at_table.proofs.PoolLists.{stays_in, without_one, without_shorter}
 
 module _ (p q : PassView) (slot : ℕ)
@@ -89,6 +90,7 @@ module _ (p q : PassView) (slot : ℕ)
           one = (let few = without_one slot p.pool apart in let e = ap length pool in omega arith);
           flags = same_flags d refl;
           tries = same_tries d refl;
+          wins = wins_none d refl refl;
           advances = same_advances d refl;
         };
       })

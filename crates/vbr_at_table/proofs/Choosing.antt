@@ -7,6 +7,7 @@ use Rattle.std.proofs.lemmas.List.Elements.{All-contains, Contains-get_or}
 use Rattle.vbr_machine.specs.Start.{IsStart}
 use Rattle.vbr_machine.specs.Acceptance.{MayBear, stamp_in}
 use Rattle.vbr_machine.specs.Knowledge.{Know}
+use Rattle.vbr_machine.specs.Needs.{NeedsAdvance}
 use Rattle.vbr_machine.specs.declared.event.Step.TheVariants.{ReadEpoch, Advance}
 use Rattle.vbr_slots.specs.Calls.{Quiet}
 use Rattle.vbr_slots.specs.PassLaw.{PassLaw}
@@ -27,6 +28,7 @@ use Rattle.vbr_at_table.proofs.InTurn.{did_turn}
 use Rattle.vbr_at_table.proofs.Advancing.{same_advances, same_flags, same_tries, nobody, slots_kept_on, keeps_refl}
 use Rattle.vbr_at_table.proofs.Advancing.{keeps_known, shared_on, none_on, did_none, once, once_after, once_before}
 use Rattle.vbr_at_table.proofs.Counting.{counts_none, counts_one, counts_on, uses_on, uses_more}
+use Rattle.vbr_at_table.proofs.FlagsInNeed.{wins_none, wins_none_on, wins_none_refl}
 use Rattle.vbr_at_table.proofs.Shown.{epoch_told}
 use Rattle.vbr_at_table.proofs.EpochReads.{stamps_reread, stamps_low, read_above}
 
@@ -60,6 +62,7 @@ chooses_refl p =
       kept = keeps_refl p;
       shared = inl refl;
       tries = refl;
+      wins = wins_none_refl p.trace;
       advances = inl refl;
     }
 
@@ -93,6 +96,7 @@ module _ (p q r : PassView) (e budget used : ℕ) (read : Did ReadEpoch p.trace 
         kept = none_then.kept;
         shared = none_then.shared;
         tries = none_then.tries;
+        wins = none_then.wins;
         advances = inl none_then.count;
       }
 
@@ -176,26 +180,35 @@ module _ (p q r : PassView) (e budget used : ℕ) (read : Did ReadEpoch p.trace 
         quiet_again : Quiet s.trace t.trace
         quiet_again = did_quiet again (λ know. refl)
 
-        raised_once : AdvancesOnce p t
-        raised_once =
+        -- the first slot of the pool is one that waits for it
+        in_need : p.pool ≢ [] → NeedsAdvance (knows r.trace) e
+        in_need some =
+            let slot : ℕ = get_or r.pool 0 0 in
+            let has = Contains-get_or r.pool 0 0 (some_slot r.pool (some_then some)) in
+            record { slot = slot; may = may slot has; stamped = high slot has }
+
+        raised_once : p.pool ≢ [] → AdvancesOnce p t
+        raised_once some =
             once_after {p = p} {q = r} {r = t} quiet_then none_then.count none_then.kept.free
             (once_before {p = r} {q = s} {r = t}
-            (once {p = r} {q = s} advance last_read (λ slot has. high slot (held slot has))) quiet_again.seen
+            (once {p = r} {q = s} advance last_read (λ slot has. high slot (held slot has)) (in_need some))
+            quiet_again.seen
             quiet_again.is_run (same_advances again refl))
           where
             held : (slot : ℕ) → HasSlot r slot → Contains r.pool slot
             held slot (inl c) = c
             held slot (inr h) = nobody r.hand slot (keeps_then.1 ∙ empty) h
 
-        raised_chooses : Chooses p t
-        raised_chooses = record {
+        raised_chooses : p.pool ≢ [] → Chooses p t
+        raised_chooses some = record {
           quiet = quiet_on quiet_then (quiet_on (did_quiet advance (λ know. refl)) quiet_again);
           pool = (still.0 ∙ keeps.0 ∙ keeps_then.0, still.1 ∙ keeps.1 ∙ keeps_then.1);
           kept = slots_kept_on p r t none_then.kept (kept_raised r s t advance again keeps still);
           shared = shared_on p r t 1 none_then.shared (let e = ap length (still.0 ∙ keeps.0) in omega arith)
               (shared_raised r s t advance again);
           tries = same_tries again refl ∙ same_tries advance refl ∙ none_then.tries;
-          advances = inr raised_once;
+          wins = wins_none_on none_then.wins (wins_none_on (wins_none advance refl refl) (wins_none again refl refl));
+          advances = inr (raised_once some);
         }
 
         raised_chosen : (pool : List ℕ) → pool ≡ t.pool → p.pool ≢ [] → since + PIECE ≤ budget →
@@ -233,4 +246,4 @@ module _ (p q r : PassView) (e budget used : ℕ) (read : Did ReadEpoch p.trace 
 
         pub raised_then : (pool : List ℕ) → pool ≡ t.pool → p.pool ≢ [] → since + PIECE ≤ budget →
             Chooses p t × IsChosen p t budget used (get_or pool 0 0, since + 2)
-        raised_then pool shown some left = (raised_chooses, raised_chosen pool shown some left)
+        raised_then pool shown some left = (raised_chooses some, raised_chosen pool shown some left)

@@ -1,5 +1,5 @@
 -- The slots that other passes took out of the shared pool, from piece to piece of a call.
-use Rattle.std.proofs.Common.{◌≡◌, ℕ, ◌≤◌, List, [], ◌∷◌, ◌++◌, sym, ap, ◌∙◌, append_assoc, append-nil, arith}
+use Rattle.std.proofs.Common.{◌≡◌, ℕ, ◌+◌, ◌≤◌, List, [], ◌∷◌, ◌++◌, sym, ap, ◌∙◌, append_assoc, append-nil, arith}
 use Rattle.vbr_machine.specs.Start.{Start}
 use Rattle.vbr_machine.specs.Gains.{gains}
 use Rattle.vbr_machine.specs.Runs.{Begins}
@@ -26,6 +26,16 @@ gained_since p q r s a =
     let end : gains q.start r.seen q.who ≡ gains p.start r.seen p.who = (λ i. gains (s.start i) r.seen (s.who i)) in
     let more = gains_grow p.start p.seen q.seen p.who a in
     omega (arith, start, end, more)
+
+-- those of two parts are those of both
+pub gained_sum : (p q r : Trace) → IsSame p q → Begins p.seen q.seen → Begins q.seen r.seen →
+    gained p q + gained q r ≡ gained p r
+gained_sum p q r s a b =
+    let there = gained_same {p = p} {q = q} s in
+    let end : gains q.start r.seen q.who ≡ gains p.start r.seen p.who = (λ i. gains (s.start i) r.seen (s.who i)) in
+    let first = gains_grow p.start p.seen q.seen p.who a in
+    let more = gains_grow p.start q.seen r.seen p.who b in
+    omega (arith, there, end, first, more)
 
 -- a pass that was alone lost none
 own_gains : (start : Start) (who : ℕ) (seen own : List Event) → OnlyEventsOf who own →

@@ -1,6 +1,6 @@
 -- The own pool goes into the shared one, slot by slot.
-use Rattle.std.proofs.Common.{◌≡◌, ◌≢◌, ℕ, zero, suc, ◌+◌, ◌<◌, ◌==◌, Bool, true, false, not, cond, List, [], ◌∷◌, ◌++◌}
-use Rattle.std.proofs.Common.{length, get_or, Option, Some, None, refl, sym, ap, ◌∙◌, subst, append-nil, inl, inr}
+use Rattle.std.proofs.Common.{◌≡◌, ◌≢◌, ℕ, zero, suc, ◌+◌, ◌<◌, ◌≤◌, ◌==◌, Bool, true, false, not, cond, List, []}
+use Rattle.std.proofs.Common.{◌∷◌, ◌++◌, length, get_or, Option, Some, None, refl, sym, ap, ◌∙◌, subst, append-nil, inl, inr}
 use Rattle.std.proofs.Common.{⊎_elim, eq-eqb, arith}
 use Rattle.std.specs.Prelude.{All, AllPairs, Contains, filter, ◌⊎◌}
 use Rattle.std.proofs.lemmas.Bool.{ne_eqb}
@@ -22,10 +22,12 @@ use Rattle.vbr_slots.specs.Pools.{HandFits, hand_without, without}
 use Rattle.vbr_slots.specs.Views.{Did, PassView, Trace, event_of, knows}
 use Rattle.vbr_slots.proofs.Lemmas.{did_moment, did_quiet, did_took, hand_stays, moment_after, moment_before, quiet_on}
 use Rattle.vbr_slots.proofs.Lemmas.{quiet_refl, took_none, took_on}
+use Rattle.vbr_at_table.specs.FlagsInNeed.{times_beyond}
 use Rattle.vbr_at_table.specs.StepKinds.{ChangesNone, advances, flags_raised, is_raise}
 use Rattle.vbr_at_table.specs.GivingSlotsBack.{GivesSlotsBack, WasRaised}
 use Rattle.vbr_at_table.specs.KeptSlots.{HasFree, HasSlot, KeepsSlots}
 use Rattle.vbr_at_table.proofs.Advancing.{did_made, did_stamps, keeps_refl, same_advances, slots_kept_on}
+use Rattle.vbr_at_table.proofs.FlagsInNeed.{raised_beyond, raised_of_two}
 use Rattle.vbr_at_table.proofs.InTurn.{did_turn}
 use Rattle.vbr_at_table.proofs.Unchanged.{raise_unchanged, unchanged_on}
 
@@ -90,6 +92,10 @@ pooled_apart start know slot pool (Some s) fits there =
 
 -- ---- so many slots were raised
 
+-- the own pool has a slot left, or none was raised
+abbrev SomeLeft : PassView → ℕ → Type 0
+SomeLeft q shared = (1 ≤ length q.pool) ⊎ (shared ≡ 0)
+
 pub record Giving (p q : PassView) (shared : ℕ) : Type 0 where
   pub took : Took p.trace q.trace shared
   pub raises : flags_raised q.trace ≡ flags_raised p.trace + shared
@@ -100,6 +106,8 @@ pub record Giving (p q : PassView) (shared : ℕ) : Type 0 where
   pub kept : KeepsSlots p q
   pub advances : advances q.trace ≡ advances p.trace
   pub unchanged : ChangesNone p.trace q.trace
+  pub needed : SomeLeft q shared → times_beyond q.trace ≡ times_beyond p.trace
+  pub last : times_beyond q.trace ≤ times_beyond p.trace + 1
 
 -- none yet
 pub giving_none : (p : PassView) → Giving p p 0
@@ -113,6 +121,8 @@ giving_none p = record {
   kept = keeps_refl p;
   advances = refl;
   unchanged = record { same = λ bucket. refl };
+  needed = λ more. refl;
+  last = omega arith;
 }
 
 -- the moment of a raise
@@ -173,11 +183,18 @@ module _ {p q : PassView} {slot n : ℕ} (law : PassLaw p) (there : Contains p.p
       ∙ put_here (knows p.trace).own slot None) could.0))
       (λ (other : s ≢ slot). has_still s other (could.1 (subst MayBear (other_own s other) could.0)))
 
+  counted : length q.pool + 1 ≡ length p.pool
+  counted = ap (λ (xs : List ℕ). length xs + 1) pool ∙ one_fewer slot p.pool law.own.apart there
+
+  in_need : SomeLeft q 1 → times_beyond q.trace ≡ times_beyond p.trace
+  in_need (inl more) = (raised_of_two d law.own (let c = counted in omega (arith, c, more))).beyond
+  in_need (inr none) = absurd (omega (arith, none))
+
   pub giving_one : Giving p q 1
   giving_one = record {
     took = did_took d;
     raises = did_made is_raise d;
-    count = ap (λ (xs : List ℕ). length xs + 1) pool ∙ one_fewer slot p.pool law.own.apart there;
+    count = counted;
     each = λ s has.
         dite (ℕ_discrete s slot) (λ same. inr (subst (WasRaised p.trace q.trace) (sym same) (raised_now d)))
         (λ other. inl (there_still s other has));
@@ -186,6 +203,8 @@ module _ {p q : PassView} {slot n : ℕ} (law : PassLaw p) (there : Contains p.p
     kept = record { free = free; stamped = did_stamps d refl; turn = did_turn d };
     advances = same_advances d refl;
     unchanged = raise_unchanged d;
+    needed = in_need;
+    last = raised_beyond d;
   }
 
 -- some, and then more
@@ -202,7 +221,22 @@ giving_on {p} {q} {r} n m a b = record {
   kept = slots_kept_on p q r a.kept b.kept;
   advances = b.advances ∙ a.advances;
   unchanged = unchanged_on a.unchanged b.unchanged;
+  needed = needed_all;
+  last = last_all (one_or_none m refl);
 }
+  where
+    one_or_none : (k : ℕ) → m ≡ k → (m ≡ 0) ⊎ (1 ≤ length q.pool)
+    one_or_none zero none = inl none
+    one_or_none (suc k) some = inr (let y = b.count in omega (arith, y, some))
+
+    needed_all : SomeLeft r (n + m) → times_beyond r.trace ≡ times_beyond p.trace
+    needed_all (inl more) = b.needed (inl more) ∙ a.needed (inl (let y = b.count in omega (arith, y, more)))
+    needed_all (inr none) =
+        b.needed (inr (let e = none in omega (arith, e))) ∙ a.needed (inr (let e = none in omega (arith, e)))
+
+    last_all : (m ≡ 0) ⊎ (1 ≤ length q.pool) → times_beyond r.trace ≤ times_beyond p.trace + 1
+    last_all (inl none) = let same = b.needed (inr none) in let low = a.last in omega (arith, same, low)
+    last_all (inr some) = let same = a.needed (inl some) in let low = b.last in omega (arith, same, low)
 
 -- while fewer were raised than the pool had, its oldest slot is there
 pub oldest_there : {p q : PassView} {raised : ℕ} {before now : List ℕ} (d : ℕ) → Giving p q raised → before ≡ p.pool →
@@ -232,6 +266,7 @@ gives_each {p} {q} a all =
       quiet = a.quiet;
       kept = a.kept;
       advances = a.advances;
+      beyond = a.last;
       unchanged = a.unchanged;
     }
   where

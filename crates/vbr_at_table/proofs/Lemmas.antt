@@ -11,6 +11,10 @@ pub use Rattle.vbr_at_table.proofs.Advancing.{slots_kept_on, longer, needed_afte
 pub use Rattle.vbr_at_table.proofs.Advancing.{needed_before, none_back, none_known, none_on, none_refl, same_advances}
 pub use Rattle.vbr_at_table.proofs.Advancing.{same_flags, shared_on}
 pub use Rattle.vbr_at_table.proofs.Advancing.{shared_taken, shares_more, some_grown}
+-- A pass wins one flag at most, where it has no slot, from piece to piece of a call; and counts along a run.
+pub use Rattle.vbr_at_table.proofs.FlagsInNeed.{along-append, in_need_after, in_need_before, none_along, none_in_need}
+-- A pass advances the epoch in need, from view to view.
+pub use Rattle.vbr_at_table.proofs.Needing.{stays_in_need}
 -- A pass unlinks in turn, from step to step.
 pub use Rattle.vbr_at_table.proofs.InTurn.{did_stay_turn, did_turn, turn_others}
 -- The slots that a pass has, from piece to piece of a call.

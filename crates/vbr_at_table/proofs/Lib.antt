@@ -6,7 +6,9 @@ mod Unchanged
 mod Retirement
 mod Counting
 mod InTurn
+mod FlagsInNeed
 mod Advancing
+mod Needing
 mod Scanning
 mod Gained
 mod Probing
@@ -42,5 +44,7 @@ mod OfKeys
 mod Replacements
 pub mod Lemmas
 mod GivingSlotsBack
+mod ReservedTries
 mod Reserves
 mod TopUps
+mod Records

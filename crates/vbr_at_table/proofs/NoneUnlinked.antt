@@ -13,12 +13,13 @@ use Rattle.vbr_at_table.proofs.InTurn.{did_turn}
 use Rattle.vbr_at_table.proofs.Advancing.{free_on, free_pool, grows_on, grows_same, longer, none_known, same_advances}
 use Rattle.vbr_at_table.proofs.Advancing.{same_flags, same_tries, shared_on}
 use Rattle.vbr_at_table.specs.KeptKnowledge.{KeepsUnlinked}
+use Rattle.vbr_at_table.proofs.FlagsInNeed.{wins_none, wins_none_on}
 use Rattle.vbr_at_table.proofs.WonExchanges.{unlink_learned, unlink_lost_same, unlink_owns}
 
 pub lost_none : {p q : PassView} {pred : At} {expected slot found : ℕ} →
     Did (Unlink pred expected slot) p.trace q.trace found → found ≢ expected → KeepsPool p q → TakesNoSlot p q
 lost_none {p} {q} d other pool =
-    none_known (same_advances d refl) (same_flags d refl) (same_tries d refl) pool (did_turn d)
+    none_known (same_advances d refl) (same_flags d refl) (same_tries d refl) (wins_none d refl refl) pool (did_turn d)
     (unlink_lost_same d other)
 
 pub won_unlinks : {p q : PassView} {pred : At} {expected slot : ℕ} →
@@ -33,6 +34,7 @@ won_unlinks {p} {q} {pred} {expected} {slot} d pool = record {
   grows = grows_same p q pool.0;
   shared = inl (same_flags d refl);
   tries = same_tries d refl;
+  wins = wins_none d refl refl;
 }
   where
     stays : (s : ℕ) → s ≢ slot → (knows q.trace).own s ≡ (knows p.trace).own s
@@ -49,6 +51,7 @@ unlinks_on p q r a b = record {
   grows = grows_on p q r a.grows b.grows;
   shared = shared_on p q r 1 a.shared (longer q r b.grows) b.shared;
   tries = b.tries ∙ a.tries;
+  wins = wins_none_on a.wins b.wins;
 }
 
 -- once the slot is stamped, none is lost
@@ -66,4 +69,5 @@ unlinks_none {slot} p q r a b turn stamped = record {
   grows = grows_on p q r a.grows b.grows;
   shared = shared_on p q r 1 a.shared (longer q r b.grows) b.shared;
   tries = b.tries ∙ a.tries;
+  wins = wins_none_on a.wins b.wins;
 }

@@ -5,6 +5,7 @@ use Rattle.std.proofs.Common.{◌∙◌, subst, ◌⊎◌, inl, inr, ⊎_elim, a
 use Rattle.vbr_machine.specs.Start.{Start, IsStart}
 use Rattle.vbr_words.specs.Flags.{word_of_flag, has_flag, IsNextFlag}
 use Rattle.vbr_words.specs.declared.place.Place.TheVariants as place
+use Rattle.vbr_machine.specs.declared.knowledge.SlotPlace.TheVariants.{Shared}
 use Rattle.vbr_machine.specs.Gains.{gains}
 use Rattle.vbr_machine.specs.Machine.{World, word_at, found}
 use Rattle.vbr_machine.specs.Runs.{IsRun, world_after}
@@ -68,16 +69,29 @@ module _ {q r : Trace} {slot n : ℕ} (is : IsStart q.start) (d : Did (TakeFlag 
   grown : gained_by_now q ≤ gained_by_now r
   grown = let more = gains_grow q.start q.seen moment q.who (d.rest, refl) in omega (arith, more, counted)
 
-  -- a flag that was seen set, and is lost, was won by another
-  won_by_other : has_flag (flags_seen q slot) slot ≡ true → gained_by_now q < gained_by_now r
-  won_by_other set =
+  -- a slot that was in the shared pool, and is lost, was won by another
+  pub shared_lost : (world_after q.start q.seen).place slot ≡ Shared → gained_by_now q < gained_by_now r
+  shared_lost was =
       let ok : IsRun q.start q.passes (moment ++ event_of q.who (TakeFlag slot) ∷ []) =
       subst (IsRun q.start q.passes) d.seen d.is_run in
-      let was = in_pool _ (flag_shared q.start (world_after q.start q.seen) slot set) in
       let out = out_of_pool _ (unflagged q.start (world_after q.start moment) slot slot low refl unset) in
       let more = slot_gained q.start q.passes q.seen d.rest q.who slot is
       (is_run_before q.start q.passes moment (event_of q.who (TakeFlag slot) ∷ []) ok) d.none was out in
       omega (arith, more, counted)
+
+  -- so it is of a flag that was seen set
+  won_by_other : has_flag (flags_seen q slot) slot ≡ true → gained_by_now q < gained_by_now r
+  won_by_other set = shared_lost (in_pool _ (flag_shared q.start (world_after q.start q.seen) slot set))
+
+  -- a slot whose flag is set in the word that was found is in the shared pool then
+  pub shown_shared : (s : ℕ) → word_of_flag s ≡ word_of_flag slot → has_flag n s ≡ true →
+      (world_after r.start r.seen).place s ≡ Shared
+  shown_shared s e set =
+      in_pool _ (flag_shared r.start (world_after r.start r.seen) s
+      (ap (λ (w : ℕ). has_flag w s) (found_there ∙ word_kept s e) ∙ set))
+    where
+      found_there : found r.start (world_after r.start r.seen) (TakeFlag s) ≡ flags_seen r s
+      found_there = refl
 
   -- so many probes were made before it at the most
   pub probed_lost : (from turn used : ℕ) → Probed q from turn used slot →

@@ -1,18 +1,18 @@
 -- Slots come out of the shared pool into the own one, probed in their order.
 use Rattle.std.proofs.Common.{◌≡◌, ◌≢◌, ℕ, ◌+◌, ◌-◌, ◌/◌, ◌<◌, ◌≤◌, Bool, true, false, cond, [], ◌∷◌, ◌++◌, length}
-use Rattle.std.proofs.Common.{length-append, List, refl, sym, ap, ◌∙◌, subst, append-nil, inl, inr}
-use Rattle.std.proofs.Common.{⊎_elim, arith}
+use Rattle.std.proofs.Common.{◌*◌, Option, Some, None, length-append, List, refl, sym, ap, ◌∙◌, subst, append-nil}
+use Rattle.std.proofs.Common.{inl, inr, ⊎_elim, arith}
 use Rattle.std.specs.Prelude.{Contains, ◌⊎◌}
-use Rattle.std.proofs.lemmas.Bool.{cases_lt}
+use Rattle.std.proofs.lemmas.Bool.{cases_lt, cases_order, true≢false}
 use Rattle.std.proofs.lemmas.List.Elements.{Contains-append_left, Contains-push, Contains-push_cases}
 use mathlib.Core.Logic.{dite}
 use native.Mathlib.Decide.{ℕ_discrete}
-use Rattle.vbr_words.specs.Flags.{has_flag, word_of_flag}
+use Rattle.vbr_words.specs.Flags.{flag_words, has_flag, word_of_flag}
 use Rattle.vbr_machine.specs.Acceptance.{IsFree, MayBear}
 use Rattle.vbr_machine.specs.Knowledge.{Know}
 use Rattle.vbr_machine.specs.Machine.{found}
 use Rattle.vbr_machine.specs.Runs.{Begins, world_after}
-use Rattle.vbr_machine.specs.Start.{Start}
+use Rattle.vbr_machine.specs.Start.{Start, IsStart}
 use Rattle.vbr_machine.specs.declared.event.Step.TheVariants.{TakeFlag}
 use Rattle.vbr_machine.specs.declared.knowledge.SlotPlace.TheVariants.{Shared}
 use Rattle.vbr_machine.proofs.Lemmas.{begins_trans, flag_shared, flag_won, put_here, put_other}
@@ -21,13 +21,18 @@ use Rattle.vbr_slots.specs.Pools.{OwnPool, hand_without}
 use Rattle.vbr_slots.specs.Views.{Did, KeepsPool, PassView, Trace, event_of, knows}
 use Rattle.vbr_slots.proofs.Lemmas.{did_moment, did_quiet, did_took, hand_alone, hand_stays, moment_after}
 use Rattle.vbr_slots.proofs.Lemmas.{moment_before, quiet_on, quiet_refl, took_none, took_on}
+use Rattle.vbr_at_table.specs.FlagsInNeed.{flags_won, times_beyond}
 use Rattle.vbr_at_table.specs.StepKinds.{advances, flags_raised, flags_tried, is_try}
 use Rattle.vbr_at_table.specs.KeptSlots.{GoesInTurn, HasFree, HasSlot, StampsUnlinked}
-use Rattle.vbr_at_table.specs.Reserving.{IsMissed, IsNextFrom, Reserves, ReservesFrom, TakesFlags, WasTaken, most_kept}
+use Rattle.vbr_at_table.specs.Reserving.{IsNextToTry, IsMissed, Reserves, ReservesFrom, TakesFlags, WasTaken}
+use Rattle.vbr_at_table.specs.Reserving.{may_be_set, most_kept}
 use Rattle.vbr_at_table.specs.SharedPool.{WasOutside}
 use Rattle.vbr_at_table.proofs.Advancing.{did_made, did_stamps, grows_on, grows_same, keeps_known, keeps_refl, longer}
 use Rattle.vbr_at_table.proofs.Advancing.{same_advances, same_flags, slots_kept_on}
+use Rattle.vbr_at_table.proofs.FlagsInNeed.{lost_wins_none, won_beyond, won_one}
+use Rattle.vbr_at_table.proofs.Gained.{gained_sum}
 use Rattle.vbr_at_table.proofs.InTurn.{did_turn}
+use Rattle.vbr_at_table.proofs.ReservedTries.{AreCounted, counted_few, counted_lost, counted_none, counted_won}
 use Rattle.vbr_at_table.proofs.Shown.{flag_shown, in_pool, missed, missed_after, missed_before}
 
 -- ---- what is taken, from step to step
@@ -42,6 +47,8 @@ takes_none p = record {
   quiet = quiet_refl p.trace;
   kept = keeps_refl p;
   raised = refl;
+  won = refl;
+  beyond = omega arith;
   advances = refl;
 }
 
@@ -74,6 +81,8 @@ takes_on {p} {q} {r} n m a b = record {
   quiet = quiet_on a.quiet b.quiet;
   kept = slots_kept_on p q r a.kept b.kept;
   raised = b.raised ∙ a.raised;
+  won = (let x = a.won in let y = b.won in omega (arith, x, y));
+  beyond = (let x = a.beyond in let y = b.beyond in omega (arith, x, y));
   advances = b.advances ∙ a.advances;
 }
 
@@ -92,6 +101,14 @@ takes_lost {p} {q} {slot} {n} d lost keeps =
       quiet = did_quiet d (λ know. refl);
       kept = keeps_known p q keeps (did_turn d) (λ s. ap (λ (k : Know). k.own s) know);
       raised = same_flags d refl;
+      won = (let none = lost_wins_none d lost in
+          let w = none.won in
+          let same = ap length keeps.0 in
+          omega (arith, w, same));
+      beyond = (let none = lost_wins_none d lost in
+          let w = none.won in
+          let b = none.beyond in
+          omega (arith, w, b));
       advances = same_advances d refl;
     }
 
@@ -165,13 +182,21 @@ module _ {p q r : PassView} {slot n : ℕ} (d : Did (TakeFlag slot) p.trace q.tr
       turn = at_trace (λ t. GoesInTurn p.trace t) (did_turn d);
     };
     raised = at_trace (λ t. flags_raised t ≡ flags_raised p.trace) (same_flags d refl);
+    won =
+        (let w = at_trace (λ t. flags_won t ≡ flags_won p.trace + 1) (won_one d won) in
+        let longer : length r.pool ≡ length p.pool + 1 = ap length pool_is ∙ length-append p.pool (slot ∷ []) in
+        omega (arith, w, longer));
+    beyond =
+        (let w = at_trace (λ t. flags_won t ≡ flags_won p.trace + 1) (won_one d won) in
+        let b = at_trace (λ t. times_beyond t ≤ times_beyond p.trace + 1) (won_beyond d won) in
+        omega (arith, w, b));
     advances = at_trace (λ t. advances t ≡ advances p.trace) (same_advances d refl);
   }
 
 -- ---- the way from one slot to another
 
 -- so many tries were made, and each slot before the next one was taken, or was outside
-pub record Reserving (p q : PassView) (from next to full probes used : ℕ) : Type 0 where
+pub record Reserving (p q : PassView) (from next to full probes used : ℕ) (shown : Option ℕ) : Type 0 where
   pub takes : TakesFlags p q used
   pub most : (q.pool ≡ p.pool) ⊎ (length q.pool ≤ full)
   pub tries : used ≤ probes
@@ -179,8 +204,10 @@ pub record Reserving (p q : PassView) (from next to full probes used : ℕ) : Ty
   pub ahead : (slot : ℕ) → slot < p.trace.start.shape.slots → from ≤ slot → slot < next → IsMissed p q slot
   pub few : used + from ≤ next
   pub within : used ≤ to - from
+  pub counted : AreCounted p q from to next shown used
+  pub reach : (next ≤ 64 * flag_words to) ⊎ (used ≡ 0)
 
-pub reserving_none : (p : PassView) (from to most probes : ℕ) → Reserving p p from from to most probes 0
+pub reserving_none : (p : PassView) (from to most probes : ℕ) → Reserving p p from from to most probes 0 None
 reserving_none p from to most probes =
     record {
       takes = takes_none p;
@@ -190,6 +217,8 @@ reserving_none p from to most probes =
       ahead = λ slot low above below. absurd (omega (arith, above, below));
       few = omega arith;
       within = omega arith;
+      counted = counted_none p from to;
+      reach = inr refl;
     }
 
 pub missed_on : (p : PassView) {q r : PassView} {n : ℕ} {slot : ℕ} → IsMissed p q slot → TakesFlags q r n →
@@ -207,71 +236,112 @@ missed_then r a (inr out) = inr (missed_after a.quiet out)
 has_room : {p q : PassView} {n most : ℕ} → TakesFlags p q n → length q.pool < most → most ≤ length p.pool → ⊥
 has_room {p} {q} takes low full = let more = longer p q takes.grows in omega (arith, low, full, more)
 
--- one that was taken
-pub reserving_won : {p q r : PassView} {from slot to most probes used : ℕ} →
-    Reserving p q from slot to most probes used → slot < to → used < probes → TakesFlags q r 1 →
-    r.pool ≡ q.pool ++ slot ∷ [] → length q.pool < most → Reserving p r from (slot + 1) to most probes (used + 1)
-reserving_won {p} {q} {r} {from} {slot} {to} {most} {probes} {used} reserving below_to room b pool low = record {
-  takes = takes_on used 1 reserving.takes b;
-  most = inr (let e : length r.pool ≡ length q.pool + 1 = ap length pool ∙ length-append q.pool (slot ∷ []) in
-      omega (arith, e, low));
-  tries = omega (arith, room);
-  idle = λ full. absurd (has_room reserving.takes low full);
-  ahead = λ s in_shape above below. dite (ℕ_discrete s slot)
-      (λ (is : s ≡ slot).
-      inl (subst (λ xs. Contains xs s) (sym pool)
-      (subst (λ x. Contains (q.pool ++ slot ∷ []) x) (sym is) (Contains-push q.pool slot))))
-      (λ (other : s ≢ slot). missed_on p (reserving.ahead s in_shape above (omega (arith, below, other))) b);
-  few = let f = reserving.few in omega (arith, f);
-  within = let f = reserving.few in omega (arith, f, below_to);
-}
+-- what comes next is no further than the next word
+behind_low : {slot : ℕ} {shown : Option ℕ} {next : ℕ × Option ℕ} → IsNextToTry slot shown next →
+    next.0 ≤ 64 * (slot / 64 + 1)
+behind_low {slot} {shown} {next} behind = go behind.place
+  where
+    go : ((word_of_flag next.0 ≡ word_of_flag slot) × (may_be_set shown next.0 ≡ true) × (next.1 ≡ shown)) ⊎
+        ((next.0 ≡ 64 * (slot / 64 + 1)) × (next.1 ≡ None)) → next.0 ≤ 64 * (slot / 64 + 1)
+    go (inl here) = let same = here.0 in omega (arith, same)
+    go (inr past) = let at = past.0 in omega (arith, at)
 
--- one that was outside, and those up to the next one
-pub reserving_lost : {p q r : PassView} {from slot next to most probes used n : ℕ} →
-    Reserving p q from slot to most probes used → slot < to → used < probes → length q.pool < most →
-    Did (TakeFlag slot) q.trace r.trace n → has_flag n slot ≡ false → KeepsPool q r → slot < next →
-    ((s : ℕ) → s < q.trace.start.shape.slots → slot ≤ s → s < next → WasOutside q.trace r.trace s)
-    → Reserving p r from next to most probes (used + 1)
-reserving_lost {p} {q} {r} {from} {slot} {next} {to} {most} {probes} {used} reserving below_to room low d lost keeps on
-    outside =
-    let b = takes_lost d lost keeps in
-    record {
-      takes = takes_on used 1 reserving.takes b;
-      most = ⊎_elim (λ same. inl (keeps.0 ∙ same)) (λ few. inr (subst (λ xs. length xs ≤ most) (sym keeps.0) few))
-          reserving.most;
-      tries = omega (arith, room);
-      idle = λ full. absurd (has_room reserving.takes low full);
-      ahead = λ s in_shape above below. ⊎_elim
-          (λ (earlier : s < slot). missed_on p (reserving.ahead s in_shape above earlier) b)
-          (λ (later : slot ≤ s).
-          inr (missed_after reserving.takes.quiet
-          (outside s (subst (λ (start : Start). s < start.shape.slots) (sym reserving.takes.quiet.same.start)
-          in_shape) later
-          below)))
-          (cases_lt s slot);
-      few = let f = reserving.few in omega (arith, f, on);
-      within = let f = reserving.few in omega (arith, f, below_to);
-    }
+-- a slot whose flag wasn't set in the word that was shown was outside
+passed_by : (p q : PassView) (from to next used : ℕ) (shown : Option ℕ) → AreCounted p q from to next shown used →
+    (s : ℕ) → s < p.trace.start.shape.slots → word_of_flag s ≡ word_of_flag next → may_be_set shown s ≡ false →
+    WasOutside p.trace q.trace s
+passed_by p q from to next used None counted s low same unset = absurd (true≢false unset)
+passed_by p q from to next used (Some word) counted s low same unset = counted.unset s low same unset
 
--- the slots up to the next one whose flag is set in the word
-pub up_to_next : {p q : Trace} {slot next n : ℕ} → Did (TakeFlag slot) p q n → has_flag n slot ≡ false →
-    IsNextFrom n slot next → (s : ℕ) → s < p.start.shape.slots → slot ≤ s → s < next → WasOutside p q s
-up_to_next {p} {q} {slot} {next} {n} d lost then s low above below =
-    let past = then.low in
-    let same : s / 64 ≡ slot / 64 = omega (arith, past, above, below) in
-    missed d lost s low same (then.none s above below)
+module _ {p q : PassView} (r : PassView) {from slot to most probes used n : ℕ} {shown : Option ℕ}
+    (next : ℕ × Option ℕ) {t : Trace} (reserving : Reserving p q from slot to most probes used shown)
+    (is : IsStart p.trace.start) (below_to : slot < to) (room : used < probes) (low : length q.pool < most)
+    (d : Did (TakeFlag slot) q.trace t n) (same : r.trace ≡ t) where
+  opens_there : IsStart q.trace.start
+  opens_there = subst IsStart (sym reserving.takes.quiet.same.start) is
 
--- the slot alone
-pub up_to_it : {p q : Trace} {slot n : ℕ} → Did (TakeFlag slot) p q n → has_flag n slot ≡ false → (s : ℕ) →
-    s < p.start.shape.slots → slot ≤ s → s < slot + 1 → WasOutside p q s
-up_to_it {p} {q} {slot} {n} d lost s low above below =
-    let same : s ≡ slot = omega (arith, above, below) in
-    missed d lost s low (ap word_of_flag same) (ap (has_flag n) same ∙ lost)
+  did_there : Did (TakeFlag slot) q.trace r.trace n
+  did_there = subst (λ (x : Trace). Did (TakeFlag slot) q.trace x n) (sym same) d
+
+  -- one that was taken
+  pub reserving_won : TakesFlags q r 1 → r.pool ≡ q.pool ++ slot ∷ [] → IsNextToTry slot shown next →
+      Reserving p r from next.0 to most probes (used + 1) next.1
+  reserving_won b pool behind = record {
+    takes = takes_on used 1 reserving.takes b;
+    most = inr (omega (arith, longer_by, low));
+    tries = omega (arith, room);
+    idle = λ full. absurd (has_room reserving.takes low full);
+    ahead = ahead_won;
+    few = (let f = reserving.few in let on = behind.above in omega (arith, f, on));
+    within = (let f = reserving.few in omega (arith, f, below_to));
+    counted = counted_won p q r from to used opens_there did_there longer_by shown next reserving.counted behind;
+    reach = inl (let past = behind_low behind in omega (arith, past, below_to));
+  }
+    where
+      longer_by : length r.pool ≡ length q.pool + 1
+      longer_by = ap length pool ∙ length-append q.pool (slot ∷ [])
+
+      ahead_won : (s : ℕ) → s < p.trace.start.shape.slots → from ≤ s → s < next.0 → IsMissed p r s
+      ahead_won s in_shape above below = elim (cases_order s slot) [
+        | inl is_it ↦ inl (subst (λ xs. Contains xs s) (sym pool)
+            (subst (λ x. Contains (q.pool ++ slot ∷ []) x) (sym is_it) (Contains-push q.pool slot)))
+        | inr which ↦ elim which [
+          | inl earlier ↦ missed_on p (reserving.ahead s in_shape above earlier) b
+          | inr later ↦ let past = behind_low behind in
+              missed_on p
+              (inr (passed_by p q from to slot used shown reserving.counted s in_shape
+              (omega (arith, later, below, past))
+              (behind.none s later below))) b
+        ]
+      ]
+
+  -- one that was outside, and those up to the next one
+  pub reserving_lost : has_flag n slot ≡ false → KeepsPool q r → slot < p.trace.start.shape.slots →
+      IsNextToTry slot (Some n) next → Reserving p r from next.0 to most probes (used + 1) next.1
+  reserving_lost lost keeps in_range behind = record {
+    takes = takes_on used 1 reserving.takes b;
+    most = ⊎_elim (λ same. inl (keeps.0 ∙ same)) (λ few. inr (subst (λ xs. length xs ≤ most) (sym keeps.0) few))
+        reserving.most;
+    tries = omega (arith, room);
+    idle = λ full. absurd (has_room reserving.takes low full);
+    ahead = ahead_lost;
+    few = (let f = reserving.few in let on = behind.above in omega (arith, f, on));
+    within = (let f = reserving.few in omega (arith, f, below_to));
+    counted = counted_lost p q r from to used opens_there reserving.takes.quiet did_there lost in_range_there below_to
+        (ap length keeps.0) shown next reserving.counted behind;
+    reach = inl (let past = behind_low behind in omega (arith, past, below_to));
+  }
+    where
+      b : TakesFlags q r 1
+      b = takes_lost did_there lost keeps
+
+      in_range_there : slot < q.trace.start.shape.slots
+      in_range_there =
+          subst (λ (start : Start). slot < start.shape.slots) (sym reserving.takes.quiet.same.start) in_range
+
+      -- the flags of its word were shown
+      out : (s : ℕ) → s < p.trace.start.shape.slots → word_of_flag s ≡ word_of_flag slot → has_flag n s ≡ false →
+          WasOutside p.trace r.trace s
+      out s in_shape same unset =
+          missed_after reserving.takes.quiet
+          (missed did_there lost s
+          (subst (λ (start : Start). s < start.shape.slots) (sym reserving.takes.quiet.same.start) in_shape) same unset)
+
+      ahead_lost : (s : ℕ) → s < p.trace.start.shape.slots → from ≤ s → s < next.0 → IsMissed p r s
+      ahead_lost s in_shape above below = elim (cases_order s slot) [
+        | inl is_it ↦ inr (out s in_shape (ap word_of_flag is_it) (ap (has_flag n) is_it ∙ lost))
+        | inr which ↦ elim which [
+          | inl earlier ↦ missed_on p (reserving.ahead s in_shape above earlier) b
+          | inr later ↦ let past = behind_low behind in
+              inr (out s in_shape (omega (arith, later, below, past)) (behind.none s later below))
+        ]
+      ]
 
 -- at the end
-pub reserves_from : {p q : PassView} {from next to most probes used : ℕ} → Reserving p q from next to most probes used →
-    (most ≤ length q.pool) ⊎ (probes ≤ used) ⊎ (to ≤ next) → ReservesFrom p q from to most probes used
-reserves_from {p} {q} {from} {next} {to} {most} reserving ends = record {
+pub reserves_from : {p q : PassView} {from next to most probes used : ℕ} {shown : Option ℕ} →
+    Reserving p q from next to most probes used shown → (most ≤ length q.pool) ⊎ (probes ≤ used) ⊎ (to ≤ next) →
+    ReservesFrom p q from to most probes used
+reserves_from {p} {q} {from} {next} {to} {most} {probes} {used} {shown} reserving ends = record {
   takes = reserving.takes;
   most = reserving.most;
   tries = reserving.tries;
@@ -279,6 +349,8 @@ reserves_from {p} {q} {from} {next} {to} {most} reserving ends = record {
   next = next;
   few = reserving.few;
   within = reserving.within;
+  words = counted_few p q from to next used shown reserving.takes.quiet (longer p q reserving.takes.grows)
+      reserving.reach reserving.counted;
   each = reserving.ahead;
   ends = ends;
 }
@@ -305,16 +377,28 @@ with_all {p} {q} {from} {to} {full} {probes} {steps} a enough low =
     reach (inr over) = over
 
 by_names : {p q r : PassView} {start wanted taken first second : ℕ} → start ≤ p.trace.start.shape.slots →
+    start ≡ 64 * word_of_flag start →
     ReservesFrom p q start p.trace.start.shape.slots (most_kept wanted) p.trace.start.shape.slots first →
     ReservesFrom q r 0 start (most_kept wanted) p.trace.start.shape.slots second →
     length r.pool ≡ length p.pool + taken → Reserves p r wanted taken (first + second)
-by_names {p} {q} {r} {start} {wanted} {taken} {first} {second} low a b count =
+by_names {p} {q} {r} {start} {wanted} {taken} {first} {second} low aligned a b count =
     let there : start ≤ q.trace.start.shape.slots =
     subst (λ (s : Start). start ≤ s.shape.slots) (sym a.takes.quiet.same.start) low in
     record {
       takes = takes_on first second a.takes b.takes;
       count = count;
       most = most_on p q r (most_kept wanted) a.most b.most;
+      few =
+          (let x = a.words in
+          let y = b.words in
+          let sum = gained_sum p.trace q.trace r.trace a.takes.quiet.same a.takes.quiet.seen b.takes.quiet.seen in
+          let more = longer p q a.takes.grows in
+          let still = longer q r b.takes.grows in
+          omega (arith, x, y, sum, more, still, aligned, low, count));
+      idle = λ full.
+          (let none = a.idle full in
+          let then = b.idle (let more = longer p q a.takes.grows in omega (arith, full, more)) in
+          omega (arith, none, then));
       enough = ⊎_elim
           (λ (full : most_kept wanted ≤ length q.pool).
           inl (let more = longer q r b.takes.grows in omega (arith, full, more)))
@@ -330,11 +414,11 @@ by_names {p} {q} {r} {start} {wanted} {taken} {first} {second} low a b count =
     }
 
 pub reserves_round : {p q r : PassView} {start to full wanted taken first second : ℕ} → to ≡ p.trace.start.shape.slots →
-    full ≡ most_kept wanted → start ≤ to → ReservesFrom p q start to full to first →
+    full ≡ most_kept wanted → start ≤ to → start ≡ 64 * word_of_flag start → ReservesFrom p q start to full to first →
     ReservesFrom q r 0 start full to second → length r.pool ≡ length p.pool + taken →
     Reserves p r wanted taken (first + second)
-reserves_round {p} {q} {r} {start} {to} {full} {wanted} {taken} {first} {second} end is low a b count =
-    by_names (subst (λ (x : ℕ). start ≤ x) end low)
+reserves_round {p} {q} {r} {start} {to} {full} {wanted} {taken} {first} {second} end is low aligned a b count =
+    by_names (subst (λ (x : ℕ). start ≤ x) end low) aligned
     (subst (λ (x : ℕ × ℕ). ReservesFrom p q start x.0 x.1 x.0 first) (λ i. (end i, is i)) a)
     (subst (λ (x : ℕ × ℕ). ReservesFrom q r 0 start x.1 x.0 second) (λ i. (end i, is i)) b) count
 

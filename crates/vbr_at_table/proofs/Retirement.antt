@@ -30,6 +30,7 @@ use Rattle.vbr_slots.proofs.Lemmas.{did_moment, did_quiet, did_took, hand_alone,
 use Rattle.vbr_slots.proofs.Lemmas.{took_on}
 use Rattle.vbr_at_table.specs.KeptSlots.{TakesNoSlot}
 use Rattle.vbr_at_table.specs.Retiring.{Retires, StampsFreshly, is_kept, know_retired}
+use Rattle.vbr_at_table.proofs.FlagsInNeed.{raised_after_stamp}
 use Rattle.vbr_at_table.proofs.InTurn.{did_stay_turn}
 use Rattle.vbr_at_table.proofs.Advancing.{same_advances, same_tries, did_stamps, free_pool, grows_same, none_on}
 use Rattle.vbr_at_table.proofs.Advancing.{did_none, none_given}
@@ -101,8 +102,8 @@ module _ {p q r : PassView} {slot e n : ℕ} (read : Did ReadEpoch p.trace q.tra
 
   -- and one that isn't is no more the pass's own
   raised_none : {t : PassView} {m : ℕ} → Did (Raise slot) r.trace t.trace m → t.pool ≡ p.pool → t.hand ≡ r.hand →
-      POOL - 1 ≤ length p.pool → TakesNoSlot p t
-  raised_none {t} raise pool hand full =
+      POOL - 1 ≤ length p.pool → OwnPool p.trace.start (knows p.trace) p.pool p.hand → TakesNoSlot p t
+  raised_none {t} raise pool hand full own =
       none_on {p = p} {q = q} {r = t} (did_none read refl stays) (record {
         count = same_advances raise refl ∙ same_advances stamp refl;
         kept = record {
@@ -118,6 +119,7 @@ module _ {p q r : PassView} {slot e n : ℕ} (read : Did ReadEpoch p.trace q.tra
         grows = grows_same q t (pool ∙ sym stays.0);
         shared = inr (let e = ap length pool in omega arith);
         tries = same_tries raise refl ∙ same_tries stamp refl;
+        wins = raised_after_stamp p q r read stamp own (omega (arith, full)) raise;
       })
     where
       gone : (s : ℕ) → s ≡ slot → MayBear ((knows t.trace).own s) → MayBear ((knows q.trace).own s)
@@ -236,7 +238,7 @@ module _ {p q r : PassView} {slot gone e n : ℕ} (is : IsStart p.trace.start) (
     took = took_on 2 1 took (did_took raise);
     count = sym (ap (λ (b : Bool). cond b 2 3) left);
     quiet = quiet_all;
-    takes_no_slot = raised_none read stamp stays still raise pool_stays last.1 full;
+    takes_no_slot = raised_none read stamp stays still raise pool_stays last.1 full own;
     turn = λ turn. did_stay_turn raise refl (did_stay_turn stamp refl (did_stay_turn read refl turn));
     stamped = subst (λ (epoch : ℕ). StampsFreshly p.trace t.trace slot epoch) (sym (epoch_told raise))
         (stamped_before (stamped read stamp) (did_quiet raise (λ know. refl)));

@@ -14,7 +14,7 @@ use Rattle.vbr_at_table.specs.Advances.{AdvancesWhereNeeded}
 use Rattle.vbr_at_table.specs.Budgets.{NeedsMore, probes_lost, steps_to_take, steps_to_take_among, steps_to_win}
 use Rattle.vbr_at_table.specs.Gained.{gained}
 use Rattle.vbr_at_table.specs.Hands.{HandView}
-use Rattle.vbr_at_table.specs.KeptSlots.{KeepsSlots, SharesWhereFull, TriesNoFlag, TriesWhereEmpty}
+use Rattle.vbr_at_table.specs.KeptSlots.{KeepsSlots, SharesWhereFull, TriesNoFlag, TriesWhereEmpty, WinsInNeed}
 use Rattle.vbr_at_table.specs.Pieces.{BearsNone, Chooses, ChoosesNone, HasSlots, IsBorn, IsChosen, IsShortOrSpent}
 use Rattle.vbr_at_table.specs.Pieces.{LooksForSlot, Uses, WinsNone, told_steps}
 use Rattle.vbr_at_table.specs.Refusals.{LeavesPool, RefusesTake, TakeIsRefused, TellsSpent}
@@ -24,6 +24,7 @@ use Rattle.vbr_at_table.specs.declared.refusal.Refusal.{Refusal}
 use Rattle.vbr_at_table.specs.declared.refusal.Refusal.TheVariants.{OutOfSteps, NoSlot, EpochSpent}
 use Rattle.vbr_at_table.proofs.Advancing.{slots_kept_on, longer, needed_before, needed_since, shared_on, shares_more}
 use Rattle.vbr_at_table.proofs.Counting.{uses_on, took_all}
+use Rattle.vbr_at_table.proofs.FlagsInNeed.{in_need_before}
 use Rattle.vbr_at_table.proofs.Gained.{alone_gained, gained_on, more_lost, none_lost}
 use Rattle.vbr_at_table.proofs.Shown.{came_before}
 
@@ -66,6 +67,7 @@ module _ (p q : PassView) (budget : ℕ) (told : Refusal × ℕ) (first : LooksF
     one = (let low = longer p q first.grows in omega (arith, low));
     shared = shares_more p q first.shared;
     tries = first.tries;
+    wins = first.wins;
     advances = inl first.count;
   }
 
@@ -120,6 +122,9 @@ module _ (p q r : PassView) (budget used : ℕ) (first : LooksForSlot p q) (begu
       ⊎_elim (λ (same : TriesNoFlag p q). inl (none ∙ same))
       (λ (where_empty : (p.pool ≡ []) × Unit {0}). inr where_empty) first.tries
 
+  wins_all : WinsInNeed p r
+  wins_all = in_need_before p q r first.wins then.wins
+
   grown : length p.pool ≤ length r.pool
   grown = let low = longer p q first.grows in let e = same_length in omega (arith, low, e)
 
@@ -134,6 +139,7 @@ module _ (p q r : PassView) (budget used : ℕ) (first : LooksForSlot p q) (begu
     one = (let low = grown in omega (arith, low));
     shared = shares_more p r shared_all;
     tries = tries_on r then.tries;
+    wins = wins_all;
     advances = advances_all;
   }
 
@@ -270,6 +276,7 @@ module _ (p q r : PassView) (budget used : ℕ) (first : LooksForSlot p q) (begu
         one = (let low = grown in let one = born.leaves.one in omega (arith, low, one));
         shared = shared_then shared_all;
         tries = tries_on t (born.leaves.tries ∙ then.tries);
+        wins = in_need_before p r t wins_all born.leaves.wins;
         advances = needed_before {p = p} {q = r} {r = t} advances_all born.leaves.quiet.seen born.leaves.quiet.is_run
             born.leaves.advances;
       }

@@ -1,16 +1,16 @@
 -- A pool that is topped up: the way goes on from the slot that was tried last.
-use Rattle.std.proofs.Common.{◌≡◌, ℕ, ◌+◌, ◌-◌, ◌*◌, ◌/◌, ◌%◌, ◌^◌, ◌<◌, ◌≤◌, ◌==◌, length, sym, ap, ◌∙◌, subst, inl}
-use Rattle.std.proofs.Common.{inr, ⊎_elim, arith}
+use Rattle.std.proofs.Common.{◌≡◌, ℕ, ◌+◌, ◌-◌, ◌*◌, ◌/◌, ◌%◌, ◌^◌, ◌<◌, ◌≤◌, ◌==◌, true, false, Some, None, length}
+use Rattle.std.proofs.Common.{refl, sym, ap, ◌∙◌, subst, inl, inr, ⊎_elim, arith}
 use Rattle.std.specs.Prelude.{◌⊎◌}
 use Rattle.std.specs.Int.{bit_at}
 use Rattle.std.proofs.Math.Nat.{div-div-eq-div-mul}
 use Rattle.std.proofs.lemmas.Bool.{cases_lt}
 use Rattle.std.proofs.lemmas.Nat.{pow-add}
-use Rattle.vbr_words.specs.Flags.{IsNextFlag, has_flag}
+use Rattle.vbr_words.specs.Flags.{IsNextFlag, has_flag, word_of_flag}
 use Rattle.vbr_machine.specs.Start.{Start}
 use Rattle.vbr_slots.specs.Tried.{last_tried}
 use Rattle.vbr_slots.specs.Views.{PassView}
-use Rattle.vbr_at_table.specs.Reserving.{IsAmongNext, IsMissed, IsNextFrom, ReservesFrom, TopsUp, most_kept}
+use Rattle.vbr_at_table.specs.Reserving.{IsAmongNext, IsNextToTry, IsMissed, ReservesFrom, TopsUp, most_kept}
 use Rattle.vbr_at_table.proofs.Advancing.{longer}
 use Rattle.vbr_at_table.proofs.Reserves.{missed_on, missed_then, most_on, takes_on}
 
@@ -21,19 +21,64 @@ shifted : (n k i : ℕ) → bit_at (n / 2 ^ k) i ≡ bit_at n (k + i)
 shifted n k i =
     ap (λ (x : ℕ). x % 2) (div-div-eq-div-mul n (2 ^ k) (2 ^ i) ∙ ap (λ (x : ℕ). n / x) (sym (pow-add 2 k i)))
 
--- where the shifted word has its lowest flag is the next one
-pub next_from : (word slot behind next : ℕ) → IsNextFlag (word / 2 ^ (slot % 64)) 0 behind → next ≤ slot + behind →
-    next ≤ (slot / 64 + 1) * 64 → IsNextFrom word slot next
+-- and once more by one
+shifted_once_more : (n k i : ℕ) → bit_at (n / 2 ^ k / 2) i ≡ bit_at n (k + 1 + i)
+shifted_once_more n k i =
+    shifted (n / 2 ^ k) 1 i ∙ shifted n k (1 + i) ∙ ap (λ (j : ℕ). bit_at n j) (omega arith)
+
+-- the flags of the shifted word are those of the slots behind one in its word
+flag_behind : (word slot s : ℕ) → slot < s → s < (slot / 64 + 1) * 64 →
+    has_flag (word / 2 ^ (slot % 64) / 2) (s - slot - 1) ≡ has_flag word s
 unfolding has_flag
-next_from word slot behind next lowest by_flag by_word = record {
-  low = omega (arith, by_word);
-  none = λ s above below.
-      let place : s % 64 ≡ slot % 64 + (s - slot) % 64 = omega (arith, above, below, by_word) in
-      let under : s - slot < behind = omega (arith, above, below, by_flag) in
-      let same : (s - slot) / 64 ≡ 0 / 64 = omega (arith, above, below, by_word) in
-      ap (λ (i : ℕ). bit_at word i == 1) place
-      ∙ ap (λ (d : ℕ). d == 1) (sym (shifted word (slot % 64) ((s - slot) % 64))) ∙ lowest.before (s - slot) same under;
+flag_behind word slot s above below =
+    let place : slot % 64 + 1 + (s - slot - 1) % 64 ≡ s % 64 = omega (arith, above, below) in
+    ap (λ (d : ℕ). d == 1) (shifted_once_more word (slot % 64) ((s - slot - 1) % 64))
+    ∙ ap (λ (i : ℕ). bit_at word i == 1) place
+
+-- where nothing was shown, the next slot of the word comes, if there is one
+pub behind_unseen : (slot next : ℕ) → next ≡ slot + 1 → next < (slot / 64 + 1) * 64 → IsNextToTry slot None (next, None)
+behind_unseen slot next is low = record {
+  above = omega (arith, is);
+  none = λ s above below. absurd (omega (arith, above, below, is));
+  place = inl (omega (arith, low, is), refl, refl);
 }
+
+pub behind_last : (slot : ℕ) → (slot / 64 + 1) * 64 ≤ slot + 1 → IsNextToTry slot None ((slot / 64 + 1) * 64, None)
+behind_last slot last = record {
+  above = omega arith;
+  none = λ s above below. absurd (omega (arith, above, below, last));
+  place = inr (omega arith, refl);
+}
+
+-- where the word was shown, the one at which the shifted word has its lowest flag
+module _ (word slot behind : ℕ) (lowest : IsNextFlag (word / 2 ^ (slot % 64) / 2) 0 behind) where
+  unset : (s : ℕ) → slot < s → s < slot + 1 + behind → s < (slot / 64 + 1) * 64 → has_flag word s ≡ false
+  unset s above under below =
+      sym (flag_behind word slot s above below)
+      ∙ lowest.before (s - slot - 1) (omega (arith, above, below)) (omega (arith, above, under))
+
+  pub behind_next : slot + 1 + behind < (slot / 64 + 1) * 64 → IsNextToTry slot (Some word) (slot + 1 + behind, Some word)
+  behind_next low = record {
+    above = omega arith;
+    none = λ s above below. unset s above below (omega (arith, below, low));
+    place = inl (omega (arith, low), set lowest.place, refl);
+  }
+    where
+      set : ((word_of_flag behind ≡ word_of_flag 0) × (has_flag (word / 2 ^ (slot % 64) / 2) behind ≡ true)) ⊎
+          ((word / 2 ^ (slot % 64) / 2 ≡ 0) × (behind ≡ 64 * (word_of_flag 0 + 1))) →
+          has_flag word (slot + 1 + behind) ≡ true
+      set (inl here) =
+          let back : slot + 1 + behind - slot - 1 ≡ behind = omega arith in
+          sym (flag_behind word slot (slot + 1 + behind) (omega arith) low)
+          ∙ ap (has_flag (word / 2 ^ (slot % 64) / 2)) back ∙ here.1
+      set (inr past) = let at = past.1 in absurd (omega (arith, at, low))
+
+  pub behind_past : (slot / 64 + 1) * 64 ≤ slot + 1 + behind → IsNextToTry slot (Some word) ((slot / 64 + 1) * 64, None)
+  behind_past past = record {
+    above = omega arith;
+    none = λ s above below. unset s above (omega (arith, below, past)) below;
+    place = inr (omega arith, refl);
+  }
 
 -- ---- once round, or as far as the tries go
 

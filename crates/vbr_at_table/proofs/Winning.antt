@@ -15,7 +15,8 @@ use Rattle.vbr_slots.specs.Views.{Trace, PassView, KeepsPool, Did, knows}
 use Rattle.vbr_slots.proofs.Lemmas.{did_quiet, did_seen, quiet_on}
 use Rattle.vbr_at_table.specs.Gained.{gained, gained_by_now}
 use Rattle.vbr_at_table.specs.StepKinds.{advances}
-use Rattle.vbr_at_table.specs.KeptSlots.{KeepsSlots, PoolGrows, SharesWhereFull}
+use Rattle.vbr_at_table.specs.FlagsInNeed.{WinsNoFlag}
+use Rattle.vbr_at_table.specs.KeptSlots.{KeepsSlots, PoolGrows, SharesWhereFull, WinsInNeed}
 use Rattle.vbr_at_table.specs.Pieces.{HasSlots, LooksForSlot, Uses, WinsNone}
 use Rattle.vbr_at_table.specs.SharedPool.{WasOutside, ComesBefore, CameByFlag}
 use Rattle.vbr_at_table.specs.WithinBudget.{CountsSteps}
@@ -27,18 +28,21 @@ use Rattle.vbr_at_table.proofs.InTurn.{did_turn}
 use Rattle.vbr_at_table.proofs.Advancing.{given_count, given_grows, given_kept, given_shared, grows_on, grows_same}
 use Rattle.vbr_at_table.proofs.Advancing.{keeps_known, longer, same_advances, same_flags, shared_on, slots_kept_on}
 use Rattle.vbr_at_table.proofs.Counting.{counts_one, counts_on, took_all}
+use Rattle.vbr_at_table.proofs.FlagsInNeed.{in_need_after, lost_wins_none, none_in_need, wins_none_on, wins_one}
 use Rattle.vbr_at_table.proofs.Shown.{came, missed, missed_before, missed_after}
 
 -- probes after probes, where the own pool was empty
 probes_on : {p q r : PassView} → LooksForSlot p q → p.pool ≡ [] → Quiet q.trace r.trace →
-    advances r.trace ≡ advances q.trace → KeepsSlots q r → PoolGrows q r → SharesWhereFull 1 q r → LooksForSlot p r
-probes_on {p} {q} {r} tried empty quiet still kept grows shared = record {
+    advances r.trace ≡ advances q.trace → KeepsSlots q r → PoolGrows q r → SharesWhereFull 1 q r → WinsInNeed p r →
+    LooksForSlot p r
+probes_on {p} {q} {r} tried empty quiet still kept grows shared wins = record {
   quiet = quiet_on tried.quiet quiet;
   count = still ∙ tried.count;
   kept = slots_kept_on p q r tried.kept kept;
   grows = grows_on p q r tried.grows grows;
   shared = shared_on p q r 1 tried.shared (longer q r grows) shared;
   tries = inr (empty, tt);
+  wins = wins;
 }
 
 -- so many probes were made, and none won, on a way that begins with the first slot of the word of the flag that was
@@ -48,6 +52,7 @@ pub record Tried (p q : PassView) (budget used start : ℕ) : Type 0 where
   pub empty : p.pool ≡ []
   pub pool : KeepsPool p q
   pub probes : LooksForSlot p q
+  pub none : WinsNoFlag p.trace q.trace
   pub counts : CountsSteps p.trace q.trace 0 used
   pub within : used ≤ budget
   pub begins : start ≡ 64 * word_of_flag (last_tried p.trace)
@@ -85,11 +90,14 @@ module _ {p q r : PassView} {budget used start slot n : ℕ} (tried : Tried p q 
   quiet_lost : Quiet q.trace r.trace
   quiet_lost = did_quiet d (λ know. refl)
 
+  wins_none_then : WinsNoFlag p.trace r.trace
+  wins_none_then = wins_none_on tried.none (lost_wins_none d lost)
+
   probes_lost : LooksForSlot p r
   probes_lost =
       probes_on tried.probes tried.empty quiet_lost (same_advances d refl)
       (keeps_known q r stays (did_turn d) (λ s. ap (λ (k : Know). k.own s) (d.know ∙ lost_flag _ (knows q.trace))))
-      (grows_same q r stays.0) (inl (same_flags d refl))
+      (grows_same q r stays.0) (inl (same_flags d refl)) (none_in_need p r wins_none_then)
 
   pub win_tried : Tried p r budget (used + 1) start
   win_tried = record {
@@ -97,6 +105,7 @@ module _ {p q r : PassView} {budget used start slot n : ℕ} (tried : Tried p q 
     empty = tried.empty;
     pool = (stays.0 ∙ tried.pool.0, stays.1 ∙ tried.pool.1);
     probes = probes_lost;
+    none = wins_none_then;
     counts = counts_on tried.counts (counts_one used d);
     within = omega arith;
     begins = tried.begins;
@@ -276,13 +285,15 @@ win_done {p} {q} {r} {t} {budget} {used} {start} {slot} {end} winning below empt
 
 -- the slot is all that the pass could take
 pub win_probes : {p q r t : PassView} {budget used start slot end n : ℕ} → Winning p q budget used start slot end →
-    Did (TakeFlag slot) q.trace r.trace n → has_flag n slot ≡ true → KeepsPool q r → t.trace ≡ r.trace →
-    t.pool ≡ r.pool ++ slot ∷ [] → t.hand ≡ hand_without slot r.hand → LooksForSlot p t
-win_probes {p} {q} {r} {t} {slot = slot} {n = n} winning d set stays same pool hand =
+    p.hand ≡ None → Did (TakeFlag slot) q.trace r.trace n → has_flag n slot ≡ true → KeepsPool q r →
+    t.trace ≡ r.trace → t.pool ≡ r.pool ++ slot ∷ [] → t.hand ≡ hand_without slot r.hand → LooksForSlot p t
+win_probes {p} {q} {r} {t} {slot = slot} {n = n} winning no_hand d set stays same pool hand =
     probes_on winning.tried.probes winning.tried.empty (subst (Quiet q.trace) (sym same) (did_quiet d (λ know. refl)))
     (given_count d refl refl refl others stays same pool hand) (given_kept d refl refl refl others stays same pool hand)
     (given_grows d refl refl refl others stays same pool hand)
     (given_shared d refl refl refl others stays same pool hand)
+    (in_need_after p q t winning.tried.none winning.tried.probes.kept.free
+    (wins_one q t d set (winning.tried.pool.0 ∙ winning.tried.empty) (winning.tried.pool.1 ∙ no_hand) same))
   where
     won_flag : (a b : Know) → cond (has_flag n slot) a b ≡ a
     won_flag a b = ap (λ (t : Bool). cond t a b) set

@@ -5,6 +5,7 @@ use Rattle.vbr_machine.specs.Knowledge.{Know}
 use Rattle.vbr_machine.specs.Membership.{Knows}
 use Rattle.vbr_machine.specs.declared.knowledge.Read.{Read}
 use Rattle.vbr_slots.specs.Views.{PassView, knows}
+use Rattle.vbr_at_table.specs.FlagsInNeed.{WinsNoFlag}
 use Rattle.vbr_at_table.specs.StepKinds.{advances}
 use Rattle.vbr_at_table.specs.KeptSlots.{GoesInTurn, HasFree, PoolGrows, SharesWhereFull, TriesNoFlag}
 
@@ -28,3 +29,4 @@ pub record KeepsUnlinked (slot : ℕ) (p q : PassView) : Type 0 where
   pub grows : PoolGrows p q
   pub shared : SharesWhereFull 1 p q
   pub tries : TriesNoFlag p q
+  pub wins : WinsNoFlag p.trace q.trace

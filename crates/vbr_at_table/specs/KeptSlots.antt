@@ -5,6 +5,7 @@ use Rattle.vbr_machine.specs.Knowledge.{Know}
 use Rattle.vbr_machine.specs.Whereabouts.{UnlinksInTurn}
 use Rattle.vbr_slots.specs.declared.pass.TheConstants.{POOL}
 use Rattle.vbr_slots.specs.Views.{Trace, PassView, knows}
+use Rattle.vbr_at_table.specs.FlagsInNeed.{WinsNoFlag, flags_won, times_beyond}
 use Rattle.vbr_at_table.specs.StepKinds.{advances, flags_raised, flags_tried}
 
 -- a slot in the own pool of the pass, or in its hand
@@ -78,10 +79,21 @@ TriesOnlyWhere Holds p q = TriesNoFlag p q ⊎ ((p.pool ≡ []) × Holds)
 abbrev pub TriesWhereEmpty : PassView → PassView → Type 0
 TriesWhereEmpty = TriesOnlyWhere (Unit {0})
 
--- the pass made no step that would advance the epoch; no slot of it is lost; its own pool grew, if it changed; it put none into the shared pool, unless its own pool has just the place left that is for a hand; and it tried to take none out of the shared pool
+-- each slot that the pass may give birth in is in its own pool or in its hand
+abbrev pub HasAllFree : PassView → Type 0
+HasAllFree p = (slot : ℕ) → MayBear ((knows p.trace).own slot) → HasSlot p slot
+
+-- the pass won one flag at most, and raised none beyond its need; and where it had all its free slots at first, it won that flag where it had no slot
+pub record WinsInNeed (p q : PassView) : Type 0 where
+  pub one : flags_won q.trace ≤ flags_won p.trace + 1
+  pub raised : times_beyond q.trace + flags_won p.trace ≤ times_beyond p.trace + flags_won q.trace
+  pub needed : HasAllFree p → times_beyond q.trace ≡ times_beyond p.trace
+
+-- the pass made no step that would advance the epoch; no slot of it is lost; its own pool grew, if it changed; it put none into the shared pool, unless its own pool has just the place left that is for a hand; it tried to take none out of the shared pool, and put none there that was its last
 pub record TakesNoSlot (p q : PassView) : Type 0 where
   pub count : advances q.trace ≡ advances p.trace
   pub kept : KeepsSlots p q
   pub grows : PoolGrows p q
   pub shared : SharesWhereFull 1 p q
   pub tries : TriesNoFlag p q
+  pub wins : WinsNoFlag p.trace q.trace

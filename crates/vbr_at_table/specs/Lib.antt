@@ -5,6 +5,7 @@ pub mod WithinBudget
 pub mod SharedPool
 pub mod StepKinds
 pub mod Gained
+pub mod FlagsInNeed
 pub mod KeptSlots
 pub mod Advances
 pub mod Budgets
@@ -30,3 +31,4 @@ pub mod Values
 pub mod Replacing
 pub mod Reserving
 pub mod Messages
+pub mod Records

@@ -8,7 +8,8 @@ use Rattle.vbr_at_table.specs.Advances.{AdvancesWhereNeeded}
 use Rattle.vbr_at_table.specs.Budgets.{NeedsMore, steps_to_win}
 use Rattle.vbr_at_table.specs.StepKinds.{advances, flags_raised}
 use Rattle.vbr_at_table.specs.Gained.{gained}
-use Rattle.vbr_at_table.specs.KeptSlots.{KeepsSlots, PoolGrows, SharesWhereFull, TakesNoSlot, TriesNoFlag, TriesWhereEmpty}
+use Rattle.vbr_at_table.specs.FlagsInNeed.{WinsNoFlag}
+use Rattle.vbr_at_table.specs.KeptSlots.{KeepsSlots, PoolGrows, SharesWhereFull, TakesNoSlot, TriesNoFlag, TriesWhereEmpty, WinsInNeed}
 use Rattle.vbr_at_table.specs.Hands.{HandView}
 use Rattle.vbr_at_table.specs.Refusals.{IsSpent, TakeIsRefused}
 use Rattle.vbr_at_table.specs.SharedPool.{CameByFlag}
@@ -41,7 +42,7 @@ pub record FallsShort (p q : PassView) (budget before most : ℕ) (told : Refusa
 
 -- the pass looked for a slot: it made no call, and no step that would advance the epoch
 -- No slot of it is lost; its own pool grew, if it changed. It put none into the shared pool, unless its own is full but for one place.
--- It tried to take one from there only where its own pool was empty.
+-- It tried to take one from there only where its own pool was empty, and won one flag at most.
 pub record LooksForSlot (p q : PassView) : Type 0 where
   pub quiet : Quiet p.trace q.trace
   pub count : advances q.trace ≡ advances p.trace
@@ -49,6 +50,7 @@ pub record LooksForSlot (p q : PassView) : Type 0 where
   pub grows : PoolGrows p q
   pub shared : SharesWhereFull 1 p q
   pub tries : TriesWhereEmpty p q
+  pub wins : WinsInNeed p q
 
 -- the own pool is as it was, which had slots, and no step was made; or it was empty, and has one slot, which came by its flag
 abbrev pub IsWon : PassView → PassView → ℕ → Type 0
@@ -104,6 +106,7 @@ pub record Chooses (p q : PassView) : Type 0 where
   pub kept : KeepsSlots p q
   pub shared : SharesWhereFull 1 p q
   pub tries : TriesNoFlag p q
+  pub wins : WinsNoFlag p.trace q.trace
   pub advances : AdvancesWhereNeeded p q
 
 -- the slot is the oldest one of the own pool that is stamped below the epoch that the pass read last
@@ -131,6 +134,7 @@ pub record TakesOne (p q : PassView) : Type 0 where
   pub one : length p.pool ≤ length q.pool + 1
   pub flags : flags_raised q.trace ≡ flags_raised p.trace
   pub tries : TriesNoFlag p q
+  pub wins : WinsNoFlag p.trace q.trace
   pub advances : advances q.trace ≡ advances p.trace
 
 -- in one step, an incarnation was born in the slot that was chosen, which is in hand

@@ -11,13 +11,13 @@ use Rattle.vbr_at_table.specs.Advances.{AdvancesWhereNeeded}
 use Rattle.vbr_at_table.specs.Budgets.{steps_to_take, steps_to_take_among}
 use Rattle.vbr_at_table.specs.Gained.{gained}
 use Rattle.vbr_at_table.specs.Hands.{HandView, IsHandOf}
-use Rattle.vbr_at_table.specs.KeptSlots.{KeepsSlots, SharesWhereFull, TriesWhereEmpty}
+use Rattle.vbr_at_table.specs.KeptSlots.{KeepsSlots, SharesWhereFull, TriesWhereEmpty, WinsInNeed}
 use Rattle.vbr_at_table.specs.SharedPool.{CameByFlag}
 use Rattle.vbr_at_table.specs.WithinBudget.{TookWithin}
 
 -- whatever is answered, no call of the set was made, and no more steps than the budget
 -- No slot is lost, and at most one has left the own pool. None went into the shared pool unless the own one has no more than two places left.
--- One was looked for there only where the own pool was empty. The epoch was advanced only where it had to be.
+-- One was looked for there only where the own pool was empty, and one flag was won at most. The epoch was advanced only where it had to be.
 pub record Takes (p q : PassView) (budget : ℕ) : Type 0 where
   pub steps : TookWithin p.trace q.trace budget
   pub quiet : Quiet p.trace q.trace
@@ -25,6 +25,7 @@ pub record Takes (p q : PassView) (budget : ℕ) : Type 0 where
   pub one : length p.pool ≤ length q.pool + 1
   pub shared : SharesWhereFull 2 p q
   pub tries : TriesWhereEmpty p q
+  pub wins : WinsInNeed p q
   pub advances : AdvancesWhereNeeded p q
 
 -- the slot stands in the pool, and each slot before it there has a stamp of at least this epoch

@@ -8,6 +8,7 @@ ghost use Rattle.vbr_at_table.specs.Answering.{FindsAnother, IsAbsent, IsPresent
 ghost use Rattle.vbr_at_table.specs.Answering.{KeepsByLoad};
 ghost use Rattle.vbr_at_table.specs.Exchanges.{IsUnmarked};
 ghost use Rattle.vbr_at_table.specs.DecidedKeys.{TellsKey};
+ghost use Rattle.vbr_at_table.specs.Records.{ShowsEntry};
 ghost use Rattle.vbr_at_table.specs.Values.{AnswersEntry, IsAsked, IsOtherIn};
 
 use crate::held::Held;
@@ -32,6 +33,7 @@ pub fn confirm_present<N: Nodes>(
     ensures table { IsSameTable at.old at.new }
     ensures keeps { KeepsByLoad (pass_of at.old) (pass_of at.new) }
     ensures answers { OnOk result (AnswersEntry (trace_of at.old) (trace_of at.new) op held.now) }
+    ensures there { OnOk result (ShowsEntry (trace_of at.old) (trace_of at.new) held.now) }
     ensures lost { IfErr result (FindsAnother (trace_of at.old) (trace_of at.new) held.now) }
 {
     at.law();

@@ -4,6 +4,7 @@ ghost use Rattle.vbr_slots.specs.AtTables.{IsSameTable, trace_of, pass_of};
 ghost use Rattle.vbr_slots.specs.Views.{knows};
 ghost use Rattle.vbr_at_table.specs.Exchanges.{StoresIn, GivesBack};
 ghost use Rattle.vbr_at_table.specs.Hands.{IsHandOf};
+ghost use Rattle.vbr_at_table.specs.Records.{PublishesSlot};
 ghost use Rattle.vbr_at_table.specs.Replacing.{IsReplaceable, ReplacesHeld};
 ghost use Rattle.vbr_at_table.specs.Values.{steps_to_update};
 
@@ -37,6 +38,8 @@ pub fn replace<N: Nodes>(
         (steps_to_update (trace_of at.old).start) }
     ensures replaced { IfOk result
         (ReplacesHeld (pass_of at.old) (pass_of at.new) held.now key value) }
+    ensures published { IfOk result
+        (λ _. PublishesSlot (trace_of at.old) (trace_of at.new) hand.slot hand.birth key) }
     ensures lost { IfErr result (GivesBack (pass_of at.old) (pass_of at.new) held.now hand) }
 {
     let At::Slot(slot) = held.at else {

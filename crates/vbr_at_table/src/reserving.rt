@@ -2,7 +2,7 @@
 ghost use Rattle.std.specs.Prelude.{◌≡◌, ◌<◌, ◌≤◌};
 ghost use Rattle.vbr_slots.specs.AtTables.{IsSameTable, pass_of};
 ghost use Rattle.vbr_words.specs.declared.link.TheConstants.{MAX_SLOTS};
-ghost use Rattle.vbr_at_table.specs.Reserving.{IsNextFrom, Reserves, ReservesFrom, TopsUp, most_kept};
+ghost use Rattle.vbr_at_table.specs.Reserving.{IsNextToTry, Reserves, ReservesFrom, TopsUp, most_kept};
 
 use vbr_slots::AtTable;
 use vbr_slots::pass::POOL;
@@ -11,9 +11,9 @@ use vbr_words::flags::{FLAGS, next_flag};
 
 /// Takes slots out of the shared pool until the own pool has `wanted`, or 63 if that is less; fewer, where it
 /// finds no more on a way once round the slots, which begins with the flag word of the slot that the pass
-/// tried last. Returns how many it took, and how many steps it made: one for each slot, one for each flag word
-/// that it passes, and one for each slot that others took before it. It makes no call of the set and changes
-/// no list.
+/// tried last. Returns how many it took, and how many steps it made: at most one for each slot that it took, one
+/// for each flag word, and one for each slot that others took out of the shared pool meanwhile. It makes no call
+/// of the set and changes no list.
 ///
 /// A pass with r slots in reserve that inserts after each remove advances the epoch once in about r + 1
 /// inserts: by then the slot that it retired first is stamped below the epoch.
@@ -61,6 +61,8 @@ fn most_kept(wanted: u32) -> usize
 }
 
 // Takes slots from one up to another until the own pool has so many, or so many tries were made. Returns how many.
+// Of each flag word it tries one slot after the other, until one is lost: that shows the word, and from then on it
+// tries those whose flags were set there.
 fn reserve_from<N: Nodes>(
     at: &mut AtTable<'_, N>,
     from: u32,
@@ -76,28 +78,38 @@ fn reserve_from<N: Nodes>(
     let _slots = at.slots.shape().slots();
     let mut used = 0;
     let mut slot = from;
+    let mut shown = None;
     while slot < to && used < probes && at.pool().len() < most {
         used += 1;
         match at.take_flag(slot) {
             Ok(()) => {
                 at.law();
                 at.keep(slot);
-                slot += 1;
+                (slot, shown) = behind(slot, shown);
             }
             Err(found) => {
-                let next = next_from(found, slot);
-                slot = if slot < next { next } else { slot + 1 };
+                (slot, shown) = behind(slot, Some(found));
             }
         }
     }
     used
 }
 
-// The first slot from this one on whose flag is set in its word; where none is, the first slot of the next word.
-fn next_from(word: u64, slot: u32) -> u32
+// Where the tries go on behind a slot: with the next one of its word, or the next one whose flag is set in the word,
+// if that was shown; where there is none, with the first slot of the next word, of which nothing was shown.
+fn behind(slot: u32, shown: Option<u64>) -> (u32, Option<u64>)
     requires { slot ≤ MAX_SLOTS }
-    ensures { IsNextFrom word slot result }
+    ensures { IsNextToTry slot shown result }
 {
-    let behind = next_flag(word >> (slot % FLAGS), 0);
-    (slot + behind).min((slot / FLAGS + 1) * FLAGS)
+    let past = (slot / FLAGS + 1) * FLAGS;
+    let between = match shown {
+        None => 0,
+        Some(word) => next_flag(word >> (slot % FLAGS) >> 1, 0),
+    };
+    let next = slot + 1 + between;
+    if next < past {
+        (next, shown)
+    } else {
+        (past, None)
+    }
 }

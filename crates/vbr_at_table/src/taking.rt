@@ -27,11 +27,13 @@ use vbr_words::flags::{FLAGS, next_flag};
 /// has room for it; if not, it answers OutOfSteps. It looks in the shared pool only where the own
 /// pool is empty: NoSlot, if nothing is there. It advances the epoch only where no slot of the own pool
 /// is stamped below the epoch that it read: EpochSpent, if that is the last. That is tested last, where
-/// the budget had room to advance it. A flag that it won stays in the own pool after a refusal.
+/// the budget had room to advance it. A flag that it won stays in the own pool after a refusal. It wins one
+/// at most, and only where the pass had no slot that it may give birth in.
 ///
 /// With slots in the own pool a budget of 80 is enough, whatever others do; with none, one of
 /// w + 13 + g is, where w is the number of flag words, and g that of the slots which other passes take
-/// out of the shared pool meanwhile.
+/// out of the shared pool meanwhile. Of passes that take slots only as here, g is below their number,
+/// while no insert or store of theirs is answered yes.
 ///
 /// It tells how many steps it made.
 #[inline(always)]

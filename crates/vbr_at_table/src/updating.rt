@@ -7,6 +7,7 @@ ghost use Rattle.vbr_slots.specs.Views.{knows};
 ghost use Rattle.vbr_at_table.specs.Hands.{IsHandOf};
 ghost use Rattle.vbr_at_table.specs.Exchanges.{StoresIn, IsGap, GivesBack};
 ghost use Rattle.vbr_at_table.specs.Held.{IsHeld, IsSucc};
+ghost use Rattle.vbr_at_table.specs.Records.{PublishesSlot};
 ghost use Rattle.vbr_at_table.specs.Values.{FillsEntry, LinksEntry, PutsValue};
 ghost use Rattle.vbr_at_table.specs.Values.{steps_to_update, steps_to_value};
 
@@ -96,6 +97,8 @@ pub fn update<N: Nodes>(
         (steps_to_update (trace_of at.old).start) }
     ensures inserted { IfOk result
         (λ _. LinksEntry (pass_of at.old) (pass_of at.new) key value) }
+    ensures published { IfOk result
+        (λ _. PublishesSlot (trace_of at.old) (trace_of at.new) hand.slot hand.birth key) }
     ensures lost { IfErr result (GivesBack (pass_of at.old) (pass_of at.new) pred.now hand) }
 {
     let birth = birth_named(at, pred, succ);

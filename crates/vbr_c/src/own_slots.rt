@@ -1,9 +1,10 @@
 //! The calls on the slots that a handle keeps to itself: of a set, and of a map.
 ghost use Rattle.std.specs.Prelude.{◌≡◌};
+ghost use Rattle.vbr_handles.specs.Forsaking.{HasForsaken};
 ghost use Rattle.vbr_handles.specs.GivingBack.{TellsGivenBack};
 ghost use Rattle.vbr_handles.specs.Reserving.{TellsReserve};
 
-use vbr_handles::numbers::{giving_back, reserving};
+use vbr_handles::numbers::{forsaking, giving_back, reserving};
 use vbr_handles::{Handle, MapHandle};
 
 /// Puts all slots that the handle keeps to itself into the pool that all handles share, one step for each, and
@@ -32,8 +33,10 @@ pub extern "C" fn vbr_map_spare(handle: &mut MapHandle) -> u32
 
 /// Takes slots out of the pool that all handles share until the handle keeps `wanted` to itself, or 63 if that is
 /// less, and returns how many it took: fewer only where it finds no more on a way once round the slots; 0 where the
-/// handle is empty. It makes no call of the set, and can't fail. A handle with r slots in reserve that takes a key
-/// out before each that it puts in advances the epoch in about one of r + 1 such inserts.
+/// handle is empty. It makes at most one step for each slot that it takes, one for each 64 slots of the set, and one
+/// for each slot that others take out of that pool meanwhile. It makes no call of the set, and can't fail. A handle
+/// with r slots in reserve that takes a key out before each that it puts in advances the epoch in about one of r + 1
+/// such inserts.
 ///
 /// A handle keeps a reserve by itself: 32 slots, or slots / (8 * handles) where that is less. After an insert that
 /// added a key, where more than an eighth of the reserve is lacking, it tries to take a slot up to five times.
@@ -56,4 +59,23 @@ pub extern "C" fn vbr_map_reserve(handle: &mut MapHandle, wanted: u32) -> u32
     ensures steps { handle.new.steps ≡ handle.old.steps }
 {
     reserving::reserve(handle.owned.owner_mut(), wanted)
+}
+
+/// Gives up the slots that the handle keeps to itself, for good: nobody has them any more until its set is closed or
+/// renewed. It makes no step. It is for a handle whose process ended in the middle of a call.
+#[unsafe(no_mangle)]
+pub extern "C" fn vbr_forsake(handle: &mut Handle)
+    ensures forsaken { HasForsaken handle.old.owned.member handle.new.owned.member }
+    ensures steps { handle.new.steps ≡ handle.old.steps }
+{
+    forsaking::forsake_slots(handle.owned.owner_mut());
+}
+
+/// Does the same of the handle of a map.
+#[unsafe(no_mangle)]
+pub extern "C" fn vbr_map_forsake(handle: &mut MapHandle)
+    ensures forsaken { HasForsaken handle.old.owned.member handle.new.owned.member }
+    ensures steps { handle.new.steps ≡ handle.old.steps }
+{
+    forsaking::forsake_slots(handle.owned.owner_mut());
 }

@@ -22,8 +22,9 @@ use vbr_words::Keys;
 /// Opens a set of these keys, of which there may be none, with a pass for each of the handles, which are
 /// empty: 0. The keys ascend, each above the one before. They are spread over the buckets by the seed, any
 /// number: with the same one each key has the same bucket, and one that is drawn at random and kept secret
-/// lets nobody choose keys that share a bucket. The epoch is 1, and no pass has made a step then. The plain
-/// openings of the library draw a seed and make this call (bindings/seeds.c).
+/// lets nobody choose keys that share a bucket. The epoch is 1. Each handle takes its reserve then, unless there are
+/// fewer than 64 slots for each ([`crate::own_slots::vbr_reserve`]). The plain openings of the library draw a seed and
+/// make this call (bindings/seeds.c).
 ///
 /// Refusals, tested in this order, which leave the handles as they were: -5, one of the handles isn't
 /// empty; -6, the numbers are no shape; -7, the number of handles is 0 or above 64; -10, the keys don't
@@ -90,8 +91,9 @@ pub extern "C" fn vbr_open_many_seeded(
 }
 
 /// Adds a key: 1 if it was absent, 0 if it was there. It makes at most `budget` steps. While the other
-/// handles stand still, 18n + slots + 82 are enough, with n nodes in the key's bucket. Where it added the key and
-/// the handle lacks slots of its reserve, it takes some then, within the budget ([`crate::own_slots::vbr_reserve`]).
+/// handles stand still, 18n + 82 are enough, or 18n + w + 20 if that is more, with n nodes in the key's bucket and
+/// w = slots / 64, rounded up. Where it added the key and the handle lacks slots of its reserve, it takes some
+/// then, within the budget ([`crate::own_slots::vbr_reserve`]).
 ///
 /// Refusals, after which no call was made and the handle can go on: -1, the steps leave no room in the
 /// budget; -2, the key was absent and the handle found no slot; -3, the key was absent and the last
@@ -337,10 +339,11 @@ pub extern "C" fn vbr_report_all(
 /// library makes this call with that of the set as it was (bindings/seeds.c). It has no budget, and makes no call of the set. The fresh set is
 /// opened before the other one is given up. It asks that the handles which are full are of one set.
 ///
-/// Refusals, which leave the handles as they were: -6, the numbers are no shape; -4, one of the handles is empty;
-/// -12, they are not as many as were opened with the set; -13, they are of different sets, which is a probe: no
-/// contract says when it comes, but after these tests, which are made in this order; -11, there are more keys than
-/// slots; -8, there is no memory for the report or the fresh set.
+/// Refusals, tested in this order, which leave the handles as they were: -6, the numbers are no shape; -4, one of the
+/// handles is empty; -12, they are not as many as were opened with the set; -13, they are of different sets, which is a
+/// probe: no contract says when it comes, but after these tests; -11, there are more keys than slots, by the report
+/// or, where there is no memory for one, by the balances of the handles; -8, there is no memory for the report or the
+/// fresh set.
 ///
 /// ```c file=bindings/c/seeds.c
 /// vbr_answer renewed = vbr_renew_all_seeded(handle, 2, 2048 + 2 * 64, 2048, VBR_MAX_EPOCH, vbr_random_seed());

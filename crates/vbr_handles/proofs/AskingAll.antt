@@ -1,23 +1,29 @@
 -- Members that were asked come back to their handles.
 use Rattle.std.proofs.Common.{◌≡◌, ℕ, zero, suc, ◌+◌, ◌<◌, ◌≤◌, ◌≢◌, false, List, [], ◌∷◌, ◌++◌, length, map, drop}
 use Rattle.std.proofs.Common.{refl, sym, ap, ◌∙◌, subst, arith}
-use Rattle.std.specs.Prelude.{IfSome, IsSome, Option, None, Some, slice_index_or, slice_set}
+use Rattle.std.specs.Prelude.{Bool, Ok, IfSome, IsSome, Option, None, Some, slice_index_or, slice_set}
+use Rattle.std.specs.Prelude.{pos, ◌<ℤ◌}
+use Rattle.std.proofs.Common.{inr}
 use Rattle.std.proofs.lemmas.Bool.{false≢true}
 use Rattle.std.proofs.lemmas.List.{length-map}
 use Rattle.std.proofs.lemmas.List.Elements.{All-head, All-rest, All-same, All-tail, length_all_zip}
-use Rattle.vbr_words.specs.Dimensions.{Dimensions}
+use Rattle.vbr_words.specs.Dimensions.{Dimensions, IsShape}
 use Rattle.vbr_machine.specs.Start.{start_with}
 use Rattle.vbr_slots.specs.Views.{PassView, TableView, new_passes}
 use Rattle.vbr_set.specs.Kinds.{KindOf}
 use Rattle.vbr_set.specs.Members.{MemberView as Member, new_members}
 use Rattle.vbr_set.specs.AllMembers.{AreTooFew}
-use Rattle.vbr_set.specs.RenewingAll.{AreNotAll, HasNoRoom}
+use Rattle.vbr_set.specs.BalanceSums.{added_balances}
+use Rattle.vbr_set.specs.RenewingAll.{AreNotAll}
 use Rattle.vbr_handles.specs.AllHandles.{AreFull, StaySo, joined, members_by}
-use Rattle.vbr_handles.specs.AskingAll.{RenewsWithReserves}
+use Rattle.vbr_handles.specs.AskingAll.{AsksAllOf, Lack, RenewsWithReserves}
+use Rattle.vbr_handles.specs.declared.asking_all.Answer.TheVariants as answering
+use Rattle.vbr_handles.specs.declared.asking_all.Question.{Question}
+use Rattle.vbr_handles.specs.declared.asking_all.Question.TheVariants as question
 use Rattle.vbr_handles.specs.Listings.{Listing}
 use Rattle.vbr_handles.specs.Opening.{spread_shape}
 use Rattle.vbr_handles.specs.OpeningReserves.{StartWithReserves, StartsWithReserve}
-use Rattle.vbr_handles.specs.RenewingAll.{HasMoreThanSlots, RenewsTo}
+use Rattle.vbr_handles.specs.RenewingAll.{RenewsTo}
 use Rattle.vbr_handles.specs.declared.opening.ShapeNumbers.{ShapeNumbers}
 use Rattle.vbr_handles.proofs.AllHandles.{moved}
 use Rattle.vbr_handles.proofs.Opened.{new_count}
@@ -74,16 +80,22 @@ as_many_renewed kind members back shape r =
     ∙ length-map (new_passes new.set 0 (length members)) (λ (pass : PassView). record { set = new.set; pass = pass })
     ∙ new_count new.set 0 (length members)
 
--- and where there is no room there are more keys than slots
-pub more_than_slots : {Item R I : Type 0} (kind : KindOf Item R) (L : Listing R I) (members : List Member)
-    (numbers : ShapeNumbers) (shape : Dimensions) →
-    ((report : R) → length (L.items report) ≡ length (kind.contents report).listed.items)
-    → shape ≡ spread_shape numbers false → HasNoRoom kind members shape → HasMoreThanSlots kind L members numbers
-more_than_slots kind L members numbers shape as_many spread h =
-    let same = as_many h.report in
-    let slots : shape.slots ≡ numbers.slots = ap (λ (d : Dimensions). d.slots) spread in
-    let more = h.more in
-    record { report = h.report; reports = h.reports; more = omega (arith, same, slots, more) }
+-- numbers of which a shape was made are those of one, and it has as many slots
+module _ (numbers : ShapeNumbers) (shape : Dimensions) (spread : shape ≡ spread_shape numbers false) where
+  pub is_of_shape : (values : Bool) → IsShape shape → IsShape (spread_shape numbers values)
+  is_of_shape values is =
+      let bare : IsShape (spread_shape numbers false) = subst IsShape spread is in
+      record {
+        some_slot = bare.some_slot;
+        slots = bare.slots;
+        some_bucket = bare.some_bucket;
+        buckets = bare.buckets;
+        some_epoch = bare.some_epoch;
+        last_epoch = bare.last_epoch;
+      }
+
+  pub of_as_many_slots : (P : ℕ → Type 0) → P shape.slots → P numbers.slots
+  of_as_many_slots P is = subst P (ap (λ (d : Dimensions). d.slots) spread) is
 
 module _ {H : Type 0} (member : H → Option Member) where
   -- one more handle is emptied
@@ -181,6 +193,25 @@ module _ {H : Type 0} (member : H → Option Member) where
   pub stays : (before after : List H) (came : List Member) → AreFull member before → came ≡ members_by member before →
       map member after ≡ map Some came → StaySo member before after
   stays before after came full same put = put ∙ ap (map Some) same ∙ all_members before full
+
+  -- where there is no memory to ask, the balances may tell that there is no room
+  pub tells_no_room : {Item R : Type 0} (kind : KindOf Item R) (asked : Question) (shape : Dimensions)
+      (before after : List H) → asked ≡ question.Renew shape → AreFull member before →
+      ¬ (Lack asked (members_by member before)) → after ≡ before
+      → pos shape.slots <ℤ added_balances (members_by member before) →
+      AsksAllOf kind member asked before after (Ok answering.Room)
+  tells_no_room kind asked shape before after is full lack same above =
+      let enough : ¬ (Lack (question.Renew shape) (members_by member before)) =
+      subst (λ (q : Question). ¬ (Lack q (members_by member before))) is lack in
+      subst (λ (q : Question). AsksAllOf kind member q before after (Ok answering.Room)) (sym is) (
+        full,
+        record {
+          enough = enough;
+          came = members_by member before;
+          tells = (refl, inr above);
+          full = ap (map member) same ∙ sym (all_members before full);
+        },
+      )
 
   -- and are opened where fresh members come with their reserves
   pub renewed : {Item R I : Type 0} (kind : KindOf Item R) (L : Listing R I) (members : List Member)

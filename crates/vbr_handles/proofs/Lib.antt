@@ -5,7 +5,9 @@ mod Recast
 mod Opened
 mod AllHandles
 mod AskingAll
+mod HandleBalances
 mod EntryKeys
 mod InTurn
 mod ToppingUp
+mod HandleProgress
 mod OpeningReserves

@@ -5,7 +5,7 @@ use Rattle.vbr_set.specs.AllMembers.{AreTooFew, ReportsAllBy}
 use Rattle.vbr_set.specs.Closing.{ClosesBy}
 use Rattle.vbr_set.specs.Kinds.{KindOf}
 use Rattle.vbr_set.specs.Members.{MemberView as Member}
-use Rattle.vbr_set.specs.RenewingAll.{AreNotAll, HasNoRoom, RenewsAllBy}
+use Rattle.vbr_set.specs.RenewingAll.{AreNotAll, HasNoRoom, HasRoom, RenewsAllBy}
 use Rattle.vbr_handles.specs.AllHandles.{AreFull, members_by}
 use Rattle.vbr_handles.specs.OpeningReserves.{StartWithReserves}
 use Rattle.vbr_handles.specs.declared.asking_all.AskRefusal.{AskRefusal}
@@ -27,14 +27,19 @@ module _ {Item R : Type 0} (kind : KindOf Item R) where
     pub renews : RenewsAllBy kind members shape fresh
     pub reserves : StartWithReserves fresh back
 
+  -- there is room for what they have, where they are to be renewed
+  abbrev pub LacksNoRoom : Question → List Member → Type 0
+  LacksNoRoom question.Report members = Unit {0}
+  LacksNoRoom (question.Renew shape) members = HasRoom kind members shape.slots
+
   -- members that are asked for their report come back as they were, with it or with why there is none; those that are to be renewed are, or come back as they were with why not
   abbrev pub AnswersQuestion : Question → List Member → List Member → Answer R → Type 0
   AnswersQuestion question.Report members back (answering.Report report) = (back ≡ members) × ReportsAllBy (ClosesBy kind) members report
   AnswersQuestion question.Report members back answering.Memory = back ≡ members
   AnswersQuestion question.Report members back _ = ⊥
   AnswersQuestion (question.Renew shape) members back answering.Renewed = RenewsWithReserves members shape back
-  AnswersQuestion (question.Renew shape) members back answering.Room = (back ≡ members) × HasNoRoom kind members shape
-  AnswersQuestion (question.Renew shape) members back answering.Memory = back ≡ members
+  AnswersQuestion (question.Renew shape) members back answering.Room = (back ≡ members) × HasNoRoom kind members shape.slots
+  AnswersQuestion (question.Renew shape) members back answering.Memory = (back ≡ members) × HasRoom kind members shape.slots
   AnswersQuestion (question.Renew shape) members back _ = ⊥
 
   module _ {H : Type 0} (member : H → Option Member) (asked : Question) where
@@ -45,12 +50,12 @@ module _ {Item R : Type 0} (kind : KindOf Item R) where
       pub tells : AnswersQuestion asked (members_by member before) came answer
       pub full : map member after ≡ map Some came
 
-    -- why they were asked nothing
+    -- why they were asked nothing, by the first test that failed
     abbrev pub IsWhyUnasked : List H → AskRefusal → Type 0
     IsWhyUnasked handles asking.Empty = ¬ (AreFull member handles)
     IsWhyUnasked handles asking.Missing = AreFull member handles × Lack asked (members_by member handles)
     IsWhyUnasked handles asking.Mixed = AreFull member handles × ¬ (Lack asked (members_by member handles))
-    IsWhyUnasked handles asking.Memory = AreFull member handles × ¬ (Lack asked (members_by member handles))
+    IsWhyUnasked handles asking.Memory = AreFull member handles × ¬ (Lack asked (members_by member handles)) × LacksNoRoom asked (members_by member handles)
 
     -- the members of handles were asked; and else the handles are as they were
     abbrev pub AsksAllOf : List H → List H → Result (Answer R) AskRefusal → Type 0

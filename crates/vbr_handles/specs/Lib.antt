@@ -22,4 +22,6 @@ pub mod Shown
 pub mod Reports
 pub mod Renewals
 pub mod GivingBack
+pub mod Forsaking
 pub mod Reserving
+pub mod HandleProgress

@@ -1,5 +1,5 @@
 -- What a handle shows without a call: numbers of its set and of its pass, each 0 where it is empty.
-use Rattle.std.specs.Prelude.{◌≡◌, ℕ, ℤ, pos, Option, None, Some}
+use Rattle.std.specs.Prelude.{◌≡◌, ℕ, ◌<◌, ◌^◌, ℤ, pos, Option, None, Some}
 use Rattle.vbr_words.specs.Buckets.{multiplier_of}
 use Rattle.vbr_slots.specs.Views.{knows}
 use Rattle.vbr_set.specs.Balances.{balance_of}
@@ -25,10 +25,10 @@ abbrev pub buckets_of : Option Member → ℕ
 buckets_of None = 0
 buckets_of (Some m) = m.set.start.shape.buckets
 
--- keys are multiplied by what this seed tells; 0 where they aren't spread
+-- keys are multiplied by what this seed tells, the lesser of the two that tell it; 0 where they aren't spread
 abbrev pub SpreadsBy : Option ℕ → ℕ → Type 0
 SpreadsBy None seed = seed ≡ 0
-SpreadsBy (Some multiplier) seed = multiplier ≡ multiplier_of seed
+SpreadsBy (Some multiplier) seed = (multiplier ≡ multiplier_of seed) × (seed < 2 ^ 63)
 
 -- so they are of the set
 abbrev pub IsSeedOf : Option Member → ℕ → Type 0

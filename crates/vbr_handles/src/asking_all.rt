@@ -2,6 +2,7 @@
 ghost use Rattle.std.specs.Prelude.{◌≡◌, ◌≤◌, [], true, false, length, map, None, Some, IfSome, IsSome};
 ghost use Rattle.std.specs.Vec.{vec_capacity};
 ghost use Rattle.vbr_set.specs.AllMembers.{AreOfOneSet};
+ghost use Rattle.vbr_set.specs.BalanceSums.{added_balances};
 ghost use Rattle.vbr_handles.specs.AllHandles.{AreFull, members_by};
 ghost use Rattle.vbr_handles.specs.AskingAll.{AsksAllOf, Lack, AnswersQuestion};
 
@@ -25,7 +26,7 @@ pub enum AskRefusal {
     /// Two of the handles are of different sets in memory ([`Member::is_beside`]). It is a probe, and no
     /// contract says when it comes but that it doesn't before the others.
     Mixed,
-    /// There is no memory to put the members side by side.
+    /// There is no memory to put the members side by side; of a renewal, and no more keys than slots.
     Memory,
 }
 
@@ -47,7 +48,7 @@ pub(crate) enum Answer<R> {
     Renewed,
     /// That there are more keys than slots of the shape.
     Room,
-    /// That there is no memory.
+    /// That there is no memory; of a renewal, and no more keys than slots.
     Memory,
 }
 
@@ -72,15 +73,50 @@ pub(crate) fn ask_all<N: Kind, H: HandleOf<N>>(
         return Err(AskRefusal::Mixed);
     }
     let Ok(members) = Vec::with_capacity(alloc, handles.len()) else {
-        return Err(AskRefusal::Memory);
+        return without_memory::<N, H>(handles, &question);
     };
     let Ok(blocks) = Vec::with_capacity(alloc, handles.len()) else {
-        return Err(AskRefusal::Memory);
+        return without_memory::<N, H>(handles, &question);
     };
     let (members, blocks) = take_all_out::<N, H>(alloc, handles, members, blocks);
     let (told, members) = ask::<N>(alloc, members, question);
     put_all_back::<N, H>(alloc, handles, members, blocks);
     Ok(told)
+}
+
+// What is answered where there is no memory to ask: of a renewal that there is no room, where the balances tell so.
+fn without_memory<N: Kind, H: HandleOf<N>>(
+    handles: &mut [H],
+    question: &Question,
+) -> Result<Answer<N::Report>, AskRefusal>
+    requires full { AreFull H.member handles.old }
+    requires enough { ¬ (Lack question.now (members_by H.member handles.old)) }
+    ensures same { handles.new ≡ handles.old }
+    ensures asks { AsksAllOf N.kind H.member question.now handles.old handles.new result }
+{
+    match question {
+        Question::Report => Err(AskRefusal::Memory),
+        Question::Renew(shape) => {
+            if added_balances::<N, H>(handles) > i64::from(shape.slots()) {
+                Ok(Answer::Room)
+            } else {
+                Err(AskRefusal::Memory)
+            }
+        }
+    }
+}
+
+// The balances of the members of handles, which are full, added up.
+fn added_balances<N: Nodes, H: HandleOf<N>>(handles: &mut [H]) -> i64
+    requires { AreFull H.member handles.old }
+    ensures same { handles.new ≡ handles.old }
+    ensures sum { result ≡ added_balances (members_by H.member handles.old) }
+{
+    let mut sum = 0i64;
+    for i in (0..handles.len()).rev() {
+        sum = sum.wrapping_add(handles[i].balance());
+    }
+    sum
 }
 
 // The block that a member lay in.

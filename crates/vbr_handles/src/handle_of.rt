@@ -2,6 +2,7 @@
 ghost use Rattle.std.specs.Prelude.{◌≡◌, true, false, ℕ, Option, None, IsSome};
 ghost use Rattle.vbr_set.specs.Members.{MemberView};
 ghost use Rattle.vbr_handles.specs.Passes.{IsPassCount};
+ghost use Rattle.vbr_handles.specs.Shown.{balance_shown};
 
 use crate::handle::{Handle, MapHandle};
 use crate::owner::Owner;
@@ -24,6 +25,11 @@ pub trait HandleOf<N: Nodes>: Sized {
     fn passes(&mut self) -> u32
         requires { IsSome (member self.old) }
         ensures { IsPassCount (member self.old) result × (self.new ≡ self.old) };
+
+    /// The balance of its member ([`Member::balance`]). It stays as it is.
+    fn balance(&mut self) -> i64
+        requires { IsSome (member self.old) }
+        ensures { (result ≡ balance_shown (member self.old)) × (self.new ≡ self.old) };
 
     /// Whether its member is beside the other's, as [`Member::is_beside`] tells. Both stay as they are.
     fn is_beside(&mut self, other: &mut Self) -> bool
@@ -51,6 +57,10 @@ impl HandleOf<Keys> for Handle {
         self.owned.owner_mut().passes()
     }
 
+    fn balance(&mut self) -> i64 {
+        self.owned.owner_mut().balance()
+    }
+
     fn is_beside(&mut self, other: &mut Handle) -> bool {
         let one = self.owned.owner_mut();
         one.is_beside(other.owned.owner_mut())
@@ -72,6 +82,10 @@ impl HandleOf<Entries> for MapHandle {
 
     fn passes(&mut self) -> u32 {
         self.owned.owner_mut().passes()
+    }
+
+    fn balance(&mut self) -> i64 {
+        self.owned.owner_mut().balance()
     }
 
     fn is_beside(&mut self, other: &mut MapHandle) -> bool {

@@ -3,6 +3,7 @@ ghost use Rattle.std.specs.Prelude.{◌≡◌, true, false, None, Some, IsSome};
 ghost use types.Logic.{sem};
 ghost use Rattle.vbr_handles.specs.Lent.{owner_follows};
 ghost use Rattle.vbr_handles.specs.Passes.{IsPassCount};
+ghost use Rattle.vbr_handles.specs.Shown.{balance_shown};
 
 use crate::owner::Owner;
 use vbr_set::member::Member;
@@ -33,6 +34,14 @@ impl<N: Nodes> Owner<Member<N>> {
         ensures { IsPassCount self.old.member result × (self.new ≡ self.old) }
     {
         self.member_mut().passes()
+    }
+
+    /// The balance of its member ([`Member::balance`]).
+    pub fn balance(&mut self) -> i64
+        requires { IsSome self.old.member }
+        ensures { (result ≡ balance_shown self.old.member) × (self.new ≡ self.old) }
+    {
+        self.member_mut().balance()
     }
 
     /// Whether the members of two owners have their shares of one set in memory ([`Member::is_beside`]).

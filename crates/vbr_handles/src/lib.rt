@@ -23,6 +23,7 @@ pub mod numbers;
 pub mod opening;
 pub mod owner;
 mod parts;
+pub mod progress;
 pub mod renewing_all;
 pub mod report_numbers;
 pub mod reserves;

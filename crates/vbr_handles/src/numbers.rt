@@ -15,6 +15,7 @@ ghost use Rattle.vbr_handles.specs.Reports.{TellsCloseAllBy, TellsCloseBy, Tells
 
 pub mod batches;
 pub mod entries;
+pub mod forsaking;
 pub mod giving_back;
 pub mod iterating;
 pub mod reserving;

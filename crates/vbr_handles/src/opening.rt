@@ -46,6 +46,7 @@ impl ShapeNumbers {
     // out of range.
     pub(crate) fn shape(self) -> Option<Shape>
         ensures some { IfSome result (λ shape. shape ≡ spread_shape self false) }
+        ensures is_shape { IfSome result IsShape }
         ensures in_range { result ≡ None → ¬ (IsShape (spread_shape self false)) }
     {
         let narrow = Shape::new(self.slots, 1, self.last_epoch).ok()?;

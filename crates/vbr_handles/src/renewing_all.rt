@@ -25,9 +25,10 @@ pub enum RenewAllRefusal {
     /// Two of the handles are of different sets in memory (`Member::is_beside` of `vbr_set`). It is a probe: no contract
     /// says when it comes, but that none is empty and they are as many as were opened with the set.
     Mixed,
-    /// There are more keys than slots of the shape.
+    /// There are more keys than slots of the shape. The report tells how many there are, and where there is no memory
+    /// for one, the balances of the members, added up.
     Room,
-    /// There is no memory. It may come before the test of Room.
+    /// There is no memory, and there are no more keys than slots.
     Memory,
 }
 

@@ -1,59 +1,81 @@
 -- An iteration goes from bucket to bucket.
-use Rattle.vbr_list.proofs.Names.{◌≡◌, ℕ, suc, ◌+◌, ◌-◌, ◌*◌, ◌<◌, ◌≤◌, Bool, true, false, Option, Some, None, Result}
-use Rattle.vbr_list.proofs.Names.{Ok, Err, IfErr, IfOk, refl, sym, ap, ◌∙◌, subst, arith, inl, inr}
-use Rattle.vbr_list.proofs.Names.{alone_first, alone_then, begins_refl, bucket_of, IsAlone, IsRun, IsStart, OutOfSteps}
-use Rattle.vbr_list.proofs.Names.{PassLaw, PassView, Quiet, quiet_adds_none, Refusal, Start, took_all, TookWithin}
-use Rattle.vbr_list.proofs.Names.{Trace}
+use Rattle.vbr_list.proofs.Names.{◌≡◌, ℕ, zero, suc, ◌+◌, ◌-◌, ◌*◌, ◌<◌, ◌≤◌, Bool, true, false, Option, Some, None}
+use Rattle.vbr_list.proofs.Names.{Result, Ok, Err, IfErr, IfOk, refl, sym, ap, ◌∙◌, subst, arith, inl, inr, mul-le}
+use Rattle.vbr_list.proofs.Names.{advances, bucket_of, IsAlone, IsRun, OutOfSteps, PassLaw, PassView, PIECE, Quiet}
+use Rattle.vbr_list.proofs.Names.{quiet_on, Refusal, Start, took_all, TookWithin, Trace}
 use Rattle.vbr_list.specs.Budgets.{nodes_listed_in, steps_to_value_of}
 use Rattle.vbr_list.specs.Cursors.{GivesNextWhere, HasStayedOrMoved, IsBehindKey, IsPastKey, IteratesWhere, PassesBy}
-use Rattle.vbr_list.specs.Cursors.{SeesMore, StopsShort, costs_over, entered_by, next_bucket}
-use Rattle.vbr_list.specs.Next.{HasNoNext, enough_to_seek, seek_costs}
+use Rattle.vbr_list.specs.Cursors.{SeesMore, StopsShort, costs_over, costs_over_among, enough_to_come_among}
+use Rattle.vbr_list.specs.Cursors.{entered_by, going_costs, next_bucket}
+use Rattle.vbr_list.specs.Disturbed.{disturbed_in, enough_among, seek_costs_among}
+use Rattle.vbr_list.specs.Next.{HasNoNext, enough_to_seek}
 use Rattle.vbr_list.specs.Pieces.{Goes, Observes}
 use Rattle.vbr_list.specs.Seeking.{Sought, steps_besides}
 use Rattle.vbr_list.specs.Walking.{SearchesIn}
 use Rattle.vbr_list.specs.declared.cursor.Cursor.{Cursor}
 use Rattle.vbr_list.specs.declared.seeking.NextNode.{NextNode}
 use Rattle.vbr_list.proofs.Cursors.{entry_since, passes_bucket, passes_key, passes_last, passes_on, passes_still}
-use Rattle.vbr_list.proofs.Disturbing.{run_at, undisturbed_in}
+use Rattle.vbr_list.proofs.Disturbing.{enough_among_more, grows_disturbed, run_at, seek_costs_more, undisturbed_in}
+use Rattle.vbr_list.proofs.GoingOver.{going_more, going_no_less}
 use Rattle.vbr_list.proofs.Going.{goes_on, goes_refl, within_of}
 use Rattle.vbr_list.proofs.Observing.{observes_on, observes_refl}
-use Rattle.vbr_list.proofs.Walking.{searched_in}
+use Rattle.vbr_list.proofs.ValueReads.{few_to_value}
+use Rattle.vbr_list.proofs.Walking.{searched_since}
 
 -- ---- what buckets cost
 
 -- one bucket more
-costs_on : (p : Trace) (from to : ℕ) → from ≤ to →
-    costs_over p from (to + 1 - from) ≡ costs_over p from (to - from) + seek_costs p to
-costs_on p from to le =
+costs_on : (p : Trace) (times : ℕ → ℕ) (from to : ℕ) → from ≤ to →
+    costs_over_among p times from (to + 1 - from) ≡ costs_over_among p times from (to - from)
+    + seek_costs_among (nodes_listed_in p to) (times to) (steps_to_value_of p.start)
+costs_on p times from to le =
     let next : to + 1 - from ≡ suc (to - from) = omega (arith, le) in
     let last : from + (to - from) ≡ to = omega (arith, le) in
-    ap (costs_over p from) next ∙ ap (λ b. costs_over p from (to - from) + seek_costs p b) last
+    ap (costs_over_among p times from) next
+    ∙ ap (λ b.
+    costs_over_among p times from (to - from)
+    + seek_costs_among (nodes_listed_in p b) (times b) (steps_to_value_of p.start)) last
 
--- what a seek costs a pass that was alone, after what made no call: as many nodes are listed as before
-sought_alone : {p : PassView} {q r : Trace} → PassLaw p → Quiet p.trace q → Quiet q r → IsAlone p.trace r →
-    {bucket each before since more : ℕ} → SearchesIn 5 each q r bucket before since more →
-    since ≤ before + 5 * nodes_listed_in p.trace bucket + more
-sought_alone {p} {q} {r} law first seeks alone {bucket} {each} {before} {since} {more} x =
-    let is = subst IsStart (sym first.same.start) law.start in
-    let few = quiet_adds_none law.start law.is_run first (alone_first first.seen seeks.seen alone) bucket bucket in
-    let paid = searched_in q r r is (run_at q r seeks.same (seeks.is_run (first.is_run law.is_run))) bucket seeks
-    (begins_refl r.seen) x in
-    let P : ℕ → Type 0 =
-    λ t. since ≤ before
-    + (5 * (nodes_listed_in q bucket + t) + t * (5 * (nodes_listed_in q bucket + t) + each) + more) in
-    let most = subst P (undisturbed_in q r bucket (alone_then first.same.who first.seen seeks.seen alone)) paid in
-    omega (arith, most, few)
+-- they cost no less where the pass was disturbed more often
+costs_more : (p : Trace) (times most : ℕ → ℕ) → ((bucket : ℕ) → times bucket ≤ most bucket) → (from count : ℕ) →
+    costs_over_among p times from count ≤ costs_over_among p most from count
+costs_more p times most le from zero = omega arith
+costs_more p times most le from (suc n) =
+    let rest = costs_more p times most le from n in
+    let one = seek_costs_more (nodes_listed_in p (from + n)) (times (from + n)) (most (from + n))
+    (steps_to_value_of p.start) (le (from + n)) in
+    omega (arith, rest, one)
+
+-- and no less is enough then
+pub enough_to_come_more : (p : Trace) (times most : ℕ → ℕ) → ((bucket : ℕ) → times bucket ≤ most bucket) →
+    (from to : ℕ) → enough_to_come_among p times from to ≤ enough_to_come_among p most from to
+enough_to_come_more p times most le from to =
+    let costs = costs_more p times most le from (to - from) in
+    let last = enough_among_more (nodes_listed_in p to) (times to) (most to) (le to) in
+    omega (arith, costs, last)
+
+-- alone, what is known before
+costs_alone : (p q : Trace) → IsAlone p q → (from count : ℕ) →
+    costs_over_among p (disturbed_in p q) from count ≡ costs_over p from count
+costs_alone p q alone from zero = refl
+costs_alone p q alone from (suc n) =
+    let rest = costs_alone p q alone from n in
+    let one = ap (λ t. seek_costs_among (nodes_listed_in p (from + n)) t (steps_to_value_of p.start))
+    (undisturbed_in p q (from + n) alone) in
+    omega (arith, rest, one)
 
 -- ---- what the loop keeps
 
--- it has come from one cursor to another, and found no key
+-- it has come from one cursor to another, found no key, and paid for the buckets between, as often as it was disturbed
 pub record HasComeBy (p q : PassView) (c d : Cursor) (used budget : ℕ) : Type 0 where
   pub goes : Goes p q 0 used
   pub observes : Observes p.trace q.trace
   pub within : used ≤ budget
   pub passes : PassesBy p.trace q.trace c d None
   pub moved : HasStayedOrMoved c d
-  pub paid : IsAlone p.trace q.trace → used ≤ costs_over p.trace c.bucket (d.bucket - c.bucket)
+  pub paid : used
+      ≤ costs_over_among p.trace (disturbed_in p.trace q.trace) c.bucket (d.bucket - c.bucket)
+  pub going : used ≤ going_costs p.trace q.trace c.bucket (d.bucket - c.bucket)
 
 pub come_none : (p : PassView) (c : Cursor) (budget : ℕ) → HasComeBy p p c c 0 budget
 come_none p c budget = record {
@@ -62,7 +84,8 @@ come_none p c budget = record {
   within = omega arith;
   passes = passes_still p.trace p.trace c;
   moved = inl refl;
-  paid = λ alone. omega arith;
+  paid = omega arith;
+  going = omega arith;
 }
 
 forth : (c d : Cursor) → HasStayedOrMoved c d → c.bucket ≤ d.bucket
@@ -71,6 +94,53 @@ forth c d moved = grind arith
 -- a quiet pass has seen more
 sees : {p q : Trace} → IsRun p.start p.passes p.seen → Quiet p q → SeesMore p q
 sees run quiet = record { same = quiet.same; begins = quiet.seen; is_run = quiet.is_run run }
+
+-- alone, what it gave cost what is known before
+known_alone : {A : Type 0} (p q : Trace) (answer : Result A Refusal) (from count : ℕ) →
+    IfOk answer (λ given. TookWithin p q (costs_over_among p (disturbed_in p q) from count)) →
+    IfOk answer (λ given. IsAlone p q → TookWithin p q (costs_over p from count))
+known_alone p q (Ok given) from count took =
+    λ alone. subst (TookWithin p q) (costs_alone p q alone from count) took
+known_alone p q (Err refusal) from count took = tt
+
+-- it has come to the end
+pub come_to_end : {p q : PassView} (c d : Cursor) (used budget : ℕ) → HasComeBy p q c d used budget →
+    p.trace.start.shape.buckets ≤ d.bucket → IteratesWhere p q c d budget (Ok None)
+come_to_end {p} {q} c d used budget x end = record {
+  gives = (x.passes, end);
+  refused = tt;
+  quiet = x.goes.quiet;
+  only_loads = x.observes.only_loads;
+  adds_none = x.observes.adds_none;
+  takes_no_slot = x.goes.hand.takes_no_slot;
+  hand = x.goes.hand.hand;
+  steps = within_of used budget x.within x.goes.counts;
+  costs = known_alone p.trace q.trace gone c.bucket (entered_by d.bucket d.from - c.bucket) costs;
+  disturbed_costs = costs;
+  going = within_of used _ (few_all d.from) x.goes.counts;
+}
+  where
+    gone : Result (Option (ℕ × ℕ)) Refusal
+    gone = Ok None
+
+    few : (from : ℕ) → used
+        ≤ costs_over_among p.trace (disturbed_in p.trace q.trace) c.bucket (entered_by d.bucket from - c.bucket)
+    few zero = x.paid
+    few (suc from) =
+        let one = costs_on p.trace (disturbed_in p.trace q.trace) c.bucket d.bucket (forth c d x.moved) in
+        let paid = x.paid in
+        omega (arith, one, paid)
+
+    few_all : (from : ℕ) → used ≤ going_costs p.trace q.trace c.bucket (entered_by d.bucket from - c.bucket)
+    few_all zero = x.going
+    few_all (suc from) =
+        let one = going_no_less p.trace q.trace c.bucket d.bucket (forth c d x.moved) in
+        let paid = x.going in
+        omega (arith, one, paid)
+
+    costs : TookWithin p.trace q.trace
+        (costs_over_among p.trace (disturbed_in p.trace q.trace) c.bucket (entered_by d.bucket d.from - c.bucket))
+    costs = within_of used _ (few d.from) x.goes.counts
 
 module _ {p q : PassView} (r : PassView) (law : PassLaw p) (c d : Cursor) (used since budget : ℕ)
     (x : HasComeBy p q c d used budget) where
@@ -83,17 +153,54 @@ module _ {p q : PassView} (r : PassView) (law : PassLaw p) (c d : Cursor) (used 
   on : c.bucket ≤ d.bucket
   on = forth c d x.moved
 
-  -- what was paid, with what it cost to seek in one bucket more
+  -- what the buckets up to one cost a pass that is disturbed so often
+  abbrev costs_to : ℕ → ℕ
+  costs_to to = costs_over_among p.trace (disturbed_in p.trace r.trace) c.bucket (to - c.bucket)
+
+  -- what was paid before is no more than that
+  paid_then : Quiet q.trace r.trace → used ≤ costs_to d.bucket
+  paid_then quiet =
+      let before = x.paid in
+      let more = costs_more p.trace (disturbed_in p.trace q.trace) (disturbed_in p.trace r.trace) grows c.bucket
+      (d.bucket - c.bucket) in
+      omega (arith, before, more)
+    where
+      ok : IsRun p.trace.start p.trace.passes r.trace.seen
+      ok = let whole = quiet_on x.goes.quiet quiet in run_at p.trace r.trace whole.same (whole.is_run law.is_run)
+
+      grows : (bucket : ℕ) → disturbed_in p.trace q.trace bucket ≤ disturbed_in p.trace r.trace bucket
+      grows bucket =
+          let later = grows_disturbed p.trace r.trace law.start ok bucket q.trace.seen quiet.seen in
+          omega (arith, later)
+
+  values : steps_to_value_of q.trace.start ≡ steps_to_value_of p.trace.start
+  values = ap steps_to_value_of x.goes.quiet.same.start
+
+  -- and with what it cost to seek in one bucket more
   paid_on : Quiet q.trace r.trace →
       SearchesIn 5 (steps_besides q.trace) q.trace r.trace d.bucket used since (steps_besides q.trace) →
-      IsAlone p.trace r.trace → since ≤ costs_over p.trace c.bucket (d.bucket + 1 - c.bucket)
-  paid_on quiet paid alone =
-      let before = x.paid (alone_first x.goes.quiet.seen quiet.seen alone) in
-      let now = sought_alone law x.goes.quiet quiet alone paid in
-      let values : steps_to_value_of q.trace.start ≡ steps_to_value_of p.trace.start =
-      ap steps_to_value_of x.goes.quiet.same.start in
-      let sum = costs_on p.trace c.bucket d.bucket on in
-      omega (arith, before, now, values, sum)
+      since ≤ costs_to (d.bucket + 1)
+  paid_on quiet paid =
+      let n = nodes_listed_in p.trace d.bucket in
+      let t = disturbed_in p.trace r.trace d.bucket in
+      let before = paid_then quiet in
+      let P : ℕ → Type 0 =
+      λ reading. since ≤ used + (5 * (n + t) + t * (5 * (n + t) + (3 + reading)) + (3 + reading)) in
+      let now = subst P values (searched_since law x.goes.quiet quiet paid) in
+      let sum = costs_on p.trace (disturbed_in p.trace r.trace) c.bucket d.bucket on in
+      omega (arith, before, now, sum)
+
+  -- and so it is where an advance counts once
+  advanced_none : Goes q r used since → advances r.trace ≡ advances p.trace
+  advanced_none goes = goes.hand.takes_no_slot.count ∙ x.goes.hand.takes_no_slot.count
+
+  going_to : Goes q r used since →
+      SearchesIn 5 (steps_besides q.trace) q.trace r.trace d.bucket used since (steps_besides q.trace) →
+      since ≤ going_costs p.trace r.trace c.bucket (d.bucket + 1 - c.bucket)
+  going_to goes paid =
+      let more = going_more law x.goes.quiet goes.quiet (advanced_none goes) on x.going paid in
+      let reading = values in
+      omega (arith, more, reading)
 
   -- over the rest of a bucket
   pub come_on : Sought q r d.bucket d.from used since budget (Some None) → HasComeBy p r c (next_bucket d) since budget
@@ -103,7 +210,8 @@ module _ {p q : PassView} (r : PassView) (law : PassLaw p) (c d : Cursor) (used 
     within = y.peeks.tries.within.1;
     passes = passes_on to_here (from_here y.peeks.tries.goes.quiet) x.passes (passes_bucket d y.next.tells);
     moved = inr (omega (arith, on), refl);
-    paid = λ alone. paid_on y.peeks.tries.goes.quiet y.next.searches alone;
+    paid = paid_on y.peeks.tries.goes.quiet y.next.searches;
+    going = going_to y.peeks.tries.goes y.next.searches;
   }
 
   -- what it gave, or how it was refused, is all that its ends have apart
@@ -111,10 +219,11 @@ module _ {p q : PassView} (r : PassView) (law : PassLaw p) (c d : Cursor) (used 
       (y : Sought q r d.bucket d.from used since budget found) → IfOk answer (GivesNextWhere p.trace r.trace c e) →
       IfErr answer (StopsShort p r c e budget) →
       IfOk answer (λ given.
-      IsAlone p.trace r.trace →
-      TookWithin p.trace r.trace (costs_over p.trace c.bucket (entered_by e.bucket e.from - c.bucket))) →
+      TookWithin p.trace r.trace (costs_to (entered_by e.bucket e.from))) →
+      IfOk answer (λ given.
+      TookWithin p.trace r.trace (going_costs p.trace r.trace c.bucket (entered_by e.bucket e.from - c.bucket))) →
       IteratesWhere p r c e budget answer
-  comes y gives refused costs =
+  comes {e} {answer = answer} y gives refused costs going =
       let all = goes_on x.goes y.peeks.tries.goes in
       let seen = observes_on x.observes y.peeks.observes in
       record {
@@ -126,7 +235,9 @@ module _ {p q : PassView} (r : PassView) (law : PassLaw p) (c d : Cursor) (used 
         takes_no_slot = all.hand.takes_no_slot;
         hand = all.hand.hand;
         steps = within_of since budget y.peeks.tries.within.1 all.counts;
-        costs = costs;
+        costs = known_alone p.trace r.trace answer c.bucket (entered_by e.bucket e.from - c.bucket) costs;
+        disturbed_costs = costs;
+        going = going;
       }
 
   -- to a node
@@ -147,8 +258,13 @@ module _ {p q : PassView} (r : PassView) (law : PassLaw p) (c d : Cursor) (used 
         ),
         λ values. entry_since to_here (tells.1 (ap (λ (s : Start). s.shape.values) x.goes.quiet.same.start ∙ values)),
       ) tt
-      (λ alone. within_of since (costs_over p.trace c.bucket (entered_by e.bucket e.from - c.bucket))
-      (entered past (paid_on y.peeks.tries.goes.quiet y.next.searches alone))
+      (within_of since (costs_to (entered_by e.bucket e.from))
+      (let P : ℕ → Type 0 = λ n. since ≤ costs_to n in
+      subst P (sym (entered past)) (paid_on y.peeks.tries.goes.quiet y.next.searches))
+      (goes_on x.goes y.peeks.tries.goes).counts)
+      (within_of since (going_costs p.trace r.trace c.bucket (entered_by e.bucket e.from - c.bucket))
+      (let P : ℕ → Type 0 = λ n. since ≤ going_costs p.trace r.trace c.bucket (n - c.bucket) in
+      subst P (sym (entered past)) (going_to y.peeks.tries.goes y.next.searches))
       (goes_on x.goes y.peeks.tries.goes).counts)
     where
       is_past : (is_last : Bool) → (is_last ≡ true → e ≡ next_bucket d) →
@@ -164,17 +280,11 @@ module _ {p q : PassView} (r : PassView) (law : PassLaw p) (c d : Cursor) (used 
           subst P (sym (last refl)) (passes_last d next.key y.next.tells.0.0 (none refl))
       passes false last more none = passes_key d e next.key y.next.tells.0.0 (more refl)
 
-      entered : IsPastKey d.bucket next.key e → since ≤ costs_over p.trace c.bucket (d.bucket + 1 - c.bucket) →
-          since ≤ costs_over p.trace c.bucket (entered_by e.bucket e.from - c.bucket)
-      entered (inl b) le =
+      entered : IsPastKey d.bucket next.key e → entered_by e.bucket e.from ≡ d.bucket + 1
+      entered (inl b) =
           let f : e.from ≡ suc next.key = let g = b.1 in omega (arith, g) in
-          let P : ℕ → Type 0 = λ n. since ≤ costs_over p.trace c.bucket (entered_by n e.from - c.bucket) in
-          let Q : ℕ → Type 0 = λ n. since ≤ costs_over p.trace c.bucket (entered_by d.bucket n - c.bucket) in
-          subst P (sym b.0) (subst Q (sym f) le)
-      entered (inr b) le =
-          let P : ℕ → Type 0 = λ n. since ≤ costs_over p.trace c.bucket (entered_by n e.from - c.bucket) in
-          let Q : ℕ → Type 0 = λ n. since ≤ costs_over p.trace c.bucket (entered_by (d.bucket + 1) n - c.bucket) in
-          subst P (sym b.0) (subst Q (sym b.1) le)
+          ap (entered_by e.bucket) f ∙ ap (λ (n : ℕ). n + 1) b.0
+      entered (inr b) = ap (entered_by e.bucket) b.1 ∙ b.0
 
   -- no further, for want of steps
   pub come_short : d.bucket < p.trace.start.shape.buckets → Sought q r d.bucket d.from used since budget None →
@@ -189,12 +299,33 @@ module _ {p q : PassView} (r : PassView) (law : PassLaw p) (c d : Cursor) (used 
         passed = passes_on to_here (from_here y.peeks.tries.goes.quiet) x.passes (passes_still q.trace r.trace d);
         moved = x.moved;
         bucket = here;
-        short = λ alone. short alone;
-      }) tt
+        short = λ alone. alone_short alone;
+        disturbed_short = lacks;
+        going_short = lacks_room;
+      }) tt tt
     where
-      short : IsAlone p.trace r.trace →
+      lacks_room : budget < going_costs p.trace r.trace c.bucket (d.bucket + 1 - c.bucket) + PIECE
+      lacks_room =
+          let more = going_more law x.goes.quiet y.peeks.tries.goes.quiet (advanced_none y.peeks.tries.goes) on
+          x.going y.tired.searches in
+          omega (arith, more)
+
+      lacks : budget < enough_to_come_among p.trace (disturbed_in p.trace r.trace) c.bucket d.bucket
+      lacks =
+          let n = nodes_listed_in p.trace d.bucket in
+          let t = disturbed_in p.trace r.trace d.bucket in
+          let before = paid_then y.peeks.tries.goes.quiet in
+          let now = searched_since law x.goes.quiet y.peeks.tries.goes.quiet y.tired.searches in
+          let few = few_to_value q.trace.start in
+          let each = mul-le t (5 * (n + t) + steps_besides q.trace) t (5 * (n + t) + 11) (omega arith)
+          (omega (arith, few)) in
+          omega (arith, before, now, each)
+
+      alone_short : IsAlone p.trace r.trace →
           budget < costs_over p.trace c.bucket (d.bucket - c.bucket) + enough_to_seek p.trace d.bucket
-      short alone =
-          let before = x.paid (alone_first x.goes.quiet.seen y.peeks.tries.goes.quiet.seen alone) in
-          let lacks = sought_alone law x.goes.quiet y.peeks.tries.goes.quiet alone y.tired.searches in
-          omega (arith, before, lacks)
+      alone_short alone =
+          let costs = costs_alone p.trace r.trace alone c.bucket (d.bucket - c.bucket) in
+          let enough = ap (enough_among (nodes_listed_in p.trace d.bucket))
+          (undisturbed_in p.trace r.trace d.bucket alone) in
+          let short = lacks in
+          omega (arith, short, costs, enough)

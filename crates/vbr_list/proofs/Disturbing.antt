@@ -18,7 +18,7 @@ use Rattle.vbr_list.specs.Helping.{OpensPlace}
 use Rattle.vbr_list.specs.Budgets.{listed_for, nodes_listed_in}
 use Rattle.vbr_list.specs.Disturbed.{changed_after, changed_at, disturbed, disturbed_after, disturbed_at, disturbed_in}
 use Rattle.vbr_list.specs.Disturbed.{enough_among, enough_to_insert_among, enough_to_search_among}
-use Rattle.vbr_list.specs.Disturbed.{enough_to_store_among, most_disturbed}
+use Rattle.vbr_list.specs.Disturbed.{enough_to_store_among, most_disturbed, seek_costs_among}
 use Rattle.vbr_list.specs.declared.found.Found.{Found}
 use Rattle.vbr_list.specs.Walking.{KnowsEpoch, LosesFound, LosesHeld, LosesNext, LosesPlace, MovesEpoch, MovesOn}
 use Rattle.vbr_list.specs.Walking.{NextStandsStill, StandsStill, StoodOpen, met_in, met_since, nodes_after}
@@ -372,27 +372,36 @@ advances_none p q s same moment a b =
 
 module _ (p r : Trace) (is : IsStart p.start) (ok : IsRun p.start p.passes r.seen) (bucket : ℕ) (same_r : IsSame p r)
     (none : advances r ≡ advances p) where
-  -- between two moments at which other epochs stood the pass was disturbed
-  pub epochs_disturb : (first last : List Event) → Begins p.seen first → Begins first last → Begins last r.seen →
-      (nodes_after p last).epoch ≢ (nodes_after p first).epoch →
-      disturbed_at p bucket first < disturbed_at p bucket last
-  epochs_disturb first last a b c other =
-      let ok_last = begins_run p.start p.passes last r.seen c ok in
+  -- each advance between two moments disturbed the pass
+  pub advances_disturb : (first last : List Event) → Begins p.seen first → Begins first last → Begins last r.seen →
+      (nodes_after p last).epoch + disturbed_at p bucket first
+      ≤ (nodes_after p first).epoch + disturbed_at p bucket last
+  advances_disturb first last a b c =
       let whole : Begins first r.seen = (b.0 ++ c.0, c.1 ∙ ap (λ l. l ++ c.0) b.1 ∙ append_assoc first b.0 c.0) in
       let front : AdvancesNone p.who b.0 = front_none p.who b.0 c.0 (advances_none p r same_r none first a whole) in
       let P : List Event → Type 0 =
       λ l. (nodes_after p l).epoch + disturbed_at p bucket first
       ≤ (nodes_after p first).epoch + disturbed_at p bucket l in
-      let moved = subst P (sym b.1) (moved_by_others p.start p.who bucket first b.0 front) in
-      let grows = (since p.start p.passes first last is ok_last b).grown.epoch in
-      let more = disturbances_grow (since p.start p.passes first last is ok_last b) p.who bucket in
-      apart (nodes_after p last).epoch (nodes_after p first).epoch (disturbed_at p bucket first)
-      (disturbed_at p bucket last) other grows moved
+      subst P (sym b.1) (moved_by_others p.start p.who bucket first b.0 front)
     where
       front_none : (who : ℕ) (xs ys : List Event) → AdvancesNone who (xs ++ ys) → AdvancesNone who xs
       front_none who [] ys h = tt
       front_none who (x ∷ xs) ys h = (h.0, front_none who xs ys h.1)
 
+  -- the epoch of a later moment is no less
+  pub epochs_grow : (first last : List Event) → Begins first last → Begins last r.seen →
+      (nodes_after p first).epoch ≤ (nodes_after p last).epoch
+  epochs_grow first last b c =
+      (since p.start p.passes first last is (begins_run p.start p.passes last r.seen c ok) b).grown.epoch
+
+  -- between two moments at which other epochs stood the pass was disturbed
+  pub epochs_disturb : (first last : List Event) → Begins p.seen first → Begins first last → Begins last r.seen →
+      (nodes_after p last).epoch ≢ (nodes_after p first).epoch →
+      disturbed_at p bucket first < disturbed_at p bucket last
+  epochs_disturb first last a b c other =
+      apart (nodes_after p last).epoch (nodes_after p first).epoch (disturbed_at p bucket first)
+      (disturbed_at p bucket last) other (epochs_grow first last b c) (advances_disturb first last a b c)
+    where
       apart : (m n d e : ℕ) → m ≢ n → n ≤ m → m + d ≤ n + e → d < e
       apart m n d e other le moved = omega (arith, other, le, moved)
 
@@ -448,18 +457,29 @@ moves_on q r s b m =
 -- ---- what disturbances are
 
 -- each is an update of another, its one unlinking, or an advance
+pub disturbed_most_in : (p q : Trace) → IsStart p.start → IsRun p.start p.passes p.seen → (bucket : ℕ) → Quiet p q →
+    disturbed_in p q bucket ≤ most_disturbed p q
+disturbed_most_in p q is ok bucket quiet =
+    let x = disturbances_paid p.start p.passes p.seen q.seen is (run_at p q quiet.same (quiet.is_run ok)) quiet.seen
+    p.who bucket in
+    omega (arith, x)
+
 pub disturbed_most : (p q : Trace) → IsStart p.start → IsRun p.start p.passes p.seen → (key : ℕ) → Quiet p q →
     disturbed p q key ≤ most_disturbed p q
-disturbed_most p q is ok key quiet =
-    let x = disturbances_paid p.start p.passes p.seen q.seen is (run_at p q quiet.same (quiet.is_run ok)) quiet.seen
-    p.who (bucket_of p.start.shape key) in
-    omega (arith, x)
+disturbed_most p q is ok key quiet = disturbed_most_in p q is ok (bucket_of p.start.shape key) quiet
 
 -- with more of them no less is enough
 pub enough_among_more : (nodes times most : ℕ) → times ≤ most → enough_among nodes times ≤ enough_among nodes most
 enough_among_more nodes times most le =
     mul-le (times + 1) (5 * (nodes + times) + 11) (most + 1) (5 * (nodes + most) + 11) (omega (arith, le))
     (omega (arith, le))
+
+-- and no less is what a seek costs
+pub seek_costs_more : (nodes times most reading : ℕ) → times ≤ most →
+    seek_costs_among nodes times reading ≤ seek_costs_among nodes most reading
+seek_costs_more nodes times most reading le =
+    mul-le (times + 1) (5 * (nodes + times) + (3 + reading)) (most + 1) (5 * (nodes + most) + (3 + reading))
+    (omega (arith, le)) (omega (arith, le))
 
 pub enough_to_search_more : (nodes times most : ℕ) → times ≤ most →
     enough_to_search_among nodes times ≤ enough_to_search_among nodes most

@@ -1,6 +1,6 @@
 -- An insert that has taken a slot: what it promises once the slot is linked, or given back.
 use Rattle.vbr_list.proofs.Names.{◌≡◌, ◌+◌, ◌<◌, ◌≤◌, ℕ, Bool, Bor, [], Result, IfErr, IfOk, refl, sym, ap, subst}
-use Rattle.vbr_list.proofs.Names.{arith}
+use Rattle.vbr_list.proofs.Names.{arith, in_need_before}
 use Rattle.vbr_list.proofs.Names.{AtTable, Ghosts, had_then, HandView, HasUnpublished, IsAlone, IsSameTable, longer}
 use Rattle.vbr_list.proofs.Names.{Made, needed_before, NoSlot, PassLaw, Quiet, quiet_on, Refusal, same_on, shared_on}
 use Rattle.vbr_list.proofs.Names.{shares_more, slots_kept_on, steps_to_update, steps_to_value, TableView, TookWithin}
@@ -107,6 +107,7 @@ insert_unlinked {b = b} {d = d} answer prepares tries had refused lacking none c
       had = had;
       shared = prepares.shared;
       tries = tries;
+      wins = prepares.wins;
       refused = refused;
       disturbed_within = lacking;
       within = alone_lacking;
@@ -194,6 +195,7 @@ insert_linked {b = b} {d = d} {e = e} value answer law begun prepares tries firs
         shared = shared_on p q r 2 prepares.shared (longer q r links.takes_no_slot.grows)
             (shares_more q r links.takes_no_slot.shared);
         tries = tries_before p q r tries links.takes_no_slot.tries (λ so. so_later so more.0 more.1);
+        wins = in_need_before p q r prepares.wins links.takes_no_slot.wins;
         refused = each_error (λ refusal. InsertIsShort q r d.used budget refusal)
             (λ refusal. IsRefusedInsert p r key budget refusal) answer (refused_second p q r key prepared) short;
         disturbed_within = within;

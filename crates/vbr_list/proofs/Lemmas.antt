@@ -5,8 +5,12 @@ pub use Rattle.vbr_list.proofs.Going.{of_on}
 -- An iteration: what it has given before its first call, with one more call, and at the end.
 pub use Rattle.vbr_list.proofs.Cursors.{entry_more, entry_since, given_all, given_none, given_on, sees_on}
 -- What disturbs a pass, and the budgets that suffice all the same.
-pub use Rattle.vbr_list.proofs.Disturbing.{disturbed_most, enough_among_more, enough_to_insert_more}
-pub use Rattle.vbr_list.proofs.Disturbing.{enough_to_search_more, enough_to_store_more}
+pub use Rattle.vbr_list.proofs.Disturbing.{disturbed_most, disturbed_most_in, enough_among_more, enough_to_insert_more}
+pub use Rattle.vbr_list.proofs.Disturbing.{enough_to_search_more, enough_to_store_more, undisturbed_in}
 pub use Rattle.vbr_list.proofs.Sufficing.{lacks_more}
+pub use Rattle.vbr_list.proofs.ComingBy.{enough_to_come_more}
+pub use Rattle.vbr_list.proofs.ValueReads.{few_to_value}
+-- The nodes of a list now, and before: what was enough to seek there later was enough before.
+pub use Rattle.vbr_list.proofs.ListedLater.{enough_later, listed_later}
 -- What a pass that is its table's only one adds to its calls.
 pub use Rattle.vbr_list.proofs.LonePasses.{alone_all}

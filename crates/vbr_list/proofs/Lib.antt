@@ -1,5 +1,7 @@
 mod Names
 mod Traversals
+mod EntryAnswers
+mod Publishing
 mod Going
 mod KeptHands
 mod Reaching
@@ -16,7 +18,9 @@ mod Passing
 mod Sights
 mod Following
 mod Cursors
+mod GoingOver
 mod ComingBy
+mod ListedLater
 mod Preparing
 mod Sufficing
 mod Tiring
@@ -32,6 +36,8 @@ mod Stores
 mod Wants
 mod Settled
 mod Linking
+mod HeldInserts
+mod HeldSlots
 mod Inserts
 mod LateSearches
 mod StoredValues

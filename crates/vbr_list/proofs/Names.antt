@@ -7,6 +7,7 @@ pub use Rattle.std.specs.Prelude.{◌==◌, ◌⊎◌}
 pub use Rattle.std.specs.Result.{is_err, is_ok}
 pub use Rattle.std.proofs.Common.{[], ap, append-nil, append_assoc, arith, Bool, cond, eq-eqb, Err, false, inl, inr}
 pub use Rattle.std.proofs.Common.{length, List, None, not, Ok, Option, option_to_list, refl, Result, rules, Some, subst}
+pub use Rattle.std.proofs.Common.{zero}
 pub use Rattle.std.proofs.Common.{suc, sym, true, ℕ, ⊎_elim, ◌*◌, ◌++◌, ◌+◌, ◌-◌, ◌<◌, ◌^◌, ◌∙◌, ◌∷◌, ◌≡◌, ◌≢◌, ◌≤◌}
 pub use Rattle.std.proofs.lemmas.Bool.{cases_Bool, cases_lt}
 pub use Rattle.std.proofs.lemmas.Bool.Decides.{nat_tests}
@@ -88,6 +89,7 @@ pub use Rattle.vbr_at_table.specs.Held.{held_of, HoldsMarked, IsHeld, IsSlot, Is
 pub use Rattle.vbr_at_table.specs.KeptKnowledge.{Keeps, KeepsOwn, KeepsUnlinked}
 pub use Rattle.vbr_at_table.specs.KeptSlots.{HasAllButOne, HasStill, HasUnpublished, KeepsSlots, SharesWhereFull}
 pub use Rattle.vbr_at_table.specs.KeptSlots.{StaysInTurn, TakesNoSlot, TriesNoFlag, TriesOnlyWhere, TriesWhereEmpty}
+pub use Rattle.vbr_at_table.specs.KeptSlots.{WinsInNeed}
 pub use Rattle.vbr_at_table.specs.DecidedKeys.{DecidesKey}
 pub use Rattle.vbr_at_table.specs.Marks.{LeavesOthers}
 pub use Rattle.vbr_at_table.specs.Moments.{IsNext, IsRead, Stood, WasEntry, WasSo}
@@ -107,6 +109,7 @@ pub use Rattle.vbr_at_table.specs.declared.rollback.Rollback.{Rollback}
 pub use Rattle.vbr_at_table.specs.declared.rollback.Rollback.TheVariants.{EpochMoved, LostExchange}
 pub use Rattle.vbr_at_table.proofs.Lemmas.{alone_gained, behind_kept, counts_none, counts_on, gained_on, gained_since}
 pub use Rattle.vbr_at_table.proofs.Lemmas.{grows_same, had_back, had_grown, had_on, had_spent, had_taken, had_then}
+pub use Rattle.vbr_at_table.proofs.Lemmas.{in_need_after, in_need_before, none_in_need}
 pub use Rattle.vbr_at_table.proofs.Lemmas.{held_in_kept, held_in_next, held_kept, keeps_on, key_on, longer}
 pub use Rattle.vbr_at_table.proofs.Lemmas.{missed_after, more_lost, needed_after, needed_before, no_room, none_back}
 pub use Rattle.vbr_at_table.proofs.Lemmas.{none_lost, none_on, none_refl, own_read, reads_none, reads_on}

@@ -1,7 +1,8 @@
 -- The steps of an insert, and what its refusals say.
 use Rattle.vbr_list.proofs.Names.{◌≡◌, ◌≢◌, ℕ, ◌+◌, ◌-◌, ◌<◌, ◌≤◌, Bool, true, false, List, [], ◌∷◌, length, Result, Ok}
 use Rattle.vbr_list.proofs.Names.{Err, inl, inr, refl, sym, ◌∙◌, subst, arith, IfOk, IfErr, is_err, is_ok}
-use Rattle.vbr_list.proofs.Names.{Begins, counts_on, CountsSteps, EpochSpent, Ghosts, had_grown, had_on, IsRun, IsSame}
+use Rattle.vbr_list.proofs.Names.{Begins, counts_on, CountsSteps, EpochSpent, Ghosts, had_grown, had_on, in_need_after}
+use Rattle.vbr_list.proofs.Names.{IsRun, IsSame, none_in_need}
 use Rattle.vbr_list.proofs.Names.{IsSpent, LeavesRoom, Made, made_on, missed_after, needed_after, none_on, NoSlot, Op}
 use Rattle.vbr_list.proofs.Names.{OutOfSteps, PassView, Quiet, Refusal, set_call, shared_taken, shares_more}
 use Rattle.vbr_list.proofs.Names.{slots_kept_on, some_grown, Start, TakesNoSlot, Took, took_all, TookWithin, Trace}
@@ -42,6 +43,7 @@ prepares_none c d same counts none hand = record {
   kept = none.kept;
   had = had_grown (pass_in c) (pass_in d) none.grows hand;
   shared = shares_more (pass_in c) (pass_in d) none.shared;
+  wins = none_in_need (pass_in c) (pass_in d) none.wins;
 }
 
 -- so it is of a call that went on
@@ -75,6 +77,7 @@ prepares_on {c = c} {d = d} {e = e} went one x =
       had = had_on (pass_in c) (pass_in d) (pass_in e)
           (had_grown (pass_in c) (pass_in d) none.grows went.goes.hand.hand) x.had;
       shared = shared_taken (pass_in c) (pass_in d) (pass_in e) none.shared one x.shared;
+      wins = in_need_after (pass_in c) (pass_in d) (pass_in e) none.wins none.kept.free x.wins;
     }
 
 -- ---- refusals

@@ -4,7 +4,7 @@ use Rattle.vbr_list.proofs.Names.{Ok, Err, subst, arith, IfErr, IfOk, ◌⊎◌}
 use Rattle.vbr_list.proofs.Names.{AdvancesWhereNeeded, Begins, Ghosts, had_on, HasStill, IsAlone, IsRun, IsStart}
 use Rattle.vbr_list.proofs.Names.{KeepsSlots, longer, MadeTwo, needed_before, PassView, Quiet, quiet_on, Refusal}
 use Rattle.vbr_list.proofs.Names.{Remove, shared_on, shares_more, SharesWhereFull, slots_kept_on, TookWithin, Trace}
-use Rattle.vbr_list.proofs.Names.{TriesOnlyWhere}
+use Rattle.vbr_list.proofs.Names.{in_need_before, TriesOnlyWhere, WinsInNeed}
 use Rattle.vbr_list.specs.Budgets.{enough_to_unlist, listed_for}
 use Rattle.vbr_list.specs.Disturbed.{disturbed, enough_to_store_among, searches_more, steps_to_prepare}
 use Rattle.vbr_list.specs.Disturbed.{store_costs_among}
@@ -34,6 +34,7 @@ module _ {N : Type 0} {kind : Ghosts N} (p : PassView) (d e : PendingCall N kind
     (advances : AdvancesWhereNeeded p (pass_in d)) (kept : KeepsSlots p (pass_in d)) (had : HasStill p (pass_in d))
     (shared : SharesWhereFull 2 p (pass_in d))
     (tries : TriesOnlyWhere (WasWanted wanted p.trace (trace_in d) key) p (pass_in d))
+    (wins : WinsInNeed p (pass_in d))
     (before : CountsWithin p.trace (trace_in d) 0 d.used budget) (same_key : d.key ≡ key)
     (same_budget : d.budget ≡ budget)
     (links : Links d e)
@@ -61,6 +62,9 @@ module _ {N : Type 0} {kind : Ghosts N} (p : PassView) (d e : PendingCall N kind
   tries_all seen run =
       tries_before p (pass_in d) (pass_in e) tries links.takes_no_slot.tries
       (was_later p.trace (trace_in d) (trace_in e) key wanted seen run)
+
+  wins_all : WinsInNeed p (pass_in e)
+  wins_all = in_need_before p (pass_in d) (pass_in e) wins links.takes_no_slot.wins
 
   -- as AnswersSoon, for the key of the call
   record AnswersSoonFor (stored : Bool) : Type 0 where
@@ -180,6 +184,7 @@ module _ {N : Type 0} {kind : Ghosts N} (p : PassView) (d e : PendingCall N kind
           had = had_on p (pass_in d) (pass_in e) had had_then;
           shared = shared_all;
           tries = tries_all none.quiet.seen none.quiet.is_run;
+          wins = wins_all;
           refused = store_refused_second wanted p (pass_in d) (pass_in e) key before refusal says;
           within = alone;
           disturbed_within = within;
@@ -222,6 +227,7 @@ module _ {N : Type 0} {kind : Ghosts N} (p : PassView) (d e : PendingCall N kind
           had = had_since {E = Refusal} wanted p (pass_in d) (pass_in e) (Ok there) had had_then;
           shared = shared_all;
           tries = tries_all last.seen (λ _. last.is_run);
+          wins = wins_all;
           refused = tt;
           within = tt;
           disturbed_within = tt;

@@ -250,6 +250,26 @@ searched_in p m r is ok bucket quiet on {per} {each} {before} {since_then} {more
     searched_few per before each x.lost (met_in p m bucket) (nodes_listed_in p bucket + disturbed_in p r bucket)
     (disturbed_in p r bucket) since_then more x.paid (omega (arith, met, grows)) (omega (arith, few, grows))
 
+-- so it is from an earlier moment on, since which the pass has made no call either
+pub searched_since : {p : PassView} {q r : Trace} → PassLaw p → Quiet p.trace q → Quiet q r →
+    {bucket per each before since_then more : ℕ} → SearchesIn per each q r bucket before since_then more →
+    since_then ≤ before
+    + (per * (nodes_listed_in p.trace bucket + disturbed_in p.trace r bucket) + disturbed_in p.trace r bucket
+    * (per * (nodes_listed_in p.trace bucket + disturbed_in p.trace r bucket) + each) + more)
+searched_since {p} {q} {r} law first then {bucket} {per} {each} {before} {since_then} {more} x =
+    let whole = quiet_on first then in
+    let ok = run_at p.trace r whole.same (whole.is_run law.is_run) in
+    let later = met_after p.trace r law.start ok bucket q first.same first.seen then.seen in
+    let met = met_unanswered p.trace r law.start ok bucket whole in
+    let here = disturbed_there p.trace q bucket q.seen first.same in
+    let there = disturbed_there p.trace q bucket r.seen first.same in
+    let grows = grows_disturbed p.trace q law.start (run_at p.trace q first.same (first.is_run law.is_run)) bucket
+    p.trace.seen first.seen in
+    let few = x.few in
+    searched_few per before each x.lost (met_in q r bucket)
+    (nodes_listed_in p.trace bucket + disturbed_in p.trace r bucket) (disturbed_in p.trace r bucket) since_then more
+    x.paid (omega (arith, later, met)) (omega (arith, few, here, there, grows))
+
 -- what a call costs that searched to the end, and what came then
 pub call_paid : (p q m r : Trace) → IsStart p.start → IsRun p.start p.passes r.seen → (key each : ℕ) → Quiet p q →
     Quiet q m → Begins m.seen r.seen → {per e used mid : ℕ} → (e ≤ each) × (3 ≤ each) →

@@ -9,7 +9,7 @@ use Rattle.vbr_slots.specs.Alone.{IsAlone}
 use Rattle.vbr_slots.specs.Calls.{AddsAnswer, AddsNone, IsSame, Made, OnlyLoads, Quiet, made_by}
 use Rattle.vbr_slots.specs.Views.{PassView, Trace}
 use Rattle.vbr_at_table.specs.Advances.{AdvancesWhereNeeded}
-use Rattle.vbr_at_table.specs.KeptSlots.{HasUnpublished, KeepsSlots, SharesWhereFull, TakesNoSlot, TriesOnlyWhere}
+use Rattle.vbr_at_table.specs.KeptSlots.{HasUnpublished, KeepsSlots, SharesWhereFull, TakesNoSlot, TriesOnlyWhere, WinsInNeed}
 use Rattle.vbr_at_table.specs.Moments.{WasSo}
 use Rattle.vbr_at_table.specs.WithinBudget.{TookWithin}
 use Rattle.vbr_at_table.specs.Values.{steps_to_value}
@@ -24,7 +24,7 @@ use Rattle.vbr_at_table.specs.declared.refusal.Refusal.{Refusal}
 -- what an insert promises besides its answer: about slots, refusals and steps
 -- It advances the epoch only where that is needed, loses no slot, and has each that it had but for the one that it published.
 -- It puts a slot into the shared pool only where its own has no more than two places left.
--- It looks for one there only where its own is empty and the key was absent at a moment. It is refused only where it must be.
+-- It looks for one there only where its own is empty and the key was absent at a moment. It wins one at most, and that where it has none. It is refused only where it must be.
 -- Alone it has steps enough with a budget that is known before. With a slot in the own pool it is then answered, unless the epoch is spent.
 -- Alone its answer costs no more than is known before. All that holds of a pass that was disturbed so often, too.
 -- With an empty own pool one step more is then counted for each slot that others took out of the shared pool.
@@ -34,6 +34,7 @@ pub record BoundsOfInsert (p q : PassView) (key budget : ℕ) (answer : Result B
   pub had : HasUnpublished p q answer
   pub shared : SharesWhereFull 2 p q
   pub tries : TriesOnlyWhere (WasSo p.trace q.trace key false) p q
+  pub wins : WinsInNeed p q
   pub refused : IfErr answer (IsRefusedInsert p q key budget)
   pub within : IfErr answer (λ refusal. IsAlone p.trace q.trace → LacksSteps (enough_to_insert p key) budget refusal)
   pub disturbed_within : IfErr answer (λ refusal. LacksSteps (enough_to_insert_among (listed_for p.trace key) (disturbed p.trace q.trace key) (steps_for_slot p q.trace)) budget refusal)

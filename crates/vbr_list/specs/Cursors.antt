@@ -1,5 +1,5 @@
 -- Going over all keys from cursor to cursor: what one call tells, and what an iteration has given.
-use Rattle.std.specs.Prelude.{◌≡◌, ℕ, zero, suc, ◌+◌, ◌-◌, ◌^◌, ◌<◌, ◌≤◌, ◌⊎◌, true, false, List, [], ◌∷◌, Option, Some, None, Result, IfOk, IfErr, IfSome, Contains}
+use Rattle.std.specs.Prelude.{◌≡◌, ℕ, zero, suc, ◌+◌, ◌-◌, ◌*◌, ◌^◌, ◌<◌, ◌≤◌, max, ◌⊎◌, true, false, List, [], ◌∷◌, Option, Some, None, Result, IfOk, IfErr, IfSome, Contains}
 use Rattle.std.specs.List.{AllByRecursion}
 use Rattle.vbr_machine.specs.Start.{Start}
 use Rattle.vbr_machine.specs.Runs.{Begins, IsRun}
@@ -10,6 +10,9 @@ use Rattle.vbr_slots.specs.Views.{PassView, Trace}
 use Rattle.vbr_at_table.specs.KeptSlots.{TakesNoSlot}
 use Rattle.vbr_at_table.specs.Moments.{WasEntry, WasSo}
 use Rattle.vbr_at_table.specs.WithinBudget.{TookWithin}
+use Rattle.vbr_at_table.specs.declared.budget.TheConstants.{PIECE}
+use Rattle.vbr_list.specs.Budgets.{nodes_listed_in, steps_to_value_of}
+use Rattle.vbr_list.specs.Disturbed.{advances_since, changes_since, disturbed_in, enough_among, seek_costs_among}
 use Rattle.vbr_list.specs.Next.{enough_to_seek, seek_costs}
 use Rattle.vbr_list.specs.Refusals.{IsTired}
 use Rattle.vbr_list.specs.declared.cursor.Cursor.{Cursor}
@@ -81,20 +84,52 @@ abbrev pub costs_over : Trace → ℕ → ℕ → ℕ
 costs_over p bucket zero = 0
 costs_over p bucket (suc more) = costs_over p bucket more + seek_costs p (bucket + more)
 
+-- the most that it costs one that is disturbed in each of them as often as a function says
+abbrev pub costs_over_among : Trace → (ℕ → ℕ) → ℕ → ℕ → ℕ
+costs_over_among p times bucket zero = 0
+costs_over_among p times bucket (suc more) = costs_over_among p times bucket more + seek_costs_among (nodes_listed_in p (bucket + more)) (times (bucket + more)) (steps_to_value_of p.start)
+
+-- what is enough for it to come from one bucket on to another, and to seek in that one
+abbrev pub enough_to_come_among : Trace → (ℕ → ℕ) → ℕ → ℕ → ℕ
+enough_to_come_among p times bucket to = costs_over_among p times bucket (to - bucket) + enough_among (nodes_listed_in p to) (times to)
+
+-- the most that one walk costs in a bucket, to its next key, for a pass that was disturbed there so often since
+abbrev pub walk_costs : Trace → Trace → ℕ → ℕ
+walk_costs p q bucket = 5 * (nodes_listed_in p bucket + disturbed_in p q bucket) + (3 + steps_to_value_of p.start)
+
+-- and in any of so many buckets, from one on
+abbrev pub greatest_walk_costs : Trace → Trace → ℕ → ℕ → ℕ
+greatest_walk_costs p q bucket zero = 0
+greatest_walk_costs p q bucket (suc more) = max (greatest_walk_costs p q bucket more) (walk_costs p q (bucket + more))
+
+-- one walk in each of them, and one more there for each change of its list
+abbrev pub walks_cost : Trace → Trace → ℕ → ℕ → ℕ
+walks_cost p q bucket zero = 0
+walks_cost p q bucket (suc more) = walks_cost p q bucket more + (changes_since p q (bucket + more) + 1) * walk_costs p q (bucket + more)
+
+-- the most that it costs to go over them, where an advance of the epoch counts once: for each one walk more, in whichever of them
+abbrev pub going_costs : Trace → Trace → ℕ → ℕ → ℕ
+going_costs p q bucket count = walks_cost p q bucket count + advances_since p q * greatest_walk_costs p q bucket count
+
 -- how many buckets have been entered where a cursor stands so: those before its own, and its own unless it stands before the first key
 abbrev pub entered_by : ℕ → ℕ → ℕ
 entered_by bucket zero = bucket
 entered_by bucket (suc from) = bucket + 1
 
--- a call was refused, for want of steps alone, in a bucket of the table, where the cursor then stands; it gave no key on the way. Alone its budget was below what the buckets cost that it has gone over, and what is enough in the one where it stands
+-- a call was refused, for want of steps alone, in a bucket of the table, where the cursor then stands; it gave no key on the way
+-- The cursor keeps how far it has come: the budget was below what the buckets cost that the cursor has gone over, and what is enough in the one where it stands, for a pass that is disturbed in each as often as this one was; alone, for one that is disturbed never.
+-- So it is where an advance of the epoch counts once: beyond what it costs to go over all of them the budget had no room for one more piece.
 pub record StopsShort (p q : PassView) (c d : Cursor) (budget : ℕ) (refusal : Refusal) : Type 0 where
   pub tired : IsTired p q budget refusal
   pub passed : PassesBy p.trace q.trace c d None
   pub moved : HasStayedOrMoved c d
   pub bucket : d.bucket < p.trace.start.shape.buckets
   pub short : IsAlone p.trace q.trace → budget < costs_over p.trace c.bucket (d.bucket - c.bucket) + enough_to_seek p.trace d.bucket
+  pub disturbed_short : budget < enough_to_come_among p.trace (disturbed_in p.trace q.trace) c.bucket d.bucket
+  pub going_short : budget < going_costs p.trace q.trace c.bucket (d.bucket + 1 - c.bucket) + PIECE
 
--- the pass gave what it was to give, or was refused; it made no call, and loads alone, added nothing to the chronicle, and has what slots it had; it made no more steps than its budget; and alone, what it gave cost no more than seeking in each bucket from the first to the last one that it entered
+-- the pass gave what it was to give, or was refused; it made no call, and loads alone, added nothing to the chronicle, and has what slots it had; it made no more steps than its budget
+-- What it gave cost no more than seeking in each bucket from the first to the last one that it entered, of a pass that is disturbed in each as often as this one was; alone, of one that is disturbed never. So it is where an advance of the epoch counts once: it cost no more than going over all of them.
 pub record Iterates {A : Type 0} (Gives : A → Type 0) (p q : PassView) (c d : Cursor) (budget : ℕ) (answer : Result A Refusal) : Type 0 where
   pub gives : IfOk answer Gives
   pub refused : IfErr answer (StopsShort p q c d budget)
@@ -105,6 +140,8 @@ pub record Iterates {A : Type 0} (Gives : A → Type 0) (p q : PassView) (c d : 
   pub hand : q.hand ≡ p.hand
   pub steps : TookWithin p.trace q.trace budget
   pub costs : IfOk answer (λ given. IsAlone p.trace q.trace → TookWithin p.trace q.trace (costs_over p.trace c.bucket (entered_by d.bucket d.from - c.bucket)))
+  pub disturbed_costs : IfOk answer (λ given. TookWithin p.trace q.trace (costs_over_among p.trace (disturbed_in p.trace q.trace) c.bucket (entered_by d.bucket d.from - c.bucket)))
+  pub going : IfOk answer (λ given. TookWithin p.trace q.trace (going_costs p.trace q.trace c.bucket (entered_by d.bucket d.from - c.bucket)))
 
 -- so it is of keys, of entries, and of entries where nodes have values
 abbrev pub IteratesKeys : PassView → PassView → Cursor → Cursor → ℕ → Result (Option ℕ) Refusal → Type 0

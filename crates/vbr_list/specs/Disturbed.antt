@@ -20,6 +20,14 @@ disturbed_at p bucket run = disturbances p.start run p.who bucket
 abbrev pub disturbed_in : Trace → Trace → ℕ → ℕ
 disturbed_in p q bucket = disturbed_at p bucket q.seen - disturbed_at p bucket p.seen
 
+-- how often the epoch was advanced since; each advance of another disturbs the pass at every bucket
+abbrev pub advances_since : Trace → Trace → ℕ
+advances_since p q = (incarnations_after p.start q.seen).epoch - (incarnations_after p.start p.seen).epoch
+
+-- and how often others disturbed a pass at a bucket besides, where it advanced the epoch never itself: how often they changed the list there
+abbrev pub changes_since : Trace → Trace → ℕ → ℕ
+changes_since p q bucket = disturbed_in p q bucket - advances_since p q
+
 -- so it is at a key's bucket
 abbrev pub disturbed_after : Trace → ℕ → List Event → ℕ
 disturbed_after p key run = disturbed_at p (bucket_of p.start.shape key) run

@@ -12,7 +12,7 @@ use Rattle.vbr_at_table.specs.Advances.{AdvancesWhereNeeded}
 use Rattle.vbr_at_table.specs.Budgets.{steps_to_take_among}
 use Rattle.vbr_at_table.specs.Gained.{gained}
 use Rattle.vbr_at_table.specs.Hands.{HandView, IsHandOf}
-use Rattle.vbr_at_table.specs.KeptSlots.{HasStill, KeepsSlots, SharesWhereFull, TakesNoSlot, TriesOnlyWhere}
+use Rattle.vbr_at_table.specs.KeptSlots.{HasStill, KeepsSlots, SharesWhereFull, TakesNoSlot, TriesOnlyWhere, WinsInNeed}
 use Rattle.vbr_at_table.specs.Refusals.{HasNoSlot, IsSpent}
 use Rattle.vbr_at_table.specs.WithinBudget.{CountsSteps}
 use Rattle.vbr_at_table.specs.declared.budget.TheConstants.{PIECE}
@@ -83,7 +83,7 @@ pub record AnswersNone {N : Type 0} {kind : Ghosts N} (c d : PendingCall N kind)
 
 -- ---- a slot is taken
 
--- what is left before a slot is linked: the steps are within the budget, the epoch is advanced only where that is needed, no slot is lost, each slot that the pass had it has still, and one is put into the shared pool only where the own one has no more than two places left
+-- what is left before a slot is linked: the steps are within the budget, the epoch is advanced only where that is needed, no slot is lost, each slot that the pass had it has still, one is put into the shared pool only where the own one has no more than two places left, and one flag is won at most
 pub record Prepares {N : Type 0} {kind : Ghosts N} (c d : PendingCall N kind) : Type 0 where
   pub call : IsSameCall c d
   pub counts : CountsWithin (trace_in c) (trace_in d) c.used d.used c.budget
@@ -91,6 +91,7 @@ pub record Prepares {N : Type 0} {kind : Ghosts N} (c d : PendingCall N kind) : 
   pub kept : KeepsSlots (pass_in c) (pass_in d)
   pub had : HasStill (pass_in c) (pass_in d)
   pub shared : SharesWhereFull 2 (pass_in c) (pass_in d)
+  pub wins : WinsInNeed (pass_in c) (pass_in d)
 
 -- a slot is in hand, in no more steps than that takes while others take slots out of the shared pool
 pub record Provides {N : Type 0} {kind : Ghosts N} (c d : PendingCall N kind) (hand : HandView) : Type 0 where

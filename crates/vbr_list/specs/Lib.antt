@@ -17,6 +17,7 @@ pub mod Helping
 pub mod Valuing
 pub mod Telling
 pub mod LookUpPieces
+pub mod Entries
 pub mod Next
 pub mod Cursors
 pub mod Seeking
@@ -25,3 +26,4 @@ pub mod Removing
 pub mod Storing
 pub mod Settling
 pub mod Replacing
+pub mod Holding

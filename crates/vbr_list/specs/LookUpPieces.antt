@@ -1,10 +1,13 @@
 -- A look-up, piece by piece: all its steps are loads. Only contracts of private functions cite this.
-use Rattle.std.specs.Prelude.{◌≡◌, ℕ, ◌+◌, ◌<◌, Bool, true, Option}
+use Rattle.std.specs.Prelude.{◌≡◌, ℕ, ◌+◌, ◌<◌, Bool, true, Option, Some, None}
 use Rattle.vbr_words.specs.declared.nodes.Nodes.{Ghosts}
+use Rattle.vbr_words.specs.declared.place.At.TheVariants.{Slot}
 use Rattle.vbr_slots.specs.Alone.{IsFresh}
 use Rattle.vbr_slots.specs.Calls.{AddsAnswer, AddsNone, Quiet}
 use Rattle.vbr_slots.specs.Views.{knows}
 use Rattle.vbr_at_table.specs.declared.budget.TheConstants.{PIECE}
+use Rattle.vbr_at_table.specs.Records.{WasHeldEntry}
+use Rattle.vbr_at_table.specs.declared.held.Held.{Held}
 use Rattle.vbr_at_table.specs.declared.rollback.Rollback.{Rollback}
 use Rattle.vbr_list.specs.Budgets.{steps_where}
 use Rattle.vbr_list.specs.Pieces.{MadeGiving, trace_in}
@@ -55,6 +58,18 @@ IsAskedOf c gives = gives ≡ true → (trace_in c).start.shape.values ≡ true
 pub record LookUpAnswers {N : Type 0} {kind : Ghosts N} (gives : Bool) (c d : PendingCall N kind) (answer : Option ℕ) : Type 0 where
   pub made : MadeGiving (look_up_op gives) c d answer
   pub adds : AddsAnswer (given_in (trace_in c) (look_up_op gives) c.key answer) (trace_in c) (trace_in d)
+
+-- so it is, with the value of a node that was an entry of the key
+pub record GivesValueOf {N : Type 0} {kind : Ghosts N} (c d : PendingCall N kind) (node : Held) (answer : Option ℕ) : Type 0 where
+  pub answers : LookUpAnswers true c d answer
+  pub value : ℕ
+  pub gives : answer ≡ Some value
+  pub shows : (s : ℕ) → node.at ≡ Slot s → WasHeldEntry (trace_in c) (trace_in d) node s c.key
+
+-- so it is, with no
+pub record GivesNone {N : Type 0} {kind : Ghosts N} (c d : PendingCall N kind) (answer : Option ℕ) : Type 0 where
+  pub answers : LookUpAnswers true c d answer
+  pub none : answer ≡ None
 
 -- it isn't answered, and added nothing: the link that is to tell stands no more, or the epoch has moved
 pub record LookUpRollsBack {N : Type 0} {kind : Ghosts N} (c d : PendingCall N kind) (sight : Sight) (rollback : Rollback) : Type 0 where

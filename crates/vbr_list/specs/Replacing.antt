@@ -1,10 +1,12 @@
 -- The pieces of a replacement: a node that was found is replaced by the one in hand, and leaves its list. Only contracts of private functions cite this.
-use Rattle.std.specs.Prelude.{◌⊎◌, ℕ, ◌+◌, ◌<◌, ◌≤◌, true, Some, Result, Ok, Err}
+use Rattle.std.specs.Prelude.{◌≡◌, ◌⊎◌, ℕ, ◌+◌, ◌<◌, ◌≤◌, true, Some, Result, Ok, Err}
 use Rattle.vbr_words.specs.declared.nodes.Nodes.{Ghosts}
 use Rattle.vbr_words.specs.declared.place.At.TheVariants.{Slot}
 use Rattle.vbr_machine.specs.Membership.{KeyAt, StandsBehind}
 use Rattle.vbr_machine.specs.Removals.{ReplacedAt}
 use Rattle.vbr_slots.specs.Views.{PassView, knows}
+use Rattle.vbr_at_table.specs.Hands.{HandView}
+use Rattle.vbr_at_table.specs.Records.{PublishesSlot}
 use Rattle.vbr_at_table.specs.KeptSlots.{HasAllButOne, HasStill, TakesNoSlot}
 use Rattle.vbr_at_table.specs.WithinBudget.{CountsSteps}
 use Rattle.vbr_at_table.specs.declared.held.Held.{Held}
@@ -42,6 +44,11 @@ pub record ReplacesFound {N : Type 0} {kind : Ghosts N} (value : ℕ) (c d : Pen
   pub old : IsOldNode d found.pred gone
   pub replaced : ReplacedAt (trace_in c).start (trace_in c).seen (trace_in d).seen (trace_in c).who (knows (trace_in d)).epoch gone.slot
   pub marks : MarksBehind (trace_in c) (trace_in d) c.key found.pred
+
+-- the slot that was in hand is published in its place; or it stays in hand
+abbrev pub PublishesOrKeeps : {N A : Type 0} {kind : Ghosts N} → PendingCall N kind → PendingCall N kind → HandView → Result A HandView → Type 0
+PublishesOrKeeps c d hand (Ok answer) = PublishesSlot (trace_in c) (trace_in d) hand.slot hand.birth c.key
+PublishesOrKeeps c d hand (Err back) = back ≡ hand
 
 -- so it is, and the replaced node has left its list, unless the budget has no room for one more piece
 abbrev pub ReplacesAndLeaves : {N : Type 0} {kind : Ghosts N} → ℕ → PendingCall N kind → PendingCall N kind → Found → Type 0

@@ -6,7 +6,7 @@ use Rattle.vbr_slots.specs.Alone.{IsAlone}
 use Rattle.vbr_slots.specs.Calls.{IsSame, Made, Quiet}
 use Rattle.vbr_slots.specs.Views.{PassView, Trace}
 use Rattle.vbr_at_table.specs.Advances.{AdvancesWhereNeeded}
-use Rattle.vbr_at_table.specs.KeptSlots.{HasAllButOne, HasStill, KeepsSlots, SharesWhereFull, TriesOnlyWhere}
+use Rattle.vbr_at_table.specs.KeptSlots.{HasAllButOne, HasStill, KeepsSlots, SharesWhereFull, TriesOnlyWhere, WinsInNeed}
 use Rattle.vbr_at_table.specs.Refusals.{HasNoSlot, IsOutOfSteps, IsSpent, LeavesRoom}
 use Rattle.vbr_at_table.specs.Replacing.{MadeTwo}
 use Rattle.vbr_at_table.specs.WithinBudget.{TookWithin}
@@ -78,7 +78,7 @@ IsRefusedStore wanted p q key budget (EpochSpent epoch) = WantedAndSpent wanted 
 -- what a store promises besides its answer: about slots, refusals, steps, and the node that it replaced
 -- It advances the epoch only where that is needed, and has each slot that it had but for the one that it published.
 -- It puts a slot into the shared pool only where its own has no more than two places left.
--- It looks for one there only where its own is empty and the key was as it is wanted at a moment. It is refused only where it must be.
+-- It looks for one there only where its own is empty and the key was as it is wanted at a moment. It wins one at most, and that where it has none. It is refused only where it must be.
 -- Alone it has steps enough with a budget that is known before. With a slot in the own pool it is then answered, unless the epoch is spent.
 -- A node that it replaced has left its list, unless its steps leave no room in the budget for one more piece; alone it has with a budget that is known before.
 -- Alone its answer costs no more than is known before. All that holds of a pass that was disturbed so often, too.
@@ -88,6 +88,7 @@ pub record BoundsOfStore (wanted : Wanted) (p q : PassView) (key budget : ℕ) (
   pub had : HasUnstored wanted p q answer
   pub shared : SharesWhereFull 2 p q
   pub tries : TriesOnlyWhere (WasWanted wanted p.trace q.trace key) p q
+  pub wins : WinsInNeed p q
   pub refused : IfErr answer (IsRefusedStore wanted p q key budget)
   pub within : IfErr answer (λ refusal. IsAlone p.trace q.trace → LacksSteps (enough_to_store wanted p key) budget refusal)
   pub disturbed_within : IfErr answer (λ refusal. LacksSteps (enough_to_store_among (listed_for p.trace key) (disturbed p.trace q.trace key) (steps_to_prepare wanted p q.trace)) budget refusal)

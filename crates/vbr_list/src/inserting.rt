@@ -20,9 +20,10 @@ use vbr_words::{Entries, Nodes};
 /// where no slot that it could take is stamped below the epoch that it read.
 ///
 /// Its refusals are OutOfSteps, and, where the key was absent, NoSlot and EpochSpent. While the other
-/// passes stand still, a budget of 18n + slots + 82 is enough, with n nodes in the key's bucket, and
-/// what is answered took at most 18n + slots + 77 steps. With a slot in the pass's own pool and 18n + 82
-/// steps it is then answered, unless the epoch is spent, and took at most 18n + 77.
+/// passes stand still, a budget of 18n + 82 is enough, or of 18n + w + 20 if that is more, with n nodes in
+/// the key's bucket and w = slots / 64, rounded up; and what is answered took at most 18n + 77 steps, or
+/// 18n + w + 15. With a slot in the pass's own pool and 18n + 82 steps it is then answered, unless the epoch
+/// is spent, and took at most 18n + 77.
 pub fn insert(slots: &Slots, pass: &mut Pass, key: u64, budget: u32) -> Result<bool, Refusal>
     requires own { IsOf pass.old.trace slots.now }
     requires empty_hand { pass.old.hand ≡ None }

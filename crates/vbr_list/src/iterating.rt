@@ -21,10 +21,13 @@ use vbr_words::{Entries, Nodes};
 ///
 /// It makes no call, and all its steps are loads, three for each bucket that it enters.
 ///
-/// OutOfSteps is its one refusal; the cursor keeps how far it has come. While the other passes stand still, a
-/// budget of 5n + 11, with n nodes in the cursor's bucket, is enough to give a key or to come at least to the
-/// next bucket, and what is given took at most 5n + 3 steps for each bucket that it went through, or 5n + 5
-/// with values.
+/// OutOfSteps is its one refusal. The cursor keeps how far it has come: the budget was used up by the buckets
+/// that it has gone over and the one where it stands. While the other passes stand still, a budget of 5n + 11,
+/// with n nodes in the cursor's bucket, is enough to give a key or to come at least to the next bucket, and
+/// what is given took at most 5n + 3 steps for each bucket that it went through, or 5n + 5 with values. Where
+/// others disturb the pass m times at a bucket during the call, that is (m + 1)(5(n + m) + 11), and at most
+/// (m + 1)(5(n + m) + 3) for the bucket, or (m + 1)(5(n + m) + 5) with values. An advance of the epoch sends
+/// it back in one of its buckets alone.
 pub fn next_key_at<N: Nodes>(
     slots: &Slots<N>,
     pass: &mut Pass,

@@ -57,15 +57,18 @@
 
 mod call;
 pub mod cursor;
+pub mod entries;
 pub mod finding;
 pub mod found;
 mod helping;
+pub mod holding;
 pub mod inserting;
 pub mod iterating;
 pub mod laws;
 mod looking;
 pub mod looking_up;
 pub mod next;
+pub mod record_laws;
 pub mod removing;
 mod replacing;
 mod seeking;
@@ -78,8 +81,12 @@ mod visiting;
 pub mod wanted;
 
 pub use cursor::Cursor;
+pub use entries::{Entry, get_entry, is_still};
 pub use finding::find;
 pub use found::Found;
+pub use holding::{
+    NotReplaced, StillInHand, hold, insert_entry_held, insert_held, let_go, replace_held,
+};
 pub use inserting::{insert, insert_entry};
 pub use iterating::{next_entry_at, next_key_at, next_where_at};
 pub use looking_up::{get, has};

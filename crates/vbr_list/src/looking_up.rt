@@ -6,6 +6,7 @@ ghost use Rattle.vbr_slots.specs.Views.{IsOf};
 ghost use Rattle.vbr_list.specs.CallBounds.{Calls, CallsAs, CallsGet, BoundsOfLookUp};
 ghost use Rattle.vbr_list.specs.Budgets.{steps_where};
 ghost use Rattle.vbr_list.specs.declared.looking.Sight.TheVariants.{Present, Absent};
+ghost use Rattle.vbr_list.specs.LookUpPieces.{GivesNone, GivesValueOf};
 ghost use Rattle.vbr_list.specs.LookUpPieces.{IsAskedOf, IsSightFor, LookUpAnswers, LookUpRollsBack, steps_to_answer};
 ghost use Rattle.vbr_list.specs.Pieces.{HasRoomForPiece, Settles, trace_in};
 ghost use Rattle.vbr_list.specs.Places.{sighted, is_present};
@@ -44,14 +45,14 @@ impl<N: Nodes> PendingCall<'_, N> {
     // Answers a get with the value of the node with the key, in two steps for it and one more, if the
     // epoch and the node's link still stand.
     #[inline(always)]
-    fn give_value(&mut self, node: &Held) -> Result<Option<u64>, Rollback>
+    pub(crate) fn give_value(&mut self, node: &Held) -> Result<Option<u64>, Rollback>
         requires sight { IsSightFor self.old (Present node.now) }
         requires values { (trace_in self.old).start.shape.values ≡ true }
         requires room { HasRoomForPiece self.old }
         ensures settles { Settles self.old self.new }
         ensures few { self.new.used ≤ self.old.used + 3 }
         ensures only_loads { OnlyLoads (trace_in self.old) (trace_in self.new) }
-        ensures answers { IfOk result (LookUpAnswers true self.old self.new) }
+        ensures answers { IfOk result (GivesValueOf self.old self.new node.now) }
         ensures rolls { IfErr result (LookUpRollsBack self.old self.new (Present node.now)) }
     {
         let read = value_if_any(&mut self.at, node);
@@ -67,14 +68,14 @@ impl<N: Nodes> PendingCall<'_, N> {
 
     // Answers a get with no, in one step, if the link of the last place before the key still stands.
     #[inline(always)]
-    fn give_none(&mut self, pred: &Held) -> Result<Option<u64>, Rollback>
+    pub(crate) fn give_none(&mut self, pred: &Held) -> Result<Option<u64>, Rollback>
         requires sight { IsSightFor self.old (Absent pred.now) }
         requires values { (trace_in self.old).start.shape.values ≡ true }
         requires room { HasRoomForPiece self.old }
         ensures settles { Settles self.old self.new }
         ensures few { self.new.used ≤ self.old.used + 3 }
         ensures only_loads { OnlyLoads (trace_in self.old) (trace_in self.new) }
-        ensures answers { IfOk result (LookUpAnswers true self.old self.new) }
+        ensures answers { IfOk result (GivesNone self.old self.new) }
         ensures rolls { IfErr result (LookUpRollsBack self.old self.new (Absent pred.now)) }
     {
         let outcome = confirm_absent(&mut self.at, Op::Get, self.key, pred);

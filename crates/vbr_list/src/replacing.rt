@@ -3,7 +3,7 @@ ghost use Rattle.std.specs.Prelude.{◌+◌, ◌≡◌, ◌≤◌, IfOk, IfErr};
 ghost use Rattle.vbr_at_table.specs.StepCosts.{steps_to_birth};
 ghost use Rattle.vbr_list.specs.Inserting.{GivesHandBack, HasHandAndRoom};
 ghost use Rattle.vbr_list.specs.Pieces.{GoesOn, pass_in};
-ghost use Rattle.vbr_list.specs.Replacing.{HasUnused, IsOldNode, KnowsFoundValue, LeavesWithRoom, MayStoreNode, ReplacesFound, ReplacesAndLeaves, ReplacesPaid, UnlinksReplaced};
+ghost use Rattle.vbr_list.specs.Replacing.{HasUnused, IsOldNode, KnowsFoundValue, LeavesWithRoom, MayStoreNode, PublishesOrKeeps, ReplacesFound, ReplacesAndLeaves, ReplacesPaid, UnlinksReplaced};
 ghost use Rattle.vbr_list.specs.Settling.{MaySettle, SettlesNone};
 
 use crate::call::PendingCall;
@@ -27,13 +27,19 @@ impl<N: Nodes> PendingCall<'_, N> {
     // Replaces the node that was found, whose value was read, by the slot in hand, which gets this
     // value, in six steps at most; the node is marked then. Else the hand comes back.
     #[inline(always)]
-    fn replace_found(&mut self, found: &Found, value: u64, hand: Hand) -> Result<Marked, Hand>
+    pub(crate) fn replace_found(
+        &mut self,
+        found: &Found,
+        value: u64,
+        hand: Hand,
+    ) -> Result<Marked, Hand>
         requires read { KnowsFoundValue self.old found.now }
         requires hand { HasHandAndRoom (pass_in self.old) hand }
         requires room { self.old.used + 6 ≤ self.old.budget }
         ensures tries { MayStoreNode self.old self.new }
         ensures had { HasUnused (pass_in self.old) (pass_in self.new) result }
         ensures replaced { IfOk result (ReplacesFound value self.old self.new found.now) }
+        ensures by { PublishesOrKeeps self.old self.new hand result }
         ensures back { IfErr result (GivesHandBack self.old self.new found.now) }
     {
         self.at.law();
@@ -55,7 +61,7 @@ impl<N: Nodes> PendingCall<'_, N> {
     // Unlinks and retires the node that was replaced, if the budget has room; where that is lost, walks
     // on until it is out of its list, by this pass or another.
     #[inline(always)]
-    fn unlink_replaced(&mut self, pred: &Held, marked: Marked)
+    pub(crate) fn unlink_replaced(&mut self, pred: &Held, marked: Marked)
         requires old { IsOldNode self.old pred.now marked }
         ensures goes { GoesOn self.old self.new }
         ensures leaves { LeavesWithRoom self.old self.new marked.slot }

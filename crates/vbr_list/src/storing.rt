@@ -261,8 +261,9 @@ impl<N: Nodes> PendingCall<'_, N> {
 ///
 /// Its refusals are OutOfSteps, and, where the key was as it is wanted, NoSlot and EpochSpent: then no
 /// call was made, and what is there stays. The budgets that are enough are those of [`crate::insert`],
-/// and two steps more for [`Wanted::Value`]: while the other passes stand still, 18n + slots + 82 with n
-/// nodes in the key's bucket, and 18n + 82 with a slot in the pass's own pool, unless the epoch is spent.
+/// and two steps more for [`Wanted::Value`]: while the other passes stand still, 18n + 82, or 18n + w + 20
+/// if that is more, with n nodes in the key's bucket and w = slots / 64, rounded up; and 18n + 82 with a slot
+/// in the pass's own pool, unless the epoch is spent.
 /// What is answered took at most six steps more, and with eight more a node that it replaced has left
 /// its list. It advances the epoch at most once, and only where no slot that it could take is stamped
 /// below the epoch that it read.

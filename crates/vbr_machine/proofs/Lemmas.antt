@@ -98,3 +98,16 @@ pub use Rattle.vbr_machine.proofs.progress.LeftNodes.{marked_fewer}
 pub use Rattle.vbr_machine.proofs.progress.GainedSlots.{gains_grow, own_gains_uncounted, slot_gained}
 -- What disturbances are: updates that were answered, and advances.
 pub use Rattle.vbr_machine.proofs.progress.Progress.{disturbances_paid}
+-- Where each pass advances the epoch only in need, a disturbance is paid by an update that was answered, and by what
+-- was removed before.
+pub use Rattle.vbr_machine.proofs.progress.Needs.{IsIn, in_either, need_between, need_still}
+pub use Rattle.vbr_machine.proofs.progress.NeededAdvances.{AllAdvanceInNeed, disturbances_answered, epoch_paid}
+pub use Rattle.vbr_machine.proofs.whereabouts.UnretiredSlots.{unretired_few}
+-- Marked nodes by the pass that marked them: they grow with its removes, and less where one has left its list.
+pub use Rattle.vbr_machine.proofs.progress.MarkedBy.{marks_added, marks_fall, marks_follow}
+pub use Rattle.vbr_machine.proofs.progress.Retirements.{removes-append}
+-- Records beside the slots: an entry that was shown, that it keeps its slot while its birth or the epoch stands, and
+-- that a slot in hand is in one hand alone, throughout.
+pub use Rattle.vbr_machine.proofs.records.Entries.{entry_shown, same_birth_same_entry, same_epoch_same_entry}
+pub use Rattle.vbr_machine.proofs.records.Hands.{in_hand_alone, in_hand_new, in_hand_throughout}
+pub use Rattle.vbr_machine.proofs.records.Published.{published_entry, replacing_entry}

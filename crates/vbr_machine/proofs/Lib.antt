@@ -18,5 +18,7 @@ mod moments
 mod progress
 -- Worked runs, computed.
 mod worked
+-- Records that a program keeps beside the slots.
+mod records
 -- The lemmas that other crates cite.
 pub mod Lemmas

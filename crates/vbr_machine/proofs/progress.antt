@@ -13,3 +13,7 @@ pub mod LeftNodes
 pub mod OwnInserts
 pub mod MarkedNodes
 pub mod Progress
+pub mod Retirements
+pub mod Needs
+pub mod NeededAdvances
+pub mod MarkedBy

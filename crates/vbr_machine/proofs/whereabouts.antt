@@ -4,3 +4,4 @@ pub mod Whereabouts
 pub mod SlotsAddUp
 pub mod UnlinkedInTurn
 pub mod OutsidePool
+pub mod UnretiredSlots

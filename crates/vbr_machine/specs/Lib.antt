@@ -25,9 +25,13 @@ pub mod Removals
 pub mod Agreement
 pub mod Disturbances
 pub mod Gains
+pub mod Unretired
+pub mod MarkedBy
+pub mod Needs
 pub mod AgreedPlaces
 pub mod Whereabouts
 pub mod Safety
 pub mod Making
 pub mod Calls
 pub mod Messages
+pub mod Records

@@ -1,6 +1,6 @@
 //! The laws of chronicles and runs, in the order of the argument. Each function says its law in
 //! its contract, and does nothing.
-ghost use Rattle.std.specs.Prelude.{ℕ, ◌≡◌, ◌≢◌, ◌+◌, ◌*◌, ◌≤◌, ◌↔◌, true, false, List, [], ◌∷◌, ◌++◌, Option, Some};
+ghost use Rattle.std.specs.Prelude.{ℕ, ◌≡◌, ◌≢◌, ◌+◌, ◌*◌, ◌<◌, ◌≤◌, ◌↔◌, true, false, List, [], ◌∷◌, ◌++◌, Option, Some};
 ghost use Rattle.std.specs.List.Sorted.{IsStrictlyIncreasing};
 ghost use Rattle.vbr_words.specs.Dimensions.{Dimensions};
 ghost use Rattle.vbr_machine.specs.Start.{Start, IsStart};
@@ -32,7 +32,10 @@ ghost use Rattle.vbr_machine.specs.Agreement.{IsGoodLink, IsLastOf, IsPair, IsHe
 ghost use Rattle.vbr_machine.specs.Calls.{own_calls};
 ghost use Rattle.vbr_machine.specs.Removals.{IsTakenOut, MarkedLeft, NoneMarked};
 ghost use Rattle.vbr_machine.specs.Runs.{Begins, IsAccepted, IsRun, NoneOf, know_after, world_after};
+ghost use Rattle.vbr_machine.specs.MarkedBy.{HasOneLeft, marked_by};
+ghost use Rattle.vbr_machine.specs.Needs.{AdvancesInNeed};
 ghost use Rattle.vbr_machine.specs.Nodes.{marked_after, state_in};
+ghost use Rattle.vbr_machine.specs.Unretired.{removes, unretired_after};
 ghost use Rattle.vbr_machine.specs.Safety.{IsSafe};
 ghost use Rattle.vbr_machine.specs.Whereabouts.{InSharedPool, InSet, MarkedInList, Unstamped, IsSomewhere, UnlinksInTurn, is_at, number_at, number_had, sum_of};
 ghost use Rattle.vbr_machine.specs.declared.history.Call.{Call};
@@ -404,4 +407,74 @@ pub fn disturbances_are_paid()
         ≤ disturbances start first who bucket + marked_after start first
         + (incarnations_after start run).epoch
         + 2 * updates (incarnations_after start run).calls }
+{}
+
+/// A law: let each pass advance the epoch only where it needs that, from one moment of a run to another.
+/// Then the epoch advances at most once, and once for each node that was removed and not retired at
+/// first, or is removed since; less one for each that is so at the end.
+pub fn advances_are_paid()
+    ensures { (start : Start) (passes : ℕ) (first run : List Event) →
+        IsStart start → IsRun start passes run → Begins first run →
+        ((pass : ℕ) → pass < passes → AdvancesInNeed start first run pass) →
+        (incarnations_after start run).epoch + unretired_after start run
+        + how_many is_removal (chronicle start first)
+        ≤ (incarnations_after start first).epoch + 1 + unretired_after start first
+        + how_many is_removal (chronicle start run) }
+{}
+
+/// A law: so a pass is disturbed at a bucket at most once, once for each node that was marked at first,
+/// once for each that was removed and not retired, and three times for each insert or remove that is
+/// answered yes. Where none is answered yes, the first three numbers are known at first.
+pub fn disturbances_are_answered()
+    ensures { (start : Start) (passes : ℕ) (first run : List Event) (who bucket : ℕ) →
+        IsStart start → IsRun start passes run → Begins first run →
+        ((pass : ℕ) → pass < passes → AdvancesInNeed start first run pass) →
+        disturbances start run who bucket + 3 * updates (incarnations_after start first).calls
+        ≤ disturbances start first who bucket + 1 + marked_after start first
+        + unretired_after start first + 3 * updates (incarnations_after start run).calls }
+{}
+
+/// A law: let each pass advance the epoch only where it needs that, from the opening on. Then the epoch is
+/// at most one more than the removes that were answered yes, less those whose nodes aren't retired.
+pub fn the_epoch_is_paid()
+    ensures { (start : Start) (passes : ℕ) (run : List Event) →
+        IsStart start → IsRun start passes run →
+        ((pass : ℕ) → pass < passes → AdvancesInNeed start [] run pass) →
+        (incarnations_after start run).epoch + unretired_after start run
+        ≤ 1 + removes (incarnations_after start run).calls }
+{}
+
+/// A law: the nodes that are removed and not retired are no more than the marked ones, and one for each
+/// pass, where each has at most one slot unlinked and not stamped.
+pub fn one_unretired_for_each_pass()
+    ensures { (start : Start) (passes : ℕ) (run : List Event) →
+        IsStart start → IsRun start passes run →
+        ((pass : ℕ) → pass < passes → number_at start run (Unstamped pass) ≤ 1) →
+        unretired_after start run ≤ marked_after start run + passes }
+{}
+
+/// A law: the nodes that are marked, and in their lists still, are no more than those of them that each
+/// pass marked, added up.
+pub fn marks_add_up()
+    ensures { (start : Start) (passes : ℕ) (run : List Event) →
+        IsStart start → IsRun start passes run →
+        marked_after start run ≤ sum_of passes (marked_by start run) }
+{}
+
+/// A law: between two moments of a run the nodes that a pass marked, and that are in their lists still,
+/// grow by no more than its removes that are answered yes.
+pub fn marks_follow_removes()
+    ensures { (start : Start) (passes : ℕ) (first run : List Event) (pass : ℕ) →
+        IsStart start → IsRun start passes run → Begins first run →
+        marked_by start run pass + removes (own_calls start first pass)
+        ≤ marked_by start first pass + removes (own_calls start run pass) }
+{}
+
+/// A law: and by one fewer, where a node that the pass has marked or replaced since has left its list.
+pub fn marks_fall_where_one_left()
+    ensures { (start : Start) (passes : ℕ) (first run : List Event) (pass key : ℕ) →
+        IsStart start → IsRun start passes run → Begins first run →
+        HasOneLeft start first run pass key →
+        marked_by start run pass + 1 + removes (own_calls start first pass)
+        ≤ marked_by start first pass + removes (own_calls start run pass) }
 {}

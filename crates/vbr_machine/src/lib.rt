@@ -11,6 +11,7 @@ pub mod knowledge;
 pub mod laws;
 pub mod plain_map;
 pub mod plain_set;
+pub mod record_laws;
 
 pub use entries::keys_and_values;
 pub use event::{CoreRefusal, Effect, Event, Step};

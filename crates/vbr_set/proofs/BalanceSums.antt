@@ -1,7 +1,7 @@
 -- The balances of all members of a set add up to how many keys it has.
 use Rattle.std.proofs.Common.{◌≡◌, ◌≢◌, ℕ, zero, suc, ◌+◌, ◌<◌, Bool, true, false, cond, List, [], ◌∷◌, ◌++◌, map}
 use Rattle.std.proofs.Common.{append_assoc, append-nil, length, refl, sym, ap, ◌∙◌, subst, arith, inl, inr}
-use Rattle.std.specs.Prelude.{◌==◌, ◌⊎◌, ℤ, pos, ◌+ℤ◌, count_by, nat_eq, FitsSigned}
+use Rattle.std.specs.Prelude.{◌==◌, ◌⊎◌, ℤ, pos, ◌+ℤ◌, count_by, FitsSigned}
 use Rattle.std.specs.Int.{w64, int_wrap}
 use Rattle.std.proofs.lemmas.Bool.{cases_Bool, eq-eqb, eqb-true, false≢true}
 use Rattle.std.proofs.lemmas.List.Sums.{sum_by-cons}
@@ -18,12 +18,11 @@ use Rattle.vbr_machine.specs.declared.event.Event.{Event}
 use Rattle.vbr_machine.specs.declared.history.Call.{Call}
 use Rattle.vbr_machine.proofs.Lemmas.{calls-snoc, is_run_after, others_leave_calls, own_calls-snoc, run_agrees}
 use Rattle.vbr_slots.specs.Calls.{made_by}
-use Rattle.vbr_slots.specs.PassLaw.{PassLaw}
-use Rattle.vbr_slots.specs.Views.{IsOf, PassView, TableView}
-use Rattle.vbr_set.specs.AllMembers.{AreOfSet, ReportsAllBy}
-use Rattle.vbr_set.specs.Balances.{balance_of, change_of, opened_for}
+use Rattle.vbr_slots.specs.Views.{TableView}
+use Rattle.vbr_set.specs.AllMembers.{AreOfSet}
+use Rattle.vbr_set.specs.Balances.{change_of, opened_for}
 use Rattle.vbr_set.specs.BalanceSums.{AddUpBy, BalancesAddUp, sum_of_balances}
-use Rattle.vbr_set.specs.Closing.{ClosesBy, EachMade}
+use Rattle.vbr_set.specs.Closing.{EachMade}
 use Rattle.vbr_set.specs.Histories.{calls_of}
 use Rattle.vbr_set.specs.Kinds.{KindOf, as_map, as_set}
 use Rattle.vbr_set.specs.Members.{MemberView}
@@ -173,7 +172,7 @@ keys_after_run start passes run is is_run =
     ∙ counted_after start.keys (linked_keys a start.shape.slots) (opening_keys start) a.calls opens g.tells.legal there
     ∙ ap (λ (calls : List Call). pos (length start.keys) +ℤ change_of calls) (sym g.calls)
 
-add_up_by : {Item R : Type 0} (kind : KindOf Item R) → AddUpBy kind
+pub add_up_by : {Item R : Type 0} (kind : KindOf Item R) → AddUpBy kind
 add_up_by kind members report told pass law own once =
     let set : TableView = told.set in
     let c = told.closes in

@@ -17,6 +17,8 @@ mod HavingSlots
 mod CountedKeys
 mod KeyCounts
 mod BalanceSums
+mod AddedBalances
+mod RenewalRoom
 mod RoomLeft
 mod PassSums
 mod RoomOfOthers
@@ -24,4 +26,17 @@ mod TakenUp
 mod Listing
 mod Progress
 mod StretchedRuns
+mod AnsweredMeanwhile
+mod AnsweredCalls
+mod PaidGains
+mod WonFlags
+mod KnownBudgets
+mod AnsweredWalks
+mod AnsweredSteps
+mod EnoughByShape
+mod EnoughWithoutSlots
+mod LeftMarked
+mod MembersCalls
+mod BatchCalls
 mod InTurn
+pub mod Lemmas

@@ -13,19 +13,20 @@ use Rattle.vbr_slots.specs.Alone.{IsAlone}
 use Rattle.vbr_slots.specs.Calls.{AddsNone, OnlyLoads, Quiet}
 use Rattle.vbr_slots.specs.PassLaw.{PassLaw}
 use Rattle.vbr_slots.specs.Views.{PassView, TableView, Trace}
-use Rattle.vbr_slots.proofs.Lemmas.{adds_on, adds_refl, alone_first, alone_then, loads_on, loads_refl, quiet_adds_none}
-use Rattle.vbr_slots.proofs.Lemmas.{quiet_on, quiet_refl, same_refl}
+use Rattle.vbr_slots.proofs.Lemmas.{adds_on, adds_refl, loads_on, loads_refl, quiet_on, quiet_refl, same_refl}
 use Rattle.vbr_at_table.specs.KeptSlots.{TakesNoSlot}
 use Rattle.vbr_at_table.specs.Moments.{WasEntry}
 use Rattle.vbr_at_table.specs.WithinBudget.{TookWithin}
 use Rattle.vbr_at_table.proofs.Lemmas.{none_on, none_refl}
 use Rattle.vbr_list.specs.Cursors.{HasGiven, HasGivenAll, HasStayedOrMoved, IsAtEnd, IsPastKey, IsToCome, SeesMore}
-use Rattle.vbr_list.specs.Cursors.{StopsShort, costs_over, first_cursor}
+use Rattle.vbr_list.specs.Cursors.{StopsShort, costs_over_among, first_cursor}
+use Rattle.vbr_list.specs.Disturbed.{disturbed_in, enough_among}
 use Rattle.vbr_list.specs.Budgets.{nodes_listed_in}
 use Rattle.vbr_list.specs.Next.{enough_to_seek}
 use Rattle.vbr_list.specs.declared.cursor.Cursor.{Cursor}
 use Rattle.vbr_at_table.specs.declared.refusal.Refusal.{Refusal}
-use Rattle.vbr_list.proofs.Lemmas.{entry_more, entry_since, given_all, given_none, given_on, sees_on}
+use Rattle.vbr_list.proofs.Lemmas.{enough_later, entry_more, entry_since, given_all, given_none, given_on, sees_on}
+use Rattle.vbr_list.proofs.Lemmas.{undisturbed_in}
 use Rattle.vbr_set.specs.Iterating.{AreItemsOf, CallsNextWhere, GoesOnSafe, GoesOver, HasGathered, HasGoneOverEntries}
 use Rattle.vbr_set.specs.Iterating.{HasGoneOverWhere, StandsShort}
 use Rattle.vbr_set.specs.Members.{MemberView, as_member}
@@ -205,23 +206,32 @@ module _ {m n : MemberView} (o : MemberView) {c d : Cursor} {entries : List (ℕ
         given = x.given;
         steps = few_steps budget x.took few;
         stops = stops;
-        short = λ alone. short stops alone;
+        short = λ alone. short_alone alone;
+        disturbed_short = short stops;
       }
     where
       few : length entries + x.refused ≤ length (keys_of entries) + c.bucket
       few = let l = x.later in let e = length-map entries (λ (entry : ℕ × ℕ). entry.0) in omega (arith, l, e)
 
-      short : StopsShort n.pass o.pass c c budget refusal → IsAlone m.pass.trace o.pass.trace →
-          budget < enough_to_seek m.pass.trace c.bucket
-      short stops alone =
-          let first : IsAlone m.pass.trace n.pass.trace = alone_first x.quiet.seen y.iterates.quiet.seen alone in
-          let lacks = stops.short (alone_then x.quiet.same.who x.quiet.seen y.iterates.quiet.seen alone) in
+      short : StopsShort n.pass o.pass c c budget refusal →
+          budget < enough_among (nodes_listed_in m.pass.trace c.bucket)
+          (disturbed_in m.pass.trace o.pass.trace c.bucket)
+      short stops =
           let still : c.bucket - c.bucket ≡ 0 = omega arith in
-          let none : costs_over n.pass.trace c.bucket (c.bucket - c.bucket) ≡ 0 =
-          ap (costs_over n.pass.trace c.bucket) still in
-          let few : nodes_listed_in n.pass.trace c.bucket ≤ nodes_listed_in m.pass.trace c.bucket =
-          quiet_adds_none law.start law.is_run x.quiet first c.bucket c.bucket in
+          let none : costs_over_among n.pass.trace (disturbed_in n.pass.trace o.pass.trace) c.bucket
+          (c.bucket - c.bucket) ≡ 0 =
+          ap (costs_over_among n.pass.trace (disturbed_in n.pass.trace o.pass.trace) c.bucket) still in
+          let lacks = stops.disturbed_short in
+          let few = enough_later law x.quiet y.iterates.quiet c.bucket in
           omega (arith, lacks, none, few)
+
+      short_alone : IsAlone m.pass.trace o.pass.trace → budget < enough_to_seek m.pass.trace c.bucket
+      short_alone alone =
+          let P : Cursor → Type 0 = λ e. StopsShort n.pass o.pass c e budget refusal in
+          let lacks = short (subst P same y.iterates.refused) in
+          let enough = ap (enough_among (nodes_listed_in m.pass.trace c.bucket))
+          (undisturbed_in m.pass.trace o.pass.trace c.bucket alone) in
+          omega (arith, lacks, enough)
 
   -- to the end
   pub gone_over : IsStart m.pass.trace.start → CallsNextWhere n o c d budget (Ok None) →

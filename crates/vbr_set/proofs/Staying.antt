@@ -1,9 +1,6 @@
 -- What an answer left stands on, while its pass makes no call.
-use Rattle.std.proofs.Common.{◌≡◌, List, ◌∷◌, ◌++◌, sym, ap, ◌∙◌, append_assoc}
-use Rattle.vbr_machine.specs.Start.{Start, IsStart}
-use Rattle.vbr_machine.specs.Maps.{IsMapLegal, opening_entries}
-use Rattle.vbr_machine.specs.Runs.{IsRun, world_after}
-use Rattle.vbr_machine.specs.declared.event.Event.{Event}
+use Rattle.std.proofs.Common.{◌≡◌, List, ◌++◌, ap, ◌∙◌, append_assoc}
+use Rattle.vbr_machine.specs.Start.{Start}
 use Rattle.vbr_machine.specs.declared.history.Call.{Call}
 use Rattle.vbr_machine.proofs.Lemmas.{begins_trans, calls_since}
 use Rattle.vbr_slots.specs.Calls.{Quiet}
@@ -13,7 +10,6 @@ use Rattle.vbr_slots.proofs.Lemmas.{same_on}
 use Rattle.vbr_set.specs.Answers.{AnswersAll, Follows}
 use Rattle.vbr_set.specs.Histories.{calls_of}
 use Rattle.vbr_set.specs.Laws.{AnswersStay}
-use Rattle.vbr_set.specs.MapCalls.{MapAnswersAll}
 use Rattle.vbr_set.proofs.Histories.{reads_right}
 use Rattle.vbr_set.proofs.MapHistories.{RunsAreMaps}
 

@@ -25,7 +25,7 @@ use Rattle.vbr_at_table.specs.Advances.{AdvancesWhereNeeded}
 use Rattle.vbr_at_table.specs.StepKinds.{advances, is_advance}
 use Rattle.vbr_at_table.proofs.Lemmas.{did_none}
 use Rattle.vbr_list.specs.Cursors.{SeesMore}
-use Rattle.vbr_list.specs.Disturbed.{disturbed}
+use Rattle.vbr_list.specs.Disturbed.{disturbed, disturbed_in}
 use Rattle.vbr_at_table.specs.declared.refusal.Refusal.{Refusal}
 use Rattle.vbr_list.proofs.Lemmas.{sees_on}
 use Rattle.vbr_set.specs.Answers.{AnswersAll}
@@ -73,7 +73,7 @@ of_passes start passes w (e ∷ events) accepted =
 advance_counted : (step : Step) → IsAdvance step → is_advance step ≡ true
 advance_counted step is = grind arith
 
-run_at : {start other : Start} {passes count : ℕ} (run : List Event) → start ≡ other → passes ≡ count →
+pub run_at : {start other : Start} {passes count : ℕ} (run : List Event) → start ≡ other → passes ≡ count →
     IsRun start passes run → IsRun other count run
 run_at run at_start at_passes is = subst (λ (x : Start × ℕ). IsRun x.0 x.1 run) (λ i. (at_start i, at_passes i)) is
 
@@ -120,16 +120,21 @@ epoch_moves p q inserts stretch = omega (arith, moved, all, each)
 
 -- ---- the laws
 
-disturbed_by : (p q : PassView) (inserts : ℕ → ℕ) (key : ℕ) → PassLaw p → Stretch p.trace q.trace inserts →
-    disturbed p.trace q.trace key ≤ most_disturbed_by inserts p.trace q.trace
-disturbed_by p q inserts key law stretch =
+pub disturbed_in_by : (p q : PassView) (inserts : ℕ → ℕ) (bucket : ℕ) → PassLaw p → Stretch p.trace q.trace inserts →
+    disturbed_in p.trace q.trace bucket ≤ most_disturbed_by inserts p.trace q.trace
+disturbed_in_by p q inserts bucket law stretch =
     let most = disturbances_paid p.trace.start p.trace.passes p.trace.seen q.trace.seen law.start run
-    stretch.sees.begins p.trace.who (bucket_of p.trace.start.shape key) in
+    stretch.sees.begins p.trace.who bucket in
     let by = epoch_moves p.trace q.trace inserts stretch in
     omega (arith, most, by)
   where
     run : IsRun p.trace.start p.trace.passes q.trace.seen
     run = run_at q.trace.seen (stretch.sees.same.start) (stretch.sees.same.passes) stretch.sees.is_run
+
+disturbed_by : (p q : PassView) (inserts : ℕ → ℕ) (key : ℕ) → PassLaw p → Stretch p.trace q.trace inserts →
+    disturbed p.trace q.trace key ≤ most_disturbed_by inserts p.trace q.trace
+disturbed_by p q inserts key law stretch =
+    disturbed_in_by p q inserts (bucket_of p.trace.start.shape key) law stretch
 
 pub stretches_disturb : StretchesDisturb
 stretches_disturb = disturbed_by

@@ -14,6 +14,10 @@ abbrev pub sum_of_balances : List MemberView → ℤ
 sum_of_balances [] = pos 0
 sum_of_balances (m ∷ ms) = balance_of m +ℤ sum_of_balances ms
 
+-- the same as far as 64 bits tell
+abbrev pub added_balances : List MemberView → ℤ
+added_balances members = int_wrap w64 (sum_of_balances members)
+
 -- each pass of the set is that of one of the members
 abbrev pub HasEachOnce : TableView → List MemberView → Type 0
 HasEachOnce set members = (who : ℕ) → who < set.passes → count_by (λ m. m.pass.trace.who == who) members ≡ 1
@@ -23,7 +27,7 @@ abbrev pub AddUpBy : {Item R : Type 0} → KindOf Item R → Type 0
 AddUpBy {Item} {R} kind =
     (members : List MemberView) (report : R) (told : ReportsAllBy (ClosesBy kind) members report) (pass : PassView)
     → PassLaw pass → IsOf pass.trace told.set → HasEachOnce told.set members
-    → int_wrap w64 (sum_of_balances members) ≡ pos (kind.contents report).live
+    → added_balances members ≡ pos (kind.contents report).live
 
 -- so it is of sets and of maps
 pub record BalancesAddUp : Type 0 where

@@ -1,5 +1,5 @@
 -- The balance of a member: how many keys its calls have added, less those that they took out.
-use Rattle.std.specs.Prelude.{ℕ, zero, suc, ℤ, pos, negsuc, ◌+ℤ◌, Bool, true, false, List, [], ◌∷◌, Result, Ok, Err, length, if◌then◌else◌}
+use Rattle.std.specs.Prelude.{ℕ, zero, suc, ℤ, pos, negsuc, ◌+ℤ◌, Bool, true, List, [], ◌∷◌, Result, Ok, Err, length, if◌then◌else◌}
 use Rattle.std.specs.Int.{w64, int_wrap}
 use Rattle.vbr_machine.specs.Start.{Start}
 use Rattle.vbr_machine.specs.declared.history.Call.{Call}

@@ -8,6 +8,8 @@ use Rattle.vbr_at_table.specs.Moments.{WasEntry}
 use Rattle.vbr_at_table.specs.Soundness.{HasSafeRun}
 use Rattle.vbr_at_table.specs.WithinBudget.{TookWithin}
 use Rattle.vbr_list.specs.Cursors.{HasGiven, HasGivenAll, IteratesEntries, IteratesKeys, IteratesWhere, SeesMore, StopsShort}
+use Rattle.vbr_list.specs.Budgets.{nodes_listed_in}
+use Rattle.vbr_list.specs.Disturbed.{disturbed_in, enough_among}
 use Rattle.vbr_list.specs.Next.{enough_to_seek}
 use Rattle.vbr_list.specs.declared.cursor.Cursor.{Cursor}
 use Rattle.vbr_at_table.specs.declared.refusal.Refusal.{Refusal}
@@ -57,7 +59,7 @@ pub record HasCounted (m n : MemberView) (budget count : ℕ) : Type 0 where
   pub over : HasGoneOver m n budget keys
   pub is : count ≡ min (length keys) (2 ^ 64 - 1)
 
--- going over all keys stopped: the keys up to a cursor had been given, with at most so many steps for each of them and for each bucket before it, when a whole call with the budget was refused that brought it no further. So alone the budget was below what is enough in its bucket
+-- going over all keys stopped: the keys up to a cursor had been given, with at most so many steps for each of them and for each bucket before it, when a whole call with the budget was refused that brought it no further. So the budget was below what is enough in its bucket for a pass that is disturbed there as often as this one was since it began; alone, for one that is disturbed never
 pub record StandsShort (m n : MemberView) (budget : ℕ) (refusal : Refusal) : Type 0 where
   pub before : MemberView
   pub cursor : Cursor
@@ -67,6 +69,7 @@ pub record StandsShort (m n : MemberView) (budget : ℕ) (refusal : Refusal) : T
   pub steps : TookWithin m.pass.trace before.pass.trace (budget * (length keys + cursor.bucket))
   pub stops : StopsShort before.pass n.pass cursor cursor budget refusal
   pub short : IsAlone m.pass.trace n.pass.trace → budget < enough_to_seek m.pass.trace cursor.bucket
+  pub disturbed_short : budget < enough_among (nodes_listed_in m.pass.trace cursor.bucket) (disturbed_in m.pass.trace n.pass.trace cursor.bucket)
 
 -- why nothing was gathered of all keys: it stopped so, or there was no memory, where that may be
 abbrev pub GathersNone : Type 0 → MemberView → MemberView → ℕ → ListError → Type 0

@@ -24,8 +24,15 @@ pub mod Ends
 pub mod Room
 pub mod Laws
 pub mod Stretches
+pub mod Progressing
+pub mod Winning
+pub mod Callers
+pub mod LeftMarked
+pub mod WalkProgress
 pub mod AllMembers
-pub mod RenewingAll
 pub mod BalanceSums
+pub mod RenewingAll
+pub mod RenewalRoom
 pub mod Apart
 pub mod Names
+pub mod RecordCalls

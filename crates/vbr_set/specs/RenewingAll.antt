@@ -1,7 +1,8 @@
 -- How a set or a map is renewed by all its members.
-use Rattle.std.specs.Prelude.{◌≡◌, ◌≢◌, ◌<◌, List, [], ◌∷◌, length}
+use Rattle.std.specs.Prelude.{◌≡◌, ◌≢◌, ◌<◌, ◌≤◌, ◌⊎◌, ℕ, pos, ◌<ℤ◌, ◌≤ℤ◌, List, [], ◌∷◌, length}
 use Rattle.vbr_words.specs.Dimensions.{Dimensions}
 use Rattle.vbr_set.specs.AllMembers.{ReportsAllBy}
+use Rattle.vbr_set.specs.BalanceSums.{added_balances}
 use Rattle.vbr_set.specs.Closing.{ClosesBy}
 use Rattle.vbr_set.specs.Kinds.{KindOf}
 use Rattle.vbr_set.specs.Members.{AreNew, MemberView}
@@ -20,14 +21,28 @@ module _ {Item R : Type 0} (kind : KindOf Item R) where
     pub reports : ReportsAllBy (ClosesBy kind) members report
     pub new : AreNew (kind.start shape (kind.contents report).listed.items) (length members) fresh
 
-  -- a report tells more of all members than a shape has slots
-  pub record HasNoRoom (members : List MemberView) (shape : Dimensions) : Type 0 where
+  -- a report tells more of all members than there would be slots
+  pub record TellsMore (members : List MemberView) (slots : ℕ) : Type 0 where
     pub report : R
     pub reports : ReportsAllBy (ClosesBy kind) members report
-    pub more : shape.slots < length (kind.contents report).listed.items
+    pub more : slots < length (kind.contents report).listed.items
 
-  -- why members are not renewed, which come back as they were: they are not all of the set, or the fresh one has too few slots, or there is no memory
+  -- a report tells of them no more than there would be slots
+  pub record TellsFew (members : List MemberView) (slots : ℕ) : Type 0 where
+    pub report : R
+    pub reports : ReportsAllBy (ClosesBy kind) members report
+    pub few : length (kind.contents report).listed.items ≤ slots
+
+  -- there is no room in so many slots: a report tells more of all members, or their balances add up to more
+  abbrev pub HasNoRoom : List MemberView → ℕ → Type 0
+  HasNoRoom members slots = TellsMore members slots ⊎ (pos slots <ℤ added_balances members)
+
+  -- there is room: a report tells no more, or the balances add up to no more
+  abbrev pub HasRoom : List MemberView → ℕ → Type 0
+  HasRoom members slots = TellsFew members slots ⊎ (added_balances members ≤ℤ pos slots)
+
+  -- why members are not renewed, which come back as they were, by the first test that failed: they are not all of the set, or the fresh one has too few slots, or there is no memory
   abbrev pub IsWhyUnrenewed : List MemberView → Dimensions → RenewAllError MemberView → Type 0
   IsWhyUnrenewed members shape (Missing back) = (back.items ≡ members) × AreNotAll members
-  IsWhyUnrenewed members shape (Room back) = (back.items ≡ members) × HasNoRoom members shape
-  IsWhyUnrenewed members shape (Memory back) = (back.items ≡ members) × ¬ (AreNotAll members)
+  IsWhyUnrenewed members shape (Room back) = (back.items ≡ members) × ¬ (AreNotAll members) × HasNoRoom members shape.slots
+  IsWhyUnrenewed members shape (Memory back) = (back.items ≡ members) × ¬ (AreNotAll members) × HasRoom members shape.slots

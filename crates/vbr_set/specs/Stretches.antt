@@ -52,7 +52,7 @@ pub record PassesComeByCalls : Type 0 where
 
 -- ---- what all passes did
 
--- a pass of this number began so many inserts in a stretch: after one of its calls it had seen no more than the beginning of the stretch, and after another all of it; it came from there to here by calls of which so many were inserts
+-- a pass of this number began so many inserts round a stretch: after one of its calls it had seen no more than the beginning of the stretch, and after another all of it; it came from there to here by calls of which so many were inserts
 pub record BeganIn (p q : Trace) (who inserts : ℕ) : Type 0 where
   pub from : PassView
   pub to : PassView
@@ -62,7 +62,7 @@ pub record BeganIn (p q : Trace) (who inserts : ℕ) : Type 0 where
   pub later : Begins q.seen to.trace.seen
   pub came : CameBy inserts from to
 
--- each pass of the set began so many inserts in the stretch from what one had seen first to what it has seen then
+-- each pass of the set began so many inserts round the stretch from what one had seen first to what it has seen then
 pub record Stretch (p q : Trace) (inserts : ℕ → ℕ) : Type 0 where
   pub sees : SeesMore p q
   pub each : (who : ℕ) → who < q.passes → BeganIn p q who (inserts who)

@@ -1,6 +1,8 @@
 //! The laws of tokens, and of progress. Each function says its law in its contract, and does nothing.
 ghost use Rattle.vbr_set.specs.BalanceSums.{BalancesAddUp};
+ghost use Rattle.vbr_set.specs.RenewalRoom.{RoomIsTold};
 ghost use Rattle.vbr_set.specs.Laws.{AnswersStay, CallsStayInOrder, InsertsMakeProgress, LookUpsMakeProgress, MapsMakeProgress, RemovesMakeProgress, TokensHandOn};
+ghost use Rattle.vbr_set.specs.WalkProgress.{WalksMakeProgress};
 
 use vbr_machine::laws::a_run_is_a_map;
 
@@ -53,8 +55,23 @@ pub fn maps_make_progress()
     ensures { MapsMakeProgress }
 {}
 
+/// A law: so it is of a call of a walk. Its budget was below what the buckets cost that its cursor has gone
+/// over, each (m + 1) * (5 * (n + m) + 3) with its own n, or (m + 1) * (5 * (n + m) + 5) in a map, and
+/// (m + 1) * (5 * (n + m) + 11) for the one where it then stands. In a stretch of a run m is as the laws of
+/// stretches have it.
+pub fn walks_make_progress()
+    ensures { WalksMakeProgress }
+{}
+
 /// A law: while the members of a set or of a map stand still, the balances of all of them, each once, add up
 /// to how many keys it has.
 pub fn balances_add_up()
     ensures { BalancesAddUp }
+{}
+
+/// A law: where the members of a set or of a map, each once, get a report, it tells whether a renewal has room.
+/// So a renewal that is refused for want of room is one of more keys than slots, and one that is refused memory
+/// isn't.
+pub fn room_is_told()
+    ensures { RoomIsTold }
 {}

@@ -42,8 +42,10 @@ pub mod contents;
 pub mod end_error;
 pub mod kind;
 pub mod laws;
+pub mod left_marked;
 pub mod list_error;
 pub mod member;
+pub mod progressing;
 pub mod renew_all_error;
 pub mod renew_error;
 pub mod report;
@@ -61,7 +63,7 @@ pub use renew_all_error::RenewAllError;
 pub use renew_error::RenewError;
 pub use report::{MapReport, Report};
 pub use set_ref::VbrSetRef;
-pub use vbr_list::{Cursor, Refusal, Wanted};
+pub use vbr_list::{Cursor, Entry, Refusal, StillInHand, Wanted};
 pub use vbr_machine::{Call, Op};
 pub use vbr_slots::{
     CloseError, MAX_MANY_PASSES, MAX_PASSES, OpenError, OpenManyError, Pass, Seen,

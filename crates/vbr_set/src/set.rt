@@ -8,6 +8,7 @@ pub mod iterating;
 pub mod map_calls;
 pub mod meeting;
 pub mod opening;
+pub mod record_calls;
 pub mod renewing;
 pub mod reporting;
 pub mod reserving;

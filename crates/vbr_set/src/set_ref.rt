@@ -4,6 +4,7 @@ pub mod calls;
 pub mod giving_slots_back;
 pub mod iterating;
 pub mod map_calls;
+pub mod record_calls;
 pub mod reserving;
 
 ghost use Rattle.std.specs.Prelude.{◌≡◌};

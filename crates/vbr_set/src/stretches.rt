@@ -9,11 +9,11 @@ pub fn passes_come_by_calls()
     ensures { PassesComeByCalls }
 {}
 
-/// A law: let each pass of the set have begun so many inserts in a stretch of a run, which begins no
-/// earlier than one of its calls has ended, and ends no later than another has. Then a pass is disturbed
-/// in the stretch at most once for each of these inserts, twice for each update that was answered yes
-/// in it, and once for each node that was marked when it began. So where no update is answered yes, it
-/// is disturbed no more often than inserts were begun and nodes were marked.
+/// A law of a stretch of a run. Let each pass of the set have begun so many inserts between the ends of
+/// two of its calls, of which the first comes no later than the beginning of the stretch, and the second no
+/// earlier than its end. Then a pass is disturbed in the stretch at most once for each of these inserts,
+/// twice for each update that was answered yes in it, and once for each node that was marked when it began.
+/// So where no update is answered yes, it is disturbed no more often than there are such inserts and nodes.
 pub fn stretches_disturb()
     ensures { StretchesDisturb }
 {}

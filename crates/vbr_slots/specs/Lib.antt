@@ -4,6 +4,7 @@ pub mod Rule
 pub mod Running
 pub mod Views
 pub mod Pools
+pub mod Forsaking
 pub mod PoolView
 pub mod RunnerView
 pub mod Tried

@@ -3,6 +3,7 @@ ghost use Rattle.std.specs.Fn.{FnOnceTakesAtMut};
 ghost use Rattle.std.specs.Prelude.{◌≡◌, ◌<◌, ◌≤◌, ◌⊎◌, [], ◌∷◌, ◌+◌, ◌++◌, length, Some, Contains};
 ghost use Rattle.vbr_machine.specs.Acceptance.{IsFree};
 ghost use Rattle.vbr_machine.specs.Runs.{IsRun};
+ghost use Rattle.vbr_slots.specs.Forsaking.{Forsakes};
 ghost use Rattle.vbr_slots.specs.Lending.{Lends, LendsWith, TakesWith, TellsSteps, TellsStepsWith};
 ghost use Rattle.vbr_slots.specs.PassLaw.{PassLaw};
 ghost use Rattle.vbr_slots.specs.Pools.{OwnPool, hand_without};
@@ -104,6 +105,15 @@ impl Pass {
         ensures hand { self.new.hand ≡ hand_without slot self.old.hand }
     {
         put(&mut self.stepper.pool, &mut self.stepper.hand, slot);
+    }
+
+    /// Gives up the slots of its own pool and the one in its hand, for good: they stay its own, and nobody has them
+    /// any more while the table is open. It is no step, and the pass knows what it knew. It is for a pass whose
+    /// caller ended in the middle of a call: whatever it had made, it goes on from there.
+    pub fn forsake_slots(&mut self)
+        ensures { Forsakes self.old self.new }
+    {
+        self.stepper.forsake_slots();
     }
 
     /// Lends what makes its steps, and then counts once how many the work tells that it made: its result

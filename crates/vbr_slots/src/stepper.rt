@@ -1,6 +1,7 @@
 //! What makes the steps of a pass: all that it has but the count of its steps.
 ghost use Rattle.std.specs.List.{position_from};
 ghost use Rattle.std.specs.Prelude.{◌≡◌, ◌==◌, ◌<◌, [], ◌∷◌, ◌++◌, length};
+ghost use Rattle.vbr_slots.specs.Forsaking.{Forsakes};
 ghost use Rattle.vbr_slots.specs.PassLaw.{PassLaw};
 ghost use Rattle.vbr_slots.specs.Pools.{hand_without, without};
 
@@ -40,6 +41,14 @@ impl Stepper {
     {
         let _who = self.runner.who;
         self.pool.law();
+    }
+
+    // Gives up the slots of its own pool and its hand.
+    pub(crate) fn forsake_slots(&mut self)
+        ensures { Forsakes self.old self.new }
+    {
+        self.pool = Pool::new();
+        self.hand = None;
     }
 
     // Takes a slot out of its own pool, if it is there.

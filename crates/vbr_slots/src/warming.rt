@@ -1,4 +1,6 @@
 //! Loads that are no steps: they bring words into the cache before a pass reads them.
+ghost use Rattle.std.specs.Prelude.{◌≡◌, ◌+◌, ◌-◌, ◌*◌, ◌^◌, ◌<◌, ◌≤◌, length, min};
+ghost use Rattle.vbr_words.specs.Places.{IsIn};
 
 use crate::slots::Slots;
 use vbr_words::{Nodes, Place, decode, place_index_in};
@@ -14,42 +16,54 @@ impl<N: Nodes> Slots<N> {
     /// each key's bucket, then the node that it names, and then the one that this names. None of these loads
     /// waits for that of another key, so the memory serves them side by side. In a small table it does nothing.
     ///
-    /// They are loads without a seat, so they are no steps, no pass learns of them, and what they find is used
-    /// for nothing else: a link says which slot is loaded next, where it is one of the table.
-    pub fn warm(&self, keys: &[u64]) {
+    /// It tells how many loads it made: none in a table of fewer than 16,384 slots, and else one for each of these
+    /// keys, and up to four more. They are loads without a seat, so they are no steps, no pass learns of them, and
+    /// what they find is used for nothing else: a link says which slot is loaded next, where it is one of the table.
+    pub fn warm(&self, keys: &[u64]) -> u32
+        ensures small { self.now.start.shape.slots < LARGE → result ≡ 0 }
+        ensures heads { LARGE ≤ self.now.start.shape.slots → min (length keys.now) BATCH ≤ result }
+        ensures most { result ≤ 5 * min (length keys.now) BATCH }
+    {
         if self.opening.shape.slots() < LARGE {
-            return;
+            return 0;
         }
         let count = keys.len().min(BATCH);
+        let mut loads = 0;
         let mut links = [0; BATCH];
-        for i in 0..count {
-            links[i] = self.peek_head(keys[i]);
+        'heads: for i in 0..count {
+            links[i] = self.peek_head(keys[i], &mut loads);
         }
-        for i in 0..count {
-            links[i] = self.peek_node(links[i]);
+        'nodes: for i in 0..count {
+            links[i] = self.peek_node(links[i], &mut loads);
         }
-        for i in 0..count {
-            self.peek_node(links[i]);
+        'next: for i in 0..count {
+            self.peek_node(links[i], &mut loads);
         }
+        loads
     }
 
     // Loads the head of the bucket of a key.
     #[inline(always)]
-    fn peek_head(&self, key: u64) -> u64 {
-        let shape = &self.opening.shape;
-        let place = Place::Head(shape.bucket_of(key));
-        self.table.shared.peek(place_index_in::<N>(shape, place))
+    fn peek_head(&self, key: u64, loads: &mut u32) -> u64
+        requires { loads.old < 2 ^ 16 }
+        ensures { loads.new ≡ loads.old + 1 }
+    {
+        let place = Place::Head(self.opening.shape.bucket_of(key));
+        self.peek(place, loads)
     }
 
     // Loads the last and the first word of the node that a link word names, and so all lines that it lies on.
     // The first is its link, which is returned; where there is no node, what was given.
     #[inline(always)]
-    fn peek_node(&self, word: u64) -> u64 {
-        let shape = &self.opening.shape;
+    fn peek_node(&self, word: u64, loads: &mut u32) -> u64
+        requires { loads.old < 2 ^ 16 }
+        ensures counted { loads.old ≤ loads.new }
+        ensures most { loads.new ≤ loads.old + 2 }
+    {
         let Some(slot) = decode(word).slot else {
             return word;
         };
-        if slot >= shape.slots() {
+        if slot >= self.opening.shape.slots() {
             return word;
         }
         let last = if N::VALUES {
@@ -57,9 +71,20 @@ impl<N: Nodes> Slots<N> {
         } else {
             Place::Key(slot)
         };
-        self.table.shared.peek(place_index_in::<N>(shape, last));
+        self.peek(last, loads);
+        self.peek(Place::LinkOf(slot), loads)
+    }
+
+    // The load of a word without a seat, which is counted: all loads here go through it.
+    #[inline(always)]
+    fn peek(&self, place: Place, loads: &mut u32) -> u64
+        requires place { IsIn self.now.start.shape place }
+        requires few { loads.old < 2 ^ 32 - 1 }
+        ensures { loads.new ≡ loads.old + 1 }
+    {
+        *loads += 1;
         self.table
             .shared
-            .peek(place_index_in::<N>(shape, Place::LinkOf(slot)))
+            .peek(place_index_in::<N>(&self.opening.shape, place))
     }
 }

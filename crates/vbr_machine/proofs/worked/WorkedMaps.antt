@@ -1,7 +1,7 @@
 -- A worked run of a table that keeps values, computed.
 -- An insert stores a value, and a get and a remove give it.
 -- Steps that lack a value are refused, and so are steps for a value in a table that keeps none.
-use Rattle.std.proofs.Common.{◌≡◌, true, false, List, [], ◌∷◌, ◌++◌, Some, None, refl, rules, tests}
+use Rattle.std.proofs.Common.{◌≡◌, true, List, [], ◌∷◌, ◌++◌, Some, None, refl, rules, tests}
 use Rattle.vbr_machine.specs.Start.{Start, empty_start}
 use Rattle.vbr_words.specs.Flags.{has_flag, first_bits, flag_word}
 use Rattle.vbr_words.specs.Words.{word_of, link_of}

@@ -15,8 +15,9 @@ use vbr_words::{Nodes, Shape};
 
 impl Member {
     /// Adds a key, in at most `budget` steps, and says whether it was absent: [`VbrSet::insert`] by
-    /// its pass, which has the source. While the other members stand still, 18n + slots + 82 steps are
-    /// enough, with n nodes in the key's bucket, and an answer takes at most 18n + slots + 77.
+    /// its pass, which has the source. While the other members stand still, 18n + 82 steps are enough, or
+    /// 18n + w + 20 if that is more, with n nodes in the key's bucket and w = slots / 64, rounded up. Then an
+    /// answer takes at most 18n + 77, or 18n + w + 15.
     ///
     /// # Errors
     ///

@@ -1,5 +1,6 @@
 //! Giving the slots of a member back.
 ghost use Rattle.std.specs.Prelude.{◌≡◌};
+ghost use Rattle.vbr_slots.specs.Forsaking.{Forsakes};
 ghost use Rattle.vbr_at_table.specs.GivingSlotsBack.{GivesSlotsBack};
 
 use crate::member::Member;
@@ -23,5 +24,15 @@ impl<N: Nodes> Member<N> {
         ensures gives { GivesSlotsBack self.old.pass self.new.pass result }
     {
         self.share.set().give_slots_back(&mut self.pass)
+    }
+
+    /// Gives up the slots that the member keeps to itself, for good: nobody has them any more until its set is closed
+    /// or renewed. It makes no step. It is for a member whose caller ended in the middle of a call, and so may not have
+    /// written what it has ([`Pass::forsake_slots`]).
+    pub fn forsake_slots(&mut self)
+        ensures set { self.new.set ≡ self.old.set }
+        ensures forsakes { Forsakes self.old.pass self.new.pass }
+    {
+        self.pass.forsake_slots();
     }
 }

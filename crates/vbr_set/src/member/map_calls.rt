@@ -9,7 +9,8 @@ use vbr_words::Entries;
 impl Member<Entries> {
     /// Adds a key with its value, in at most `budget` steps, and says whether the key was absent:
     /// [`VbrMap::insert`] by its pass. Where it was present, its value stays. While the other members
-    /// stand still, 18n + slots + 82 steps are enough, with n nodes in the key's bucket.
+    /// stand still, 18n + 82 steps are enough, or 18n + w + 20 if that is more, with n nodes in the key's
+    /// bucket and w = slots / 64, rounded up.
     ///
     /// # Errors
     ///

@@ -1,6 +1,7 @@
 //! Renewing a set or a map by all its members.
-ghost use Rattle.std.specs.Prelude.{◌≡◌, None, length, IfErr, IfOk, IfSome};
+ghost use Rattle.std.specs.Prelude.{◌≡◌, None, length, IfErr, IfOk, IfSome, OnOk};
 ghost use Rattle.vbr_set.specs.AllMembers.{AreOfOneSet};
+ghost use Rattle.vbr_set.specs.BalanceSums.{added_balances};
 ghost use Rattle.vbr_set.specs.RenewingAll.{AreNotAll, IsWhyUnrenewed, RenewsAllBy};
 
 use crate::close_all_error::CloseAllError;
@@ -25,8 +26,9 @@ impl<N: Kind> Member<N> {
     /// They are tested in this order, and the members come back as they were.
     ///
     /// - Missing: there are not as many members as were opened with the set.
-    /// - Room: there are more keys than slots of this shape. It is tested once there is a report.
-    /// - Memory: there is no room for the report or for the fresh set.
+    /// - Room: there are more keys than slots of this shape. The report tells how many there are, and where there
+    ///   is no memory for one, the members' balances, added up.
+    /// - Memory: there are no more keys than slots, and no memory for the report or for the fresh set.
     ///
     /// # Example
     ///
@@ -41,6 +43,7 @@ impl<N: Kind> Member<N> {
         requires { AreOfOneSet members.items }
         ensures renewed { IfOk result
             (λ fresh. RenewsAllBy N.kind members.items shape fresh.items) }
+        ensures all { OnOk result (¬ (AreNotAll members.items)) }
         ensures not { IfErr result (IsWhyUnrenewed N.kind members.items shape) }
     {
         let Some(passes) = count_if_all(&members) else {
@@ -49,7 +52,7 @@ impl<N: Kind> Member<N> {
         let (report, members) = match Member::<N>::report_all(alloc, members) {
             Ok(told) => told,
             Err(CloseAllError::Missing(members)) => return Err(RenewAllError::Missing(members)),
-            Err(CloseAllError::Memory(members)) => return Err(RenewAllError::Memory(members)),
+            Err(CloseAllError::Memory(members)) => return Err(without_report(members, shape)),
         };
         let items = N::items(&report);
         if items.len() > shape.slots() as usize {
@@ -60,6 +63,29 @@ impl<N: Kind> Member<N> {
             Err(_) => Err(RenewAllError::Memory(members)),
         }
     }
+}
+
+// What is answered where there is no memory for a report: whether there is room is then what the balances tell.
+fn without_report<N: Kind>(members: Vec<Member<N>>, shape: Shape) -> RenewAllError<Member<N>>
+    requires { ¬ (AreNotAll members.items) }
+    ensures { IsWhyUnrenewed N.kind members.items shape result }
+{
+    if added_balances(&members) > i64::from(shape.slots()) {
+        RenewAllError::Room(members)
+    } else {
+        RenewAllError::Memory(members)
+    }
+}
+
+// The balances of members, added up.
+fn added_balances<N: Nodes>(members: &[Member<N>]) -> i64
+    ensures { result ≡ added_balances members.now }
+{
+    let mut sum = 0i64;
+    for i in (0..members.len()).rev() {
+        sum = sum.wrapping_add(members[i].balance());
+    }
+    sum
 }
 
 // How many members there are, where they are as many as were opened with their set.

@@ -14,12 +14,13 @@ impl VbrSet {
     /// one step of the call: the exchange that links the new node (Michael 2002), or a load that finds
     /// the link of the key's node as it was read.
     ///
-    /// While the other passes stand still, a budget of 18n + slots + 82 is enough, with n nodes in the
-    /// key's bucket, and what is answered took at most 18n + slots + 77 steps. With a slot in the pass's
-    /// own pool and 18n + 82 steps the call is then answered, unless the epoch is spent, and took at most
-    /// 18n + 77. It advances the epoch at most once, and only where no slot that it
-    /// could take is stamped below it (Sheffi, Herlihy and Petrank 2021). Whatever it unlinked is
-    /// retired when it ends, answered or not, into the pass's own pool while that has room.
+    /// While the other passes stand still, a budget of 18n + 82 is enough, or of 18n + w + 20 if that is
+    /// more, with n nodes in the key's bucket and w = slots / 64, rounded up. What is answered then took at
+    /// most 18n + 77 steps, or 18n + w + 15. With a slot in the pass's own pool and 18n + 82 steps the call
+    /// is answered, unless the epoch is spent, and took at most 18n + 77. It advances the epoch at most once,
+    /// and only where no slot that it could take is stamped below it (Sheffi, Herlihy and Petrank 2021).
+    /// Whatever it unlinked is retired when it ends, answered or not, into the pass's own pool while that
+    /// has room.
     ///
     /// # Errors
     ///

@@ -86,12 +86,15 @@ impl<N: Nodes> VbrSet<N> {
     ///
     /// It makes no call of the set, and only loads words. While the other passes stand still it makes at most
     /// 5n + 3 steps for each bucket that it goes through, with n nodes there, and at most 5n + 5 in a map.
+    /// Where others disturb it m times at a bucket, it makes at most (m + 1)(5(n + m) + 3) there, and at most
+    /// (m + 1)(5(n + m) + 5) in a map.
     ///
     /// # Errors
     ///
     /// - OutOfSteps: the steps that were made leave less than eight of the budget. The cursor keeps how far
-    ///   it has come. While the other passes stand still, a budget of 5n + 11, with n nodes in its bucket, is
-    ///   enough to give a key or to come to the next bucket.
+    ///   it has come: they were made in the buckets that it has gone over and the one where it stands. While
+    ///   the other passes stand still, a budget of 5n + 11, with n nodes in its bucket, is enough to give a
+    ///   key or to come to the next bucket; where they disturb it m times there, (m + 1)(5(n + m) + 11) is.
     #[inline]
     pub fn next_key(
         &self,
@@ -138,7 +141,7 @@ impl<N: Nodes> VbrSet<N> {
     ///
     /// - Refused: a whole call was refused for want of steps, and brought the cursor no further. While the
     ///   other passes stand still, that comes only where `budget` is below 5n + 11, with n nodes in the
-    ///   bucket where it stood.
+    ///   bucket where it stood; where they disturb the pass m times there, below (m + 1)(5(n + m) + 11).
     /// - Memory: there is no memory for the keys.
     pub fn keys_now(
         &self,

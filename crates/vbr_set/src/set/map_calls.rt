@@ -126,9 +126,9 @@ impl VbrSet<Entries> {
     /// the budget, and its slot is back, in the pass's own pool while that has room.
     ///
     /// The budgets that are enough are those of [`VbrMap::insert`], and two steps more for
-    /// [`Wanted::Value`]: while the other passes stand still, 18n + slots + 82, with n nodes in the key's
-    /// bucket, and 18n + 82 with a slot in the pass's own pool, unless the epoch is spent. What is answered
-    /// took at most six steps more than is enough, and with eight more a node that was replaced has left
+    /// [`Wanted::Value`]: while the other passes stand still, 18n + 82, or 18n + w + 20 if that is more, with
+    /// n nodes in the key's bucket and w = slots / 64, rounded up; and 18n + 82 with a slot in the pass's own
+    /// pool, unless the epoch is spent. What is answered took at most six steps more than is enough, and with eight more a node that was replaced has left
     /// its list.
     ///
     /// # Errors

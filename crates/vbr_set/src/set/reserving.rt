@@ -10,9 +10,9 @@ use vbr_words::Nodes;
 
 impl<N: Nodes> VbrSet<N> {
     /// Takes slots out of the shared pool until the pass's own pool has `wanted`, or 63 if that is less, and
-    /// returns how many it took: fewer only where it finds no more on a way once round the slots. It makes a step for
-    /// each slot, for each 64 slots that it passes, and for each slot that others take before it. It makes no
-    /// call, changes no list and can't fail.
+    /// returns how many it took: fewer only where it finds no more on a way once round the slots. It makes at most
+    /// one step for each slot that it took, one for each 64 slots of the set, and one for each slot that others
+    /// took out of the shared pool meanwhile. It makes no call, changes no list and can't fail.
     ///
     /// An insert advances the epoch where each slot of the own pool was retired at the epoch that is. So a pass
     /// with r slots in reserve that takes a key out before each that it puts in advances it once in about

@@ -33,8 +33,9 @@ impl<N: Nodes> VbrSet<N> {
 
 impl<'s> VbrSetRef<'s> {
     /// Adds a key, in at most `budget` steps, and says whether it was absent: [`VbrSet::insert`],
-    /// which has the source. While the other passes stand still, 18n + slots + 82 steps are enough, with
-    /// n nodes in the key's bucket, and an answer takes at most 18n + slots + 77.
+    /// which has the source. While the other passes stand still, 18n + 82 steps are enough, or 18n + w + 20
+    /// if that is more, with n nodes in the key's bucket and w = slots / 64, rounded up. Then an answer takes
+    /// at most 18n + 77, or 18n + w + 15.
     ///
     /// # Errors
     ///

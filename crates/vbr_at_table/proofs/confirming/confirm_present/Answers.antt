@@ -6,6 +6,7 @@ use Rattle.vbr_slots.specs.Views.{knows}
 use Rattle.vbr_at_table.specs.Values.{AnswersEntry, ValueAt}
 use Rattle.vbr_at_table.proofs.Accepted.{accepted_checked, present_accepted}
 use Rattle.vbr_at_table.proofs.AnsweringLoads.{present_answered, present_finds, present_keeps}
+use Rattle.vbr_at_table.proofs.Records.{confirmed_entry}
 use Rattle.vbr_at_table.proofs.confirming.confirm_present.Given as given
 use Rattle.vbr_at_table.proofs.confirming.confirm_present.Goals as goal
 
@@ -41,6 +42,11 @@ answered g c = record {
 
 pub returns-in-Ok-clause-answers : goal.returns-in-Ok-clause-answers
 returns-in-Ok-clause-answers g c = answered g c
+
+pub returns-in-Ok-clause-there : goal.returns-in-Ok-clause-there
+returns-in-Ok-clause-there g c =
+    confirmed_entry c.args.held.now c.in-Slot.slot c.law.ensures.start c.in-Slot.is c.requires.node.held
+    c.requires.node.unmarked c.in-Ok.ensures.found.did
 
 pub returns-in-Err-clause-lost : goal.returns-in-Err-clause-lost
 returns-in-Err-clause-lost g c =

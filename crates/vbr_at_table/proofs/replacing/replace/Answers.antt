@@ -10,6 +10,8 @@ use Rattle.vbr_at_table.proofs.Filled.{filled_there, fits_there, in_hand_there, 
 use Rattle.vbr_at_table.proofs.Replacements.{replace_accepted, replace_lost, replace_lost_keeps}
 use Rattle.vbr_at_table.proofs.Replacements.{replace_stores, replace_told, replace_writes, key_on, value_on}
 use Rattle.vbr_at_table.proofs.Storing.{stores_lost}
+use Rattle.vbr_at_table.specs.Records.{PublishesSlot}
+use Rattle.vbr_at_table.proofs.Records.{replaced_slot}
 use Rattle.vbr_at_table.proofs.replacing.replace.Goals as goal
 
 pub marked_link_to-word-requires : goal.marked_link_to-word-requires
@@ -77,6 +79,15 @@ returns-in-Ok-clause-replaced g c =
     (c.marked_link_to-word.ensures.link
     ∙ ap (λ (b : ℕ). marked (link_to (Some c.slot-new.result) c.args.held.now.birth b)) c.birth.ensures)
     c.in-Ok.ensures.found.did (search rules)
+
+pub returns-in-Ok-clause-published : goal.returns-in-Ok-clause-published
+returns-in-Ok-clause-published g c =
+    let P : ℕ → Type 0 =
+    λ s. PublishesSlot c.args.at.now.stepper.now.trace c.replace.new.self.stepper.now.trace s c.args.hand.birth
+    c.args.key in
+    subst P c.slot-new.ensures
+    (replaced_slot c.law.ensures.start c.fill.ensures.fills.fills.quiet
+    (filled_there c.fill.ensures.fills c.slot-new.ensures) c.in-Ok.ensures.found.did)
 
 pub returns-in-Err-clause-stores : goal.returns-in-Err-clause-stores
 returns-in-Err-clause-stores g c =

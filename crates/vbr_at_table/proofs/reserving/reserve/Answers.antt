@@ -10,5 +10,5 @@ returns-clause-reserves g c =
     let low = c.last_tried.ensures.low in
     let first = c.reserve_from-first.ensures.reserves in
     let second = c.reserve_from-second.ensures.reserves in
-    reserves_round slots c.most_kept-most.ensures (omega (arith, slots, low)) first second
+    reserves_round slots c.most_kept-most.ensures (omega (arith, slots, low)) (omega arith) first second
     (grown_by first.takes second.takes _ _ c.pool-before.ensures.pool c.pool.ensures.pool)

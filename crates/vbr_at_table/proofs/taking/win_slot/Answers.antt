@@ -18,8 +18,8 @@ is_none g c =
 
 pub returns-in-Ok-clause-probes : goal.returns-in-Ok-clause-probes
 returns-in-Ok-clause-probes g c =
-    win_probes c.loop-slot.invariant.1 c.in-Ok.ensures.taken.did c.in-Ok.ensures.taken.there c.in-Ok.ensures.taken.keeps
-    c.keep.ensures.trace c.keep.ensures.pool c.keep.ensures.hand
+    win_probes c.loop-slot.invariant.1 c.requires.empty_hand c.in-Ok.ensures.taken.did c.in-Ok.ensures.taken.there
+    c.in-Ok.ensures.taken.keeps c.keep.ensures.trace c.keep.ensures.pool c.keep.ensures.hand
 
 pub returns-in-Ok-clause-won : goal.returns-in-Ok-clause-won
 returns-in-Ok-clause-won g c =

@@ -1,4 +1,4 @@
-use Rattle.std.proofs.Common.{Some, sym, ap, ◌∙◌, subst, refl, rules}
+use Rattle.std.proofs.Common.{ℕ, Some, sym, ap, ◌∙◌, subst, refl, rules}
 use Rattle.vbr_machine.specs.Start.{Start}
 use Rattle.vbr_words.specs.Words.{link_of}
 use Rattle.vbr_machine.specs.Acceptance.{IsAtIn}
@@ -12,6 +12,8 @@ use Rattle.vbr_at_table.proofs.Filled.{publish_writes, valued_there}
 use Rattle.vbr_at_table.proofs.KeptSlots.{publish_stores}
 use Rattle.vbr_at_table.proofs.ExchangeCalls.{entry_told, publish_lost}
 use Rattle.vbr_at_table.proofs.Storing.{stores_lost}
+use Rattle.vbr_at_table.proofs.Records.{published_slot}
+use Rattle.vbr_at_table.specs.Records.{PublishesSlot}
 use Rattle.vbr_at_table.proofs.updating.update.Goals as goal
 
 pub link_to-new-requires : goal.link_to-new-requires
@@ -70,6 +72,15 @@ returns-in-Ok-clause-inserted g c =
     c.in-Ok.ensures.found.did in
     entry_told c.args.key c.args.value c.args.at.now.stepper.now p c.publish.new.self.stepper.now
     c.fill.ensures.fills.fills.quiet made (search rules)
+
+pub returns-in-Ok-clause-published : goal.returns-in-Ok-clause-published
+returns-in-Ok-clause-published g c =
+    let P : ℕ → Type 0 =
+    λ s. PublishesSlot c.args.at.now.stepper.now.trace c.publish.new.self.stepper.now.trace s c.args.hand.birth
+    c.args.key in
+    subst P c.slot-slot.ensures
+    (published_slot c.law.ensures.start c.fill.ensures.fills.fills.quiet
+    (filled_there c.fill.ensures.fills c.slot-slot.ensures) c.in-Ok.ensures.found.did)
 
 pub returns-in-Err-clause-lost : goal.returns-in-Err-clause-lost
 returns-in-Err-clause-lost g c = record {

@@ -12,7 +12,6 @@ use Rattle.vbr_list.proofs.Inserts.{LinksNone, insert_linked, insert_unlinked, l
 use Rattle.vbr_list.proofs.Linking.{counts_until, denied_then, gap_found, had_denied, has_denied, has_until, had_tired}
 use Rattle.vbr_list.proofs.Linking.{links_tired, made_denied, takes_back, had_until, links_then, lost_then, quiet_until}
 use Rattle.vbr_list.proofs.Linking.{succ_found, takes_on}
-use Rattle.vbr_list.proofs.LonePasses.{alone}
 use Rattle.vbr_list.proofs.LostWalks.{search_ends}
 use Rattle.vbr_list.proofs.Preparing.{if_failed, refused_first, within_all, within_most, within_same}
 use Rattle.vbr_list.proofs.Stores.{hand_kept}
@@ -134,7 +133,14 @@ loop-found-preserved g c =
 
 pub returns-in-Ok-clause-took : goal.returns-in-Ok-clause-took
 returns-in-Ok-clause-took g c =
-    let end : c.stepper-in-Ok-1.given.0 ≡ c.update.new.at.stepper.now = search rules in
+    let end : c.stepper-in-Ok-1.given.0 ≡ c.update.new.at.stepper.now =
+    search (
+      rules,
+      c.prepare.ensures.prepares.call,
+      c.loop-found.invariant.0,
+      c.reach.ensures.goes.call,
+      c.update.ensures.table,
+    ) in
     let d = c.reach.new.self in
     let steps = steps_updating c.steps_to_update.ensures d.at.own.1 in
     let until = counts_on c.prepare.ensures.prepares.counts.counts
@@ -143,7 +149,15 @@ returns-in-Ok-clause-took g c =
 
 pub returns-then-found-clause-took : goal.returns-then-found-clause-took
 returns-then-found-clause-took g c =
-    let same : c.stepper-then-found-1.given.0 ≡ c.give_back-then-found.new.at.stepper.now = search rules in
+    let same : c.stepper-then-found-1.given.0 ≡ c.give_back-then-found.new.at.stepper.now =
+    search (
+      rules,
+      c.prepare.ensures.prepares.call,
+      c.loop-found.invariant.0,
+      c.reach.ensures.goes.call,
+      c.answer_no.ensures.call,
+      c.give_back-then-found.ensures.table,
+    ) in
     let d = c.reach.new.self in
     let until = counts_on c.prepare.ensures.prepares.counts.counts
     (counts_until c.loop-found.invariant c.reach.ensures.goes).counts in
@@ -162,7 +176,14 @@ returns-in_default-clause-took g c =
 
 pub returns-in-Ok-clause-calls : goal.returns-in-Ok-clause-calls
 returns-in-Ok-clause-calls g c =
-    let same : c.stepper-in-Ok-1.given.0 ≡ c.update.new.at.stepper.now = search rules in
+    let same : c.stepper-in-Ok-1.given.0 ≡ c.update.new.at.stepper.now =
+    search (
+      rules,
+      c.prepare.ensures.prepares.call,
+      c.loop-found.invariant.0,
+      c.reach.ensures.goes.call,
+      c.update.ensures.table,
+    ) in
     let so = c.loop-found.invariant in
     let went = c.reach.ensures.goes in
     let d = c.reach.new.self in
@@ -174,10 +195,14 @@ returns-in-Ok-clause-calls g c =
     let most = (few_to_update q.trace.start).1 in
     let room = c.in-Some.ensures.room in
     let fits : d.used + c.steps_to_update.result ≤ d.budget = omega (arith, steps, most, room) in
-    let e = later d c.update.new.at (d.used + c.steps_to_update.result) c.update.ensures.table inserted.made.same.start fits in
+    let e =
+    later d c.update.new.at (d.used + c.steps_to_update.result) c.update.ensures.table inserted.made.same.start fits in
     let once = same_later d c.update.new.at e.used c.update.ensures.table inserted.made.same.start fits in
-    let links = links_then so went {e = e} (takes_on (steps_to_update q.trace.start) once (ap (λ (n : ℕ). d.used + n) steps) stores.took stores.takes_no_slot) inserted.spent in
-    let had = had_then {E = Refusal} c.prepare.new.self.at.stepper.now q r (Ok true) (had_until so went) (had_spent q r c.loop-found.hand.slot (has_until so went).is.slot stores.pool) in
+    let links = links_then so went {e = e}
+    (takes_on (steps_to_update q.trace.start) once (ap (λ (n : ℕ). d.used + n) steps) stores.took
+    stores.takes_no_slot) inserted.spent in
+    let had = had_then {E = Refusal} c.prepare.new.self.at.stepper.now q r (Ok true) (had_until so went)
+    (had_spent q r c.loop-found.hand.slot (has_until so went).is.slot stores.pool) in
     let linked =
     links_hand {b = c.prepare.new.self} {e = e} c.law-2.ensures so went c.in-Some.found c.in-Some.ensures.found
     c.args.value true (omega (arith, steps)) inserted.made in
@@ -187,7 +212,15 @@ returns-in-Ok-clause-calls g c =
 
 pub returns-then-found-clause-calls : goal.returns-then-found-clause-calls
 returns-then-found-clause-calls g c =
-    let same : c.stepper-then-found-1.given.0 ≡ c.give_back-then-found.new.at.stepper.now = search rules in
+    let same : c.stepper-then-found-1.given.0 ≡ c.give_back-then-found.new.at.stepper.now =
+    search (
+      rules,
+      c.prepare.ensures.prepares.call,
+      c.loop-found.invariant.0,
+      c.reach.ensures.goes.call,
+      c.answer_no.ensures.call,
+      c.give_back-then-found.ensures.table,
+    ) in
     let so = c.loop-found.invariant in
     let went = c.reach.ensures.goes in
     let d = c.reach.new.self in

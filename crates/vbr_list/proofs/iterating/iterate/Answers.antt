@@ -1,9 +1,9 @@
-use Rattle.vbr_list.proofs.Names.{◌≡◌, ℕ, ◌<◌, Option, Some, None, refl, sym, ap, ◌∙◌, subst}
+use Rattle.vbr_list.proofs.Names.{◌≡◌, ℕ, ◌<◌, ◌≤◌, Option, Some, None, refl, sym, ap, ◌∙◌, subst}
 use Rattle.vbr_list.proofs.Names.{Dimensions, Start}
 use Rattle.vbr_list.specs.Seeking.{Sought}
 use Rattle.vbr_list.specs.declared.cursor.Cursor.{Cursor}
 use Rattle.vbr_list.specs.declared.seeking.NextNode.{NextNode}
-use Rattle.vbr_list.proofs.ComingBy.{HasComeBy, come_none, come_on, come_short, come_to}
+use Rattle.vbr_list.proofs.ComingBy.{HasComeBy, come_none, come_on, come_short, come_to, come_to_end}
 use Rattle.vbr_list.proofs.iterating.iterate.Goals as goal
 
 pub loop-now-init : goal.loop-now-init
@@ -34,6 +34,14 @@ returns-in-Some-Some-clause-iterates g c =
     come_to c.seek_in-found.new.at.stepper.now c.law.ensures c.args.cursor c.loop-now.now c.loop-now.used
     c.seek_in-found.result.1 c.args.budget c.loop-now.invariant.1 c.past.result c.in-Some-Some.node
     (subst P whole c.seek_in-found.ensures.sought) c.past.ensures.last c.past.ensures.more
+
+pub returns-clause-iterates : goal.returns-clause-iterates
+returns-clause-iterates g c =
+    let shape : c.shape.result ≡ c.args.at.now.stepper.now.trace.start.shape =
+    c.shape.ensures.shape ∙ ap (λ (s : Start). s.shape) (sym c.args.at.now.own.1) in
+    let P : ℕ → Type 0 = λ n. n ≤ c.loop-now.now.bucket in
+    come_to_end c.args.cursor c.loop-now.now c.loop-now.used c.args.budget c.loop-now.invariant.1
+    (subst P (c.buckets-buckets.ensures.buckets ∙ ap (λ (d : Dimensions). d.buckets) shape) c.loop-now-test.false)
 
 pub loop-now-preserved : goal.loop-now-preserved
 loop-now-preserved g c =

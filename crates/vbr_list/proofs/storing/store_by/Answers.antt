@@ -47,6 +47,7 @@ returns-in-Err-clause-calls c =
         had = prepares.had;
         shared = prepares.shared;
         tries = c.prepare_store.ensures.tries;
+        wins = prepares.wins;
         refused = store_refused_first wanted p q c.args.key c.args.budget refusal none.says none.so;
         within = alone;
         disturbed_within = within;
@@ -91,6 +92,7 @@ returns-in-Ok-Answered-clause-calls c =
         had = told_had wanted there p q x.tells.is_not prepares.had;
         shared = prepares.shared;
         tries = c.prepare_store.ensures.tries;
+        wins = prepares.wins;
         refused = tt;
         within = tt;
         disturbed_within = tt;
@@ -110,7 +112,7 @@ returns-in-Ok-Ready-clause-calls c =
     rw c.in-Ok-Ready.field-0-is at c.in-Ok-Ready.ensures.prepared in
     rw same (calls_with c.args.stepper.now c.prepare_store.new.self c.store_with.new.self c.args.key c.args.value
     c.args.wanted c.args.budget c.law.ensures.start c.law.ensures.low c.law.ensures.is_run x.quiet prepares.advances
-    prepares.kept prepares.had prepares.shared c.prepare_store.ensures.tries prepares.counts prepares.call.key
-    prepares.call.budget
+    prepares.kept prepares.had prepares.shared c.prepare_store.ensures.tries prepares.wins prepares.counts
+    prepares.call.key prepares.call.budget
     c.store_with.ensures.links x.searched c.store_with.result c.store_with.ensures.had c.store_with.ensures.answers
     c.store_with.ensures.refused c.store_with.ensures.paid)

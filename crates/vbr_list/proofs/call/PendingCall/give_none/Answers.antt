@@ -19,7 +19,8 @@ pub returns-in-Err-clause-settles : goal.returns-in-Err-clause-settles
 returns-in-Err-clause-settles g c = settles_step (search rules) refl c.confirm_absent-outcome.ensures.keeps.keeps
 
 pub returns-in-Ok-clause-answers : goal.returns-in-Ok-clause-answers
-returns-in-Ok-clause-answers g c = answers_bare true None refl c.in-Ok.ensures.answers
+returns-in-Ok-clause-answers g c =
+    record { answers = answers_bare true None refl c.in-Ok.ensures.answers; none = refl }
 
 pub returns-in-Err-clause-rolls : goal.returns-in-Err-clause-rolls
 returns-in-Err-clause-rolls g c =

@@ -10,6 +10,7 @@ use Rattle.vbr_list.proofs.Sights.{keyed_slot}
 use Rattle.vbr_list.proofs.Sufficing.{any_error}
 use Rattle.vbr_list.proofs.Told.{given_kept, told_since}
 use Rattle.vbr_list.proofs.ValueReads.{few_read, settles_read, steps_read}
+use Rattle.vbr_list.proofs.EntryAnswers.{held_entry_since}
 use Rattle.vbr_list.proofs.call.PendingCall.give_value.Goals as goal
 
 pub value_if_any-read-requires-clause-held : goal.value_if_any-read-requires-clause-held
@@ -98,9 +99,14 @@ returns-in-Ok-clause-answers g c =
     let first : given_call q.who Get key (Some value) ≡ given_call p.who Get key (Some value) =
     λ i. given_call (reads.quiet.same.who i) Get key (Some value) in
     record {
-      made = told_since reads.quiet (first ∙ told) answers.made;
-      adds = subst (λ (call : Call). AddsAnswer call p r) told
-          (answer_on (λ who. given_call who Get key (Some value)) reads.quiet.same reads.adds_none answers.adds);
+      answers = record {
+        made = told_since reads.quiet (first ∙ told) answers.made;
+        adds = subst (λ (call : Call). AddsAnswer call p r) told
+            (answer_on (λ who. given_call who Get key (Some value)) reads.quiet.same reads.adds_none answers.adds);
+      };
+      value = value;
+      gives = refl;
+      shows = λ s at_slot. held_entry_since reads.quiet (c.in-Ok.ensures.there.shows s key at_slot keyed);
     }
 
 pub returns-in-Err-clause-rolls : goal.returns-in-Err-clause-rolls

@@ -11,6 +11,7 @@ returns-in-Ok-clause-prepares g c = record {
   kept = search rules;
   had = had_taken c.requires.empty_hand (rw c.in-Ok.is at c.take-outcome.ensures.taken);
   shared = search rules;
+  wins = search rules;
 }
 
 pub returns-in-EpochSpent-clause-refused : goal.returns-in-EpochSpent-clause-refused

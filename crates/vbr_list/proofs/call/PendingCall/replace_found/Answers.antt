@@ -15,6 +15,7 @@ use Rattle.vbr_list.proofs.Moments.{cur_is, key_found}
 use Rattle.vbr_list.proofs.Reaching.{key_kept, pred_on, slot_same}
 use Rattle.vbr_list.proofs.ReadFirst.{cur_lost_since}
 use Rattle.vbr_list.proofs.Stores.{had_same, hand_kept, two_since}
+use Rattle.vbr_list.proofs.Publishing.{published_since}
 use Rattle.vbr_list.proofs.call.PendingCall.replace_found.Goals as goal
 
 pub birth_after-named-requires : goal.birth_after-named-requires
@@ -186,3 +187,10 @@ returns-in-Err-clause-back g c =
       loses = cur_lost_since c.args.found.now c.law.ensures reads c.in-Ok.ensures.birth.keeps c.in-Some.is
           lost.exchange;
     }
+
+pub returns-in-Ok-replace-clause-by : goal.returns-in-Ok-replace-clause-by
+returns-in-Ok-replace-clause-by g c =
+    published_since c.birth_after-named.ensures.reads.quiet c.in-Ok-replace.ensures.published
+
+pub returns-in-Err-clause-by : goal.returns-in-Err-clause-by
+returns-in-Err-clause-by g c = c.in-Err.ensures.lost.same

@@ -1,6 +1,7 @@
 use Rattle.vbr_list.proofs.Names.{◌+◌, ◌≤◌, Bool, arith, sym, subst, IfOk}
 use Rattle.vbr_list.specs.LookUpPieces.{IsSightFor, LookUpAnswers, steps_to_answer}
 use Rattle.vbr_list.specs.declared.looking.Sight.{Sight}
+use Rattle.vbr_list.proofs.Going.{ok_as}
 use Rattle.vbr_list.proofs.call.PendingCall.settle_look_up.Goals as goal
 
 pub give_value-requires-clause-sight : goal.give_value-requires-clause-sight
@@ -42,13 +43,15 @@ pub returns-in-Present-clause-answers : goal.returns-in-Present-clause-answers
 returns-in-Present-clause-answers g c =
     let P : Bool → Type 0 =
     λ gives. IfOk c.give_value.result (LookUpAnswers gives c.args.self.now c.give_value.new.self) in
-    subst P (sym c.if-not-gives.false) c.give_value.ensures.answers
+    subst P (sym c.if-not-gives.false)
+    (ok_as c.give_value.result (λ value given. given.answers) c.give_value.ensures.answers)
 
 pub returns-in-Absent-clause-answers : goal.returns-in-Absent-clause-answers
 returns-in-Absent-clause-answers g c =
     let P : Bool → Type 0 =
     λ gives. IfOk c.give_none.result (LookUpAnswers gives c.args.self.now c.give_none.new.self) in
-    subst P (sym c.if-not-gives.false) c.give_none.ensures.answers
+    subst P (sym c.if-not-gives.false)
+    (ok_as c.give_none.result (λ value given. given.answers) c.give_none.ensures.answers)
 
 pub returns-in-Present-clause-rolls : goal.returns-in-Present-clause-rolls
 returns-in-Present-clause-rolls g c = rw c.in-Present.is c.give_value.ensures.rolls

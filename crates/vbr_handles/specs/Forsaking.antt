@@ -1,0 +1,11 @@
+-- What is left of a handle that gives the slots of its pass up.
+use Rattle.std.specs.Prelude.{◌≡◌, Option, None, Some}
+use Rattle.vbr_slots.specs.Forsaking.{Forsakes}
+use Rattle.vbr_set.specs.Members.{MemberView as Member}
+
+-- an empty handle stays so, and the pass of a full one gave its slots up
+abbrev pub HasForsaken : Option Member → Option Member → Type 0
+HasForsaken None None = Unit {0}
+HasForsaken None (Some n) = ⊥
+HasForsaken (Some m) None = ⊥
+HasForsaken (Some m) (Some n) = (n.set ≡ m.set) × Forsakes m.pass n.pass

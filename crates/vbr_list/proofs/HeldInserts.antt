@@ -1,0 +1,80 @@
+-- An insert by a slot in hand: what it tells of a slot that is published, or stays in hand.
+use Rattle.vbr_list.proofs.Names.{◌≡◌, ℕ, ◌+◌, ◌<◌, ◌≤◌, Bool, true, false, None, refl, sym, subst, arith}
+use Rattle.vbr_list.proofs.Names.{Ghosts, HandView, none_on, PassLaw, PIECE, Quiet, steps_to_update, TakesNoSlot, Trace}
+use Rattle.vbr_machine.proofs.Lemmas.{begins_trans}
+use Rattle.vbr_at_table.specs.Records.{PublishesSlot}
+use Rattle.vbr_list.specs.Holding.{KeepsHeld, LinksHeld}
+use Rattle.vbr_list.specs.Inserting.{CountsWithin, HasHandAndRoom}
+use Rattle.vbr_list.specs.Pieces.{GoesOn, IsSameCall, MadeInsert, pass_in, trace_in}
+use Rattle.vbr_list.specs.Traversing.{SearchFinds, SearchTires}
+use Rattle.vbr_list.specs.declared.call.PendingCall.{PendingCall}
+use Rattle.vbr_list.specs.declared.found.Found.{Found}
+use Rattle.vbr_list.specs.declared.holding.StillInHand.TheVariants.{Present, OutOfSteps}
+use Rattle.vbr_list.proofs.Going.{call_on, within_call}
+use Rattle.vbr_list.proofs.Inserts.{links_hand}
+use Rattle.vbr_list.proofs.Linking.{IsLinking, TakesOn, begun, counts_until, has_until, none_until, quiet_until}
+use Rattle.vbr_list.proofs.LostWalks.{search_ends}
+use Rattle.vbr_list.proofs.Preparing.{within_on}
+
+module _ {N : Type 0} {kind : Ghosts N} {b c d : PendingCall N kind} {hand first : HandView} (law : PassLaw (pass_in b))
+    (so : IsLinking 7 b c hand) (went : GoesOn c d) (is_first : hand ≡ first) where
+  -- a piece after the search
+  pub held_call : {e : PendingCall N kind} → TakesOn d e → IsSameCall b e
+  held_call x = call_on (begun so went) x.call
+
+  pub held_counts : {e : PendingCall N kind} → TakesOn d e →
+      CountsWithin (trace_in b) (trace_in e) b.used e.used b.budget
+  held_counts x = within_on (counts_until so went) x.counts x.more (within_call (held_call x))
+
+  pub held_none : {e : PendingCall N kind} → TakesOn d e → TakesNoSlot (pass_in b) (pass_in e)
+  held_none x = none_on (none_until so went) x.takes_no_slot
+
+  -- the slot is published
+  pub held_linked : (e : PendingCall N kind) (value : ℕ) (found : Found) → SearchFinds c d found →
+      e.used ≤ d.used + steps_to_update (trace_in d).start → MadeInsert value d e true → (pass_in e).hand ≡ None →
+      PublishesSlot (trace_in d) (trace_in e) hand.slot hand.birth d.key → LinksHeld value b e first
+  held_linked e value found finds few made spent slot =
+      let x = links_hand {b = b} {e = e} law so went found finds value true few made in
+      let quiet = quiet_until so went in
+      let S : ℕ → HandView → Type 0 = λ key h. PublishesSlot (trace_in b) (trace_in e) h.slot h.birth key in
+      let P : ℕ → Type 0 = λ key. S key hand in
+      let H : HandView → Type 0 = S b.key in
+      let here : S d.key hand = record {
+        moment = slot.moment;
+        event = slot.event;
+        from = begins_trans (trace_in b).seen (trace_in d).seen slot.moment quiet.seen slot.from;
+        last = slot.last;
+        known = slot.known;
+        in_hand = slot.in_hand;
+        birth_is = slot.birth_is;
+        node = slot.node;
+        entry = slot.entry;
+      } in
+      record {
+        answers = record { made = x.made; searched = x.searched };
+        spent = spent;
+        slot = subst H is_first (subst P (begun so went).key here);
+      }
+
+  -- the key is there: the hand stays
+  pub held_denied : (e : PendingCall N kind) (value : ℕ) (found : Found) → SearchFinds c d found →
+      e.used ≤ d.used + steps_to_update (trace_in d).start → MadeInsert value d e false →
+      HasHandAndRoom (pass_in e) hand → KeepsHeld value b e first (hand, Present)
+  held_denied e value found finds few made has =
+      let x = links_hand {b = b} {e = e} law so went found finds value false few made in
+      record { same = is_first; has = has; says = record { made = x.made; searched = x.searched } }
+
+  -- there are no steps left: it stays, too
+  pub held_tired : (value : ℕ) → SearchTires c d → KeepsHeld value b d first (hand, OutOfSteps d.used)
+  held_tired value tired =
+      let short : b.budget < d.used + PIECE = rw so.0.budget at tired.tired in
+      record {
+        same = is_first;
+        has = has_until so went;
+        says = record {
+          quiet = quiet_until so went;
+          short = record { counts = counts_until so went; short = short };
+          searches =
+              search_ends law so.0 so.1 went so.6 tired.walks (b.budget + 1) 8 11 (omega (arith, short)) (omega arith);
+        };
+      }

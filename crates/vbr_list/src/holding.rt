@@ -1,0 +1,303 @@
+//! Inserts by a slot that the pass has in hand already.
+ghost use Rattle.std.specs.Prelude.{◌≡◌, true, IfOk, IfErr, None};
+ghost use Rattle.vbr_at_table.specs.GivingBack.{PutsBack};
+ghost use Rattle.vbr_at_table.specs.KeptSlots.{TakesNoSlot};
+ghost use Rattle.vbr_at_table.specs.Refusals.{RefusesTake};
+ghost use Rattle.vbr_at_table.specs.Taking.{Takes};
+ghost use Rattle.vbr_list.specs.Holding.{FoundWithValue, HoldsSlot, InsertsHeld, KeepsHeld, LinksHeld};
+ghost use Rattle.vbr_list.specs.Holding.{IsNodeOf, KeepsUnreplaced, ReplacesByHeld, ReplacesHeldEntry};
+ghost use Rattle.vbr_list.specs.Inserting.{CountsWithin, HasHandAndRoom};
+ghost use Rattle.vbr_list.specs.Pieces.{HasRoomForPiece, IsSameCall, pass_in, trace_in};
+ghost use Rattle.vbr_list.specs.Replacing.{HasUnused};
+ghost use Rattle.vbr_list.specs.Settling.{MaySettle, SettlesNone};
+ghost use Rattle.vbr_slots.specs.Calls.{Took};
+ghost use Rattle.vbr_slots.specs.Views.{IsOf};
+
+use crate::call::{PendingCall, begin};
+use crate::entries::Entry;
+use crate::found::Found;
+use crate::valuing::steps_to_update;
+use vbr_at_table::{Hand, Refusal, take, update};
+use vbr_slots::{AtTable, Pass, Slots, Stepper};
+use vbr_words::{At, Entries, Nodes};
+
+/// Why a slot in hand wasn't published. It is in hand still.
+#[derive(Clone, Copy, Debug, PartialEq, Eq)]
+pub enum StillInHand {
+    /// The key is there: the insert was answered no.
+    Present,
+    /// The steps left of the budget are fewer than a piece of the call may take; no call was made.
+    OutOfSteps {
+        /// The steps that were made.
+        used: u32,
+    },
+}
+
+/// Takes a slot in hand, in at most `budget` steps: it is born in then, and in the hand of this pass alone
+/// until it is published or let go. It is taken as an insert takes one, with the refusals of
+/// [`vbr_at_table::take`].
+pub fn hold<N: Nodes>(slots: &Slots<N>, pass: &mut Pass, budget: u32) -> Result<Hand, Refusal>
+    requires own { IsOf pass.old.trace slots.now }
+    requires empty_hand { pass.old.hand ≡ None }
+    ensures takes { Takes pass.old pass.new budget }
+    ensures held { IfOk result (HoldsSlot pass.old pass.new) }
+    ensures refused { IfErr result (RefusesTake pass.old pass.new budget) }
+{
+    pass.during(
+        |stepper|
+            requires own { IsOf stepper.old.trace slots.now }
+            requires empty_hand { stepper.old.hand ≡ None }
+        { take(&mut AtTable { slots, stepper }, budget) },
+    )
+}
+
+/// Puts a slot that is in hand back into the own pool; it is no step.
+#[inline]
+pub fn let_go(pass: &mut Pass, hand: Hand)
+    requires hand { HasHandAndRoom pass.old hand }
+    ensures { PutsBack pass.old pass.new hand.slot }
+{
+    hand.go_back(pass);
+}
+
+/// Why a slot in hand didn't take the place of an entry. It is in hand still, and no call was made.
+#[derive(Clone, Copy, Debug, PartialEq, Eq)]
+pub enum NotReplaced {
+    /// The key is absent, or another entry is there.
+    Other,
+    /// The steps left of the budget are fewer than a piece of the call may take.
+    OutOfSteps {
+        /// The steps that were made.
+        used: u32,
+    },
+}
+
+// Whether what was found is the node of this entry.
+#[inline(always)]
+fn is_node_of(found: &Found, entry: &Entry) -> bool
+    ensures { result ≡ true → IsNodeOf found.now entry.now }
+{
+    match &found.cur {
+        Some(cur) => { found.present && cur.at == At::Slot(entry.slot) && cur.birth == entry.birth }
+        None => false,
+    }
+}
+
+impl<N: Nodes> PendingCall<'_, N> {
+    // Puts the slot in hand in the place of the node that was found, with this value, in eight steps at
+    // most, and takes the old node out of its list, as far as the budget has room. Else the hand comes back.
+    #[inline(always)]
+    fn replace_by_held(&mut self, found: &Found, value: u64, hand: Hand) -> Result<(), Hand>
+        requires found { FoundWithValue self.old found.now }
+        requires hand { HasHandAndRoom (pass_in self.old) hand }
+        requires room { HasRoomForPiece self.old }
+        ensures settles { MaySettle self.old self.new }
+        ensures had { HasUnused (pass_in self.old) (pass_in self.new) result }
+        ensures replaced { IfOk result (λ _. ReplacesByHeld value self.old self.new hand) }
+        ensures back { IfErr result (SettlesNone 8 self.old self.new found.now) }
+        ensures same { IfErr result (λ back. back ≡ hand) }
+    {
+        self.at.law();
+        let Ok(_there) = self.read_found(found) else {
+            return Err(hand);
+        };
+        let marked = match self.replace_found(found, value, hand) {
+            Ok(marked) => marked,
+            Err(back) => return Err(back),
+        };
+        self.unlink_replaced(&found.pred, marked);
+        Ok(())
+    }
+
+    // Puts the slot in hand in the place of this entry, and of no other; else, and where the budget has no
+    // room for one more piece, the hand comes back.
+    #[inline(always)]
+    fn replace_entry(
+        &mut self,
+        entry: &Entry,
+        value: u64,
+        mut hand: Hand,
+    ) -> Result<(), (Hand, NotReplaced)>
+        requires values { (trace_in self.old).start.shape.values ≡ true }
+        requires hand { HasHandAndRoom (pass_in self.old) hand }
+        ensures call { IsSameCall self.old self.new }
+        ensures counts { CountsWithin (trace_in self.old) (trace_in self.new)
+            self.old.used self.new.used self.old.budget }
+        ensures takes_no_slot { TakesNoSlot (pass_in self.old) (pass_in self.new) }
+        ensures replaced { IfOk result (λ _. ReplacesByHeld value self.old self.new hand) }
+        ensures kept { IfErr result (KeepsUnreplaced self.old self.new hand) }
+    {
+        self.at.law();
+        loop {
+            let Some(found) = self.reach() else {
+                return Err((hand, NotReplaced::OutOfSteps { used: self.used }));
+            };
+            if !is_node_of(&found, entry) {
+                return Err((hand, NotReplaced::Other));
+            }
+            match self.replace_by_held(&found, value, hand) {
+                Ok(()) => return Ok(()),
+                Err(back) => hand = back,
+            }
+        }
+    }
+
+    // Links the slot in hand, or answers no where the key is there; then, and where the budget has no room
+    // for one more piece, the hand comes back.
+    #[inline(always)]
+    fn link_held(&mut self, value: u64, mut hand: Hand) -> Result<(), (Hand, StillInHand)>
+        requires hand { HasHandAndRoom (pass_in self.old) hand }
+        ensures call { IsSameCall self.old self.new }
+        ensures counts { CountsWithin (trace_in self.old) (trace_in self.new)
+            self.old.used self.new.used self.old.budget }
+        ensures takes_no_slot { TakesNoSlot (pass_in self.old) (pass_in self.new) }
+        ensures linked { IfOk result (λ _. LinksHeld value self.old self.new hand) }
+        ensures kept { IfErr result (KeepsHeld value self.old self.new hand) }
+    {
+        self.at.law();
+        loop {
+            let Some(found) = self.reach() else {
+                return Err((hand, StillInHand::OutOfSteps { used: self.used }));
+            };
+            if found.present {
+                if self.answer_no(&found).is_err() {
+                    continue;
+                }
+                return Err((hand, StillInHand::Present));
+            }
+            self.used += steps_to_update(self.at.slots);
+            match update(
+                &mut self.at,
+                &found.pred,
+                found.cur.as_ref(),
+                self.key,
+                value,
+                hand,
+            ) {
+                Ok(()) => return Ok(()),
+                Err((back, _)) => hand = back,
+            }
+        }
+    }
+}
+
+/// Adds a key to the set by a slot that the pass has in hand, in at most `budget` steps: this very slot
+/// becomes the node of the key, with the birth that it has in hand. Where the key is there, the insert is
+/// answered no, and the slot stays in hand; so it does where the steps don't suffice. The call takes no
+/// slot, and searches as [`crate::insert`] does with one in hand.
+pub fn insert_held(
+    slots: &Slots,
+    pass: &mut Pass,
+    key: u64,
+    hand: Hand,
+    budget: u32,
+) -> Result<(), (Hand, StillInHand)>
+    requires own { IsOf pass.old.trace slots.now }
+    requires hand { HasHandAndRoom pass.old hand }
+    ensures { InsertsHeld pass.old pass.new key 0 budget hand result }
+{
+    slots.kind();
+    pass.during_with(
+        hand,
+        |stepper, hand|
+            requires own { IsOf stepper.old.trace slots.now }
+            requires hand { HasHandAndRoom stepper.old hand }
+        { insert_held_by(slots, stepper, key, 0, hand, budget) },
+    )
+}
+
+/// As [`insert_held`], at a table whose nodes have values: this value is stored with the key, in one step
+/// more.
+pub fn insert_entry_held(
+    slots: &Slots<Entries>,
+    pass: &mut Pass,
+    key: u64,
+    value: u64,
+    hand: Hand,
+    budget: u32,
+) -> Result<(), (Hand, StillInHand)>
+    requires own { IsOf pass.old.trace slots.now }
+    requires hand { HasHandAndRoom pass.old hand }
+    ensures { InsertsHeld pass.old pass.new key value budget hand result }
+{
+    slots.kind();
+    pass.during_with(
+        hand,
+        |stepper, hand|
+            requires own { IsOf stepper.old.trace slots.now }
+            requires hand { HasHandAndRoom stepper.old hand }
+        { insert_held_by(slots, stepper, key, value, hand, budget) },
+    )
+}
+
+/// Puts the slot in hand in the place of an entry of the key, and of no other, with this value, in at most
+/// `budget` steps: in the history the key is removed with the value that it had, and inserted with this one,
+/// next to each other. The node that was replaced is then out of its list, unless less than a piece is left
+/// of the budget. Where another entry is there, or none, the slot stays in hand, and no call was made; so it
+/// is where the steps don't suffice.
+pub fn replace_held(
+    slots: &Slots<Entries>,
+    pass: &mut Pass,
+    key: u64,
+    entry: &Entry,
+    value: u64,
+    hand: Hand,
+    budget: u32,
+) -> Result<(), (Hand, NotReplaced)>
+    requires own { IsOf pass.old.trace slots.now }
+    requires hand { HasHandAndRoom pass.old hand }
+    ensures { ReplacesHeldEntry pass.old pass.new key value budget hand result }
+{
+    pass.law();
+    slots.kind();
+    pass.during_with(
+        hand,
+        |stepper, hand|
+            requires own { IsOf stepper.old.trace slots.now }
+            requires values { slots.now.start.shape.values ≡ true }
+            requires hand { HasHandAndRoom stepper.old hand }
+        { replace_held_by(slots, stepper, key, entry, value, hand, budget) },
+    )
+}
+
+// As `replace_held`, where no step is counted; and how many steps were made.
+fn replace_held_by<N: Nodes>(
+    slots: &Slots<N>,
+    stepper: &mut Stepper,
+    key: u64,
+    entry: &Entry,
+    value: u64,
+    hand: Hand,
+    budget: u32,
+) -> (Result<(), (Hand, NotReplaced)>, u32)
+    requires own { IsOf stepper.old.trace slots.now }
+    requires values { slots.now.start.shape.values ≡ true }
+    requires hand { HasHandAndRoom stepper.old hand }
+    ensures took { Took stepper.old.trace stepper.new.trace result.1 }
+    ensures replaces { ReplacesHeldEntry stepper.old stepper.new key value budget hand result.0 }
+{
+    let mut call = begin!(slots, stepper, key, budget, 0);
+    call.at.law();
+    let outcome = call.replace_entry(entry, value, hand);
+    (outcome, call.used)
+}
+
+// As `insert_entry_held`, where no step is counted; and how many steps were made.
+fn insert_held_by<N: Nodes>(
+    slots: &Slots<N>,
+    stepper: &mut Stepper,
+    key: u64,
+    value: u64,
+    hand: Hand,
+    budget: u32,
+) -> (Result<(), (Hand, StillInHand)>, u32)
+    requires own { IsOf stepper.old.trace slots.now }
+    requires hand { HasHandAndRoom stepper.old hand }
+    ensures took { Took stepper.old.trace stepper.new.trace result.1 }
+    ensures inserts { InsertsHeld stepper.old stepper.new key value budget hand result.0 }
+{
+    let mut call = begin!(slots, stepper, key, budget, 0);
+    call.at.law();
+    let outcome = call.link_held(value, hand);
+    (outcome, call.used)
+}

@@ -1,0 +1,5 @@
+use Rattle.vbr_machine.proofs.records.Entries.{same_birth_same_entry}
+use Rattle.vbr_machine.proofs.record_laws.same_birth_same_entry.Goals as goal
+
+pub returns : goal.returns
+returns c = same_birth_same_entry

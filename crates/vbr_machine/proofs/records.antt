@@ -1,0 +1,5 @@
+-- Records beside the slots: an entry keeps its slot while its birth stands, and who has a slot in hand.
+pub mod Entries
+pub mod Hands
+pub mod Published
+pub mod Acts

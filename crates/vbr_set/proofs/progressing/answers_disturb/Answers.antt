@@ -1,0 +1,5 @@
+use Rattle.vbr_set.proofs.AnsweredCalls.{answers_disturb}
+use Rattle.vbr_set.proofs.progressing.answers_disturb.Goals as goal
+
+pub returns : goal.returns
+returns c = answers_disturb

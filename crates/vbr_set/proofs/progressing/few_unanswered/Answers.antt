@@ -1,0 +1,5 @@
+use Rattle.vbr_set.proofs.EnoughByShape.{few_unanswered}
+use Rattle.vbr_set.proofs.progressing.few_unanswered.Goals as goal
+
+pub returns : goal.returns
+returns c = few_unanswered

@@ -1,0 +1,5 @@
+use Rattle.vbr_set.proofs.MembersCalls.{members_calls}
+use Rattle.vbr_set.proofs.progressing.members_call.Goals as goal
+
+pub returns : goal.returns
+returns c = members_calls

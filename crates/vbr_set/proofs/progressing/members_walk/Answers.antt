@@ -1,0 +1,5 @@
+use Rattle.vbr_set.proofs.AnsweredWalks.{members_walk}
+use Rattle.vbr_set.proofs.progressing.members_walk.Goals as goal
+
+pub returns : goal.returns
+returns c = members_walk

@@ -1,0 +1,5 @@
+use Rattle.vbr_set.proofs.WonFlags.{nobody_beyond}
+use Rattle.vbr_set.proofs.progressing.nobody_goes_beyond.Goals as goal
+
+pub returns : goal.returns
+returns c = nobody_beyond

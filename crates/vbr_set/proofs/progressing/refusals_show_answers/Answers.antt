@@ -1,0 +1,5 @@
+use Rattle.vbr_set.proofs.AnsweredCalls.{refusals_show}
+use Rattle.vbr_set.proofs.progressing.refusals_show_answers.Goals as goal
+
+pub returns : goal.returns
+returns c = refusals_show

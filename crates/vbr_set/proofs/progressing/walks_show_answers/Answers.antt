@@ -1,0 +1,5 @@
+use Rattle.vbr_set.proofs.AnsweredWalks.{walks_show}
+use Rattle.vbr_set.proofs.progressing.walks_show_answers.Goals as goal
+
+pub returns : goal.returns
+returns c = walks_show
