@@ -31,6 +31,18 @@ pub enum Compared<V = u64> {
     Absent,
 }
 
+impl Compared {
+    /// The same of the value that has the bits.
+    #[inline]
+    fn typed<V: Bits>(self) -> Compared<V> {
+        match self {
+            Compared::Equal => Compared::Equal,
+            Compared::Other(bits) => Compared::Other(V::from_bits(bits)),
+            Compared::Absent => Compared::Absent,
+        }
+    }
+}
+
 /// The calls of maps that do one thing or another by what is there, each at one moment.
 ///
 /// A call that gives a key another value is, in the history, a remove of the old value and an insert of the new one, next to
@@ -201,7 +213,20 @@ impl<K: Bits, V: Bits> PassOf<Entries<K, V>> {
     /// Those of [`compare_exchange`](PassOf::compare_exchange).
     #[inline]
     pub fn compare_exchange_within(&mut self, key: K, expected: V, value: V, steps: Steps) -> Result<Compared<V>, Refusal> {
-        let (key, expected, value) = (key.to_bits(), expected.to_bits(), value.to_bits());
+        Ok(self.exchange_bits_within(key, expected.to_bits(), value, steps)?.typed())
+    }
+
+    /// The same, where the value that was seen is expected by its bits: a loop that expects these ends, whatever bits its type makes of
+    /// the value.
+    #[inline]
+    pub(crate) fn exchange_bits_within(
+        &mut self,
+        key: K,
+        expected: u64,
+        value: V,
+        steps: Steps,
+    ) -> Result<Compared, Refusal> {
+        let (key, value) = (key.to_bits(), value.to_bits());
         compared(updated, |found| {
             order::changes(key, || {
                 // SAFETY: as for `replace_within`.
@@ -244,7 +269,13 @@ impl<K: Bits, V: Bits> PassOf<Entries<K, V>> {
     /// [`OutOfSteps`]. No call was made then.
     #[inline]
     pub fn remove_if_within(&mut self, key: K, expected: V, steps: Steps) -> Result<Compared<V>, OutOfSteps> {
-        let (key, expected) = (key.to_bits(), expected.to_bits());
+        Ok(self.remove_bits_within(key, expected.to_bits(), steps)?.typed())
+    }
+
+    /// The same, where the value that was seen is expected by its bits.
+    #[inline]
+    fn remove_bits_within(&mut self, key: K, expected: u64, steps: Steps) -> Result<Compared, OutOfSteps> {
+        let key = key.to_bits();
         compared(looked_up, |found| {
             // SAFETY: as for `replace_within`.
             order::removes(key, || unsafe { vbr_map_remove_if_within(self.raw(), key, expected, found, steps.count()) })
@@ -294,13 +325,14 @@ impl<K: Bits, V: Bits> PassOf<Entries<K, V>> {
         mut update: impl FnMut(V) -> Option<V>,
         steps: Steps,
     ) -> Result<Option<V>, Refusal> {
-        let mut seen = self.get_within(key, steps)?;
-        while let Some(before) = seen {
+        let mut seen = self.bits_within(key, steps)?;
+        while let Some(bits) = seen {
+            let before = V::from_bits(bits);
             let Some(value) = update(before) else {
                 return Ok(None);
             };
-            match self.compare_exchange_within(key, before, value, steps)? {
-                Compared::Equal => return Ok(seen),
+            match self.exchange_bits_within(key, bits, value, steps)? {
+                Compared::Equal => return Ok(Some(before)),
                 Compared::Other(now) => seen = Some(now),
                 Compared::Absent => seen = None,
             }
@@ -329,9 +361,9 @@ impl<K: Bits, V: Bits> PassOf<Entries<K, V>> {
     pub fn retain(&mut self, mut keep: impl FnMut(K, V) -> bool) -> Result<u64, OutOfSteps> {
         let (mut cursor, mut count) = (Cursor::first(), 0);
         while let Some((key, value)) = self.walk_on(&mut cursor, self.steps())? {
-            let mut seen = Some(value);
-            while let Some(value) = seen.filter(|&value| !keep(key, value)) {
-                seen = match self.remove_if(key, value)? {
+            let mut seen = Some(value.to_bits()); // where other bits are there, the first remove tells which
+            while let Some(bits) = seen.filter(|&bits| !keep(key, V::from_bits(bits))) {
+                seen = match self.remove_bits_within(key, bits, self.steps())? {
                     Compared::Other(now) => Some(now),
                     Compared::Absent => None,
                     Compared::Equal => {

@@ -210,12 +210,12 @@ impl<K: Bits, V: Bits, F: FnMut(&mut V)> ModifiedEntry<'_, K, V, F> {
     /// Those of [`ModifiedEntry::or_insert`]. Nothing was changed then.
     pub fn or_insert_with(self, make: impl FnOnce() -> V) -> Result<V, Refusal> {
         let ModifiedEntry { entry: Entry { pass, key }, mut modify } = self;
-        let (mut seen, absent) = (pass.get(key)?, LazyCell::new(make));
+        let (mut seen, absent) = (pass.bits_within(key, pass.steps())?, LazyCell::new(make));
         loop {
-            seen = if let Some(before) = seen {
-                let mut value = before;
+            seen = if let Some(bits) = seen {
+                let mut value = V::from_bits(bits);
                 modify(&mut value);
-                match pass.compare_exchange(key, before, value)? {
+                match pass.exchange_bits_within(key, bits, value, pass.steps())? {
                     Compared::Equal => return Ok(value),
                     Compared::Other(now) => Some(now),
                     Compared::Absent => None,
@@ -223,7 +223,7 @@ impl<K: Bits, V: Bits, F: FnMut(&mut V)> ModifiedEntry<'_, K, V, F> {
             } else {
                 match pass.get_or_insert(key, *absent)? {
                     None => return Ok(*absent),
-                    there => there,
+                    there => there.map(V::to_bits), // where other bits are there, the exchange tells which
                 }
             };
         }

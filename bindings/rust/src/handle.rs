@@ -87,7 +87,7 @@ impl<T: Kind> HandleOf<T> {
         let shared = NonNull::from(Box::leak(shared));
         let steps = steps.unwrap_or_default().count();
         opened.extend(raw.into_iter().enumerate().map(|(number, Raw { owned, .. })| HandleOf {
-            raw: UnsafeCell::new(Raw { owned, steps }),
+            raw: UnsafeCell::new(Raw { owned, steps, ..Raw::EMPTY }),
             number,
             shared: Some(shared),
             kind: PhantomData,
@@ -278,7 +278,7 @@ impl<T: Kind> Drop for HandleOf<T> {
 }
 
 /// The items as the library takes them, if they ascend and have room.
-fn plain<T: Kind>(items: &[T::Item], slots: u32) -> Result<Vec<T::Plain>, OpenError> {
+pub(crate) fn plain<T: Kind>(items: &[T::Item], slots: u32) -> Result<Vec<T::Plain>, OpenError> {
     if items.len() > slots as usize {
         return Err(OpenError::Keys(KeysError::TooMany { keys: items.len(), slots }));
     }
@@ -295,7 +295,7 @@ fn plain<T: Kind>(items: &[T::Item], slots: u32) -> Result<Vec<T::Plain>, OpenEr
 }
 
 /// Sees that the library is of the crate's version.
-fn check_version() {
+pub(crate) fn check_version() {
     let own = [env!("CARGO_PKG_VERSION_MAJOR"), env!("CARGO_PKG_VERSION_MINOR"), env!("CARGO_PKG_VERSION_PATCH")];
     let [of_library, of_crate] =
         [crate::version(), own.iter().fold(0, |sum, it| sum * 1_000 + it.parse::<u32>().unwrap_or(0))];

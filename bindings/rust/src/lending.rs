@@ -271,6 +271,7 @@ impl<T: Kind> AsMut<HandleOf<T>> for Place<T> {
 /// is_sync::<vbr::OwnedLent<vbr::Entries>>();
 /// ```
 #[must_use = "it goes back where it is dropped"]
+#[clippy::has_significant_drop]
 pub struct LentBy<T: Kind, B: Deref<Target = Table<T>>> {
     table: B,
     number: usize,

@@ -41,7 +41,8 @@
 //!   history of what its caller has seen; that memory is reused safely, and what refusals and reports mean.
 //! - **Argued and tested**, and not proved: that calls which a program orders (by a lock, a channel, a join, or a release and an
 //!   acquire) stand in that order; that what was written before an insert can be read by who finds the key; that handles may
-//!   change threads, and signal handlers make calls. This crate, its loans and its waiting are tested, and proved by nobody.
+//!   change threads, and signal handlers make calls; that processes which share a set go on when one is killed. This crate, its
+//!   loans and its waiting are tested, and proved by nobody.
 //!
 //! # Names
 //!
@@ -116,7 +117,7 @@
 //!
 //! Programs to begin from are in `examples`: `page_cache.rs`, the index of a page cache; `records.rs`, records beside a map, for
 //! values larger than 64 bits; `limiter.rs`, a rate limiter; `logins.rs`, logins that expire; `server.rs`, a map that a clock renews;
-//! and short ones, `routes.rs`, `interner.rs` and `visited.rs`.
+//! `prefork.rs`, processes that share a map and are killed; and short ones, `routes.rs`, `interner.rs` and `visited.rs`.
 //!
 //! # Budgets
 //!
@@ -159,7 +160,7 @@
 //! keeps nothing for each thread. Where a thread ends or panics, the handles that it owns are dropped, which closes them:
 //! nothing is lost, and the last handle of the set still gets the report. A handle that is forgotten
 //! ([`core::mem::forget`]) is never closed, and neither is its set. After a fork the child uses no handle, unless the process
-//! had one thread.
+//! had one thread, or the set is one that processes share.
 //!
 //! Threads that come and go, or are more than the handles, borrow those of a [`Set`] that lends them: [`Set::lend`](Table::lend) gives a
 //! free handle or none, [`lend_wait`](Table::lend_wait) and [`lend_timeout`](Table::lend_timeout) wait for one, and
@@ -192,6 +193,29 @@
 //! The exports of the library ask nothing of their caller but what the types here say: a handle is moved
 //! and never copied, and one call at a time has it, since it is not `Sync`.
 //!
+//! # Processes
+//!
+//! A [`SharedSet`] or a [`SharedMap`] lies in memory that a process shares with those that it forks afterwards. Any of them may be
+//! killed at any moment, and the others go on, in the same time and with right answers. A process claims a handle. That is
+//! `unsafe`, since nothing can see whether another process has the handle. It makes calls by turns, which mark the handle while
+//! they last.
+//!
+//! ```
+//! use vbr::{SharedMap, Shape};
+//!
+//! let map = SharedMap::open(Shape::for_keys(1_024, 4).with_deaths(8))?; // and then the processes are forked
+//! // SAFETY: handle 0 is this process's alone, and this thread's.
+//! let mut mine = unsafe { map.claim(0) };
+//! assert!(mine.turn().try_insert(5, 70)?);
+//! let mut turn = mine.turn(); // of several calls
+//! assert_eq!((turn.remove(5)?, turn.get(5)?), (Some(70), None));
+//! # Ok::<(), Box<dyn std::error::Error>>(())
+//! ```
+//!
+//! Once `waitpid` has told of a death, [`SharedTable::inherit`] takes the handle over for the next process. A death within a turn
+//! takes up to 66 slots along, and [`SharedTable::renew`] wins them back. `examples/prefork.rs` is a pre-fork server whose workers
+//! are killed at random moments.
+//!
 //! # How it finds the library
 //!
 //! The crate links `libvbr.a` statically: that in the directory that `VBR_LIB_DIR` names, or else that which pkg-config names, if it
@@ -221,6 +245,7 @@ mod map;
 mod misuse;
 mod order;
 mod pass;
+mod processes;
 mod reporting;
 mod set;
 mod shape;
@@ -238,6 +263,7 @@ pub use kind::{Entries, Keys, Kind};
 pub use lending::{Lent, LentBy, OwnedLent};
 pub use map::{Map, MapHandle, MapPass, MapReport};
 pub use pass::PassOf;
+pub use processes::{Claim, Inherited, SharedMap, SharedSet, SharedTable, Turn};
 pub use set::{Handle, Pass, Report, Set};
 pub use shape::{random_seed, Shape, ShapeError};
 pub use steps::Steps;

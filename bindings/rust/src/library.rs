@@ -1,7 +1,8 @@
 //! The calls of the library, and which of them are those of a set and which those of a map.
 use crate::reporting::Contents;
 use crate::{order, Bits, Compared, Cursor, Entries, Keys, MapReport, OutOfSteps, Refusal, Report};
-use core::ffi::c_void;
+use core::cell::UnsafeCell;
+use core::ffi::{c_int, c_void};
 use core::ptr::null_mut;
 
 /// What the library answers.
@@ -11,22 +12,34 @@ pub(crate) mod code {
     pub(crate) const OTHER: i32 = 2;
     pub(crate) const NO_SLOT: i32 = -2;
     pub(crate) const EPOCH_SPENT: i32 = -3;
+    pub(crate) const NO_HANDLE: i32 = -4;
     pub(crate) const NO_MEMORY: i32 = -8;
     pub(crate) const NO_ROOM: i32 = -11;
     /// Of what answers neither yes nor no.
     pub(crate) const DONE: i32 = 0;
 }
 
-/// As C sees a handle: what it owns, null where it is empty, and the budget of its calls, which the library leaves alone.
+/// As C sees a handle: what it owns, null where it is empty, and the budget of its calls, which the library leaves alone. The mark
+/// that a call is under way is in use where processes share the handle.
 #[repr(C)]
 pub(crate) struct Raw {
     pub(crate) owned: *mut c_void,
     pub(crate) steps: u32,
+    pub(crate) in_call: u32,
 }
 
 impl Raw {
-    pub(crate) const EMPTY: Raw = Raw { owned: null_mut(), steps: 0 };
+    pub(crate) const EMPTY: Raw = Raw { owned: null_mut(), steps: 0, in_call: 0 };
 }
+
+/// A handle as it lies in memory that processes share, on lines of the cache of its own.
+#[repr(C)]
+pub(crate) struct SharedRaw {
+    pub(crate) raw: UnsafeCell<Raw>,
+    unused: [u64; 14],
+}
+
+const _: () = assert!(size_of::<Raw>() == 16 && size_of::<SharedRaw>() == 128);
 
 #[repr(C)]
 #[derive(Default)]
@@ -56,6 +69,11 @@ pub(crate) struct Found {
 extern "C" {
     pub(crate) fn vbr_version() -> u32;
     pub(crate) fn vbr_random_seed() -> u64;
+    pub(crate) fn vbr_shared_size(count: usize, slots: u32, buckets: u32) -> usize;
+    pub(crate) fn vbr_inherit(handle: *mut SharedRaw) -> i32;
+    pub(crate) fn vbr_renew_shared(handles: *mut SharedRaw, slots: u32, buckets: u32, last_epoch: u64) -> i32;
+    pub(crate) fn vbr_spread(handles: *mut SharedRaw);
+    pub(crate) fn vbr_unmap_shared(handles: *mut SharedRaw);
 
     fn vbr_open_many_seeded(
         handles: *mut Raw,
@@ -84,6 +102,26 @@ extern "C" {
     fn vbr_report_all(handles: *mut Raw, count: usize, keys: *mut u64, room: usize, told: *mut ReportNumbers) -> i32;
     fn vbr_renew_all_seeded(handles: *mut Raw, count: usize, slots: u32, buckets: u32, last_epoch: u64, seed: u64) -> i32;
     fn vbr_end_all(handles: *mut Raw, count: usize);
+    fn vbr_open_shared(
+        handles: *mut *mut SharedRaw,
+        count: usize,
+        slots: u32,
+        buckets: u32,
+        last_epoch: u64,
+        keys: *const u64,
+        key_count: usize,
+    ) -> i32;
+    fn vbr_open_shared_in(
+        file: c_int,
+        handles: *mut *mut SharedRaw,
+        count: usize,
+        slots: u32,
+        buckets: u32,
+        last_epoch: u64,
+        keys: *const u64,
+        key_count: usize,
+    ) -> i32;
+    fn vbr_gather(handles: *mut SharedRaw) -> *mut Raw;
 
     fn vbr_map_open_many_seeded(
         handles: *mut Raw,
@@ -127,7 +165,33 @@ extern "C" {
     fn vbr_map_renew_all_seeded(handles: *mut Raw, count: usize, slots: u32, buckets: u32, last_epoch: u64, seed: u64)
         -> i32;
     fn vbr_map_end_all(handles: *mut Raw, count: usize);
+    fn vbr_map_open_shared(
+        handles: *mut *mut SharedRaw,
+        count: usize,
+        slots: u32,
+        buckets: u32,
+        last_epoch: u64,
+        entries: *const Pair,
+        entry_count: usize,
+    ) -> i32;
+    fn vbr_map_open_shared_in(
+        file: c_int,
+        handles: *mut *mut SharedRaw,
+        count: usize,
+        slots: u32,
+        buckets: u32,
+        last_epoch: u64,
+        entries: *const Pair,
+        entry_count: usize,
+    ) -> i32;
+    fn vbr_map_gather(handles: *mut SharedRaw) -> *mut Raw;
 }
+
+/// Opens a set or a map in memory that processes share: it is given where to write the first of the handles, the shape, and items.
+type OpenShared<Plain> = unsafe extern "C" fn(*mut *mut SharedRaw, usize, u32, u32, u64, *const Plain, usize) -> i32;
+
+/// The same in a file.
+type OpenSharedIn<Plain> = unsafe extern "C" fn(c_int, *mut *mut SharedRaw, usize, u32, u32, u64, *const Plain, usize) -> i32;
 
 /// The calls of the library that sets and maps have alike, over an item, a key or a key with its value, and what a close tells.
 pub(crate) trait Calls<Item, Told> {
@@ -142,6 +206,9 @@ pub(crate) trait Calls<Item, Told> {
     const REPORT_ALL: unsafe extern "C" fn(*mut Raw, usize, *mut Self::Plain, usize, *mut ReportNumbers) -> i32;
     const RENEW_ALL: unsafe extern "C" fn(*mut Raw, usize, u32, u32, u64, u64) -> i32;
     const END_ALL: unsafe extern "C" fn(*mut Raw, usize);
+    const OPEN_SHARED: OpenShared<Self::Plain>;
+    const OPEN_SHARED_IN: OpenSharedIn<Self::Plain>;
+    const GATHER: unsafe extern "C" fn(*mut SharedRaw) -> *mut Raw;
     const HAS: unsafe extern "C" fn(*mut Raw, u64, u32) -> i32;
     const HAS_ALL: unsafe extern "C" fn(*mut Raw, *const u64, usize, *mut i32, u32);
     const NEXT: unsafe extern "C" fn(*mut Raw, *mut Cursor, *mut Self::Plain, u32) -> i32;
@@ -172,6 +239,9 @@ impl<K: Bits> Calls<K, Report<K>> for Keys<K> {
     const REPORT_ALL: unsafe extern "C" fn(*mut Raw, usize, *mut u64, usize, *mut ReportNumbers) -> i32 = vbr_report_all;
     const RENEW_ALL: unsafe extern "C" fn(*mut Raw, usize, u32, u32, u64, u64) -> i32 = vbr_renew_all_seeded;
     const END_ALL: unsafe extern "C" fn(*mut Raw, usize) = vbr_end_all;
+    const OPEN_SHARED: OpenShared<u64> = vbr_open_shared;
+    const OPEN_SHARED_IN: OpenSharedIn<u64> = vbr_open_shared_in;
+    const GATHER: unsafe extern "C" fn(*mut SharedRaw) -> *mut Raw = vbr_gather;
     const HAS: unsafe extern "C" fn(*mut Raw, u64, u32) -> i32 = vbr_has_within;
     const HAS_ALL: unsafe extern "C" fn(*mut Raw, *const u64, usize, *mut i32, u32) = vbr_has_all_within;
     const NEXT: unsafe extern "C" fn(*mut Raw, *mut Cursor, *mut u64, u32) -> i32 = vbr_next_within;
@@ -215,6 +285,9 @@ impl<K: Bits, V: Bits> Calls<(K, V), MapReport<K, V>> for Entries<K, V> {
     const REPORT_ALL: unsafe extern "C" fn(*mut Raw, usize, *mut Pair, usize, *mut ReportNumbers) -> i32 = vbr_map_report_all;
     const RENEW_ALL: unsafe extern "C" fn(*mut Raw, usize, u32, u32, u64, u64) -> i32 = vbr_map_renew_all_seeded;
     const END_ALL: unsafe extern "C" fn(*mut Raw, usize) = vbr_map_end_all;
+    const OPEN_SHARED: OpenShared<Pair> = vbr_map_open_shared;
+    const OPEN_SHARED_IN: OpenSharedIn<Pair> = vbr_map_open_shared_in;
+    const GATHER: unsafe extern "C" fn(*mut SharedRaw) -> *mut Raw = vbr_map_gather;
     const HAS: unsafe extern "C" fn(*mut Raw, u64, u32) -> i32 = vbr_map_has_within;
     const HAS_ALL: unsafe extern "C" fn(*mut Raw, *const u64, usize, *mut i32, u32) = vbr_map_has_all_within;
     const NEXT: unsafe extern "C" fn(*mut Raw, *mut Cursor, *mut Pair, u32) -> i32 = vbr_map_next_within;
@@ -280,15 +353,15 @@ pub(crate) fn with_value<V: Bits, E>(
     Ok(was_there.then(|| V::from_bits(value)))
 }
 
-/// The answer of a call that compares the value of a key, and writes it where the key is there.
+/// The answer of a call that compares the value of a key, and writes its bits where the key is there.
 #[inline]
-pub(crate) fn compared<V: Bits, E>(
+pub(crate) fn compared<E>(
     answer: impl FnOnce(i32) -> Result<bool, E>,
     call: impl FnOnce(&mut u64) -> i32,
-) -> Result<Compared<V>, E> {
+) -> Result<Compared, E> {
     let mut found = 0;
     match call(&mut found) {
-        code::OTHER => Ok(Compared::Other(V::from_bits(found))),
+        code::OTHER => Ok(Compared::Other(found)),
         told => Ok(if answer(told)? { Compared::Equal } else { Compared::Absent }),
     }
 }

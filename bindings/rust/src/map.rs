@@ -181,6 +181,12 @@ impl<K: Bits, V: Bits> PassOf<Entries<K, V>> {
     /// [`OutOfSteps`]. No call was made then.
     #[inline]
     pub fn get_within(&self, key: K, steps: Steps) -> Result<Option<V>, OutOfSteps> {
+        Ok(self.bits_within(key, steps)?.map(V::from_bits))
+    }
+
+    /// The bits of the value of a key, if the key is in the map.
+    #[inline]
+    pub(crate) fn bits_within(&self, key: K, steps: Steps) -> Result<Option<u64>, OutOfSteps> {
         let key = key.to_bits();
         with_value(looked_up, |value| {
             // SAFETY: one thread at a time has the pass, which is not `Sync`, and the call lends it to nobody; nothing else has the

@@ -53,6 +53,36 @@
 /// set.lend_wait().close();
 /// ```
 ///
+/// A call of a handle that processes share without a turn, two turns of it at once, a claim that outlives its set, and one that is
+/// made without `unsafe`.
+///
+/// ```compile_fail,E0599
+/// fn inserts(mine: &mut vbr::Claim) {
+///     let _ = mine.insert(5);
+/// }
+/// ```
+///
+/// ```compile_fail,E0499
+/// fn both(mine: &mut vbr::Claim) {
+///     let (one, other) = (mine.turn(), mine.turn());
+///     drop((one, other));
+/// }
+/// ```
+///
+/// ```compile_fail,E0505
+/// # use vbr::{SharedSet, Shape};
+/// let set: SharedSet = SharedSet::open(Shape::for_keys(8, 1)).unwrap();
+/// let mine = unsafe { set.claim(0) };
+/// set.end();
+/// drop(mine);
+/// ```
+///
+/// ```compile_fail,E0133
+/// fn claims(set: &vbr::SharedSet) {
+///     let _ = set.claim(0);
+/// }
+/// ```
+///
 /// A key or a value of another type than that of the set or the map, and a number that has no bits of its own.
 ///
 /// ```compile_fail,E0308

@@ -6,8 +6,9 @@ use core::fmt;
 use core::marker::PhantomData;
 use core::{ptr, slice};
 
-/// The calls that a handle makes: the right of one thread at a time to make them. A [`HandleOf`](crate::HandleOf) owns its pass, and a loan
-/// ([`LentBy`](crate::LentBy)) has that of the handle on loan; both deref to it, so a function that takes a pass takes either.
+/// The calls that a handle makes: the right of one thread at a time to make them. A [`HandleOf`](crate::HandleOf) owns its pass, a loan
+/// ([`LentBy`](crate::LentBy)) has that of the handle on loan, and a turn ([`Turn`](crate::Turn)) that of a handle which processes
+/// share; all deref to it, so a function that takes a pass takes any of them.
 ///
 /// A pass is reached by reference alone. It has no size, so that none can be put in the place of another: handles stay in the
 /// sets that lend them, whatever a borrower does. It is neither `Clone` nor `Sync`.

@@ -112,6 +112,17 @@ impl Shape {
         Shape { steps: Some(steps), ..self }
     }
 
+    /// The same shape with 66 slots more for each process that may die in a call between two renewals, of those that share a set
+    /// ([`SharedSet`](crate::SharedSet)): so many it may take along. Threads need none.
+    ///
+    /// ```
+    /// # use vbr::Shape;
+    /// assert_eq!(Shape::for_keys(1_000, 2).with_deaths(4).slots, 1_000 + 2 * 64 + 4 * 66);
+    /// ```
+    pub const fn with_deaths(self, deaths: u32) -> Shape {
+        Shape { slots: self.slots.saturating_add(deaths.saturating_mul(66)), ..self }
+    }
+
     /// The same shape with a seed: with the same one and as many buckets each key has the same bucket, so walks have the same
     /// order and calls take as many steps. With seed 0 keys are multiplied by 2^64 over the golden ratio, as all were before
     /// 0.3.0: the best for keys in sequence that nobody chooses. With [`random_seed`] a renewal has another.

@@ -24,8 +24,10 @@ struct Sleepers {
 const NAP: Duration = Duration::from_millis(1);
 
 impl Waiters {
-    /// None wait, if there is memory for them.
+    /// None wait, if there is memory for them. The program is registered for barriers here, where nobody holds a lock: beside other
+    /// threads that takes the system some ten milliseconds.
     pub(crate) fn none() -> Option<Waiters> {
+        is_registered();
         Some(Waiters { count: AtomicUsize::new(0), sleepers: boxed(Sleepers::default())? })
     }
 
@@ -101,10 +103,15 @@ impl Waiters {
 /// Has each running thread of the program pass a memory barrier: what it stored before can be loaded now, and what it loads
 /// afterwards is what this thread stored before, or later. It says whether the system has done so.
 fn fence_all_threads() -> bool {
-    const REGISTER_PRIVATE_EXPEDITED: c_int = 16;
     const PRIVATE_EXPEDITED: c_int = 8;
+    is_registered() && membarrier(PRIVATE_EXPEDITED)
+}
+
+/// Whether the program is registered for such barriers, as it is once.
+fn is_registered() -> bool {
+    const REGISTER_PRIVATE_EXPEDITED: c_int = 16;
     static REGISTERED: OnceLock<bool> = OnceLock::new();
-    *REGISTERED.get_or_init(|| membarrier(REGISTER_PRIVATE_EXPEDITED)) && membarrier(PRIVATE_EXPEDITED)
+    *REGISTERED.get_or_init(|| membarrier(REGISTER_PRIVATE_EXPEDITED))
 }
 
 /// The call of Linux.

@@ -5,8 +5,9 @@ mod both;
 use both::Both;
 use std::alloc::{GlobalAlloc, Layout, System};
 use std::cell::Cell;
-use std::ffi::c_void;
-use vbr::{CloseError, OpenError, RenewError, Set, Shape, Table};
+use std::ffi::{c_int, c_void};
+use std::panic::{catch_unwind, AssertUnwindSafe};
+use vbr::{CloseError, OpenError, RenewError, ReportError, Set, Shape, SharedTable, Table};
 
 /// Counts what this thread asks for, and refuses it while it is told to.
 struct Counting;
@@ -18,18 +19,32 @@ thread_local! {
     static LIBRARY_REFUSES: Cell<bool> = const { Cell::new(false) };
     /// How many blocks the library still gets.
     static LIBRARY_GRANTED: Cell<usize> = const { Cell::new(usize::MAX) };
+    /// Whether the process is killed in place of a refusal.
+    static LIBRARY_DIES: Cell<bool> = const { Cell::new(false) };
 }
 
 extern "C" {
     fn __libc_malloc(size: usize) -> *mut c_void;
     fn __libc_realloc(block: *mut c_void, size: usize) -> *mut c_void;
+    fn fork() -> c_int;
+    fn waitpid(process: c_int, status: *mut c_int, options: c_int) -> c_int;
+    fn kill(process: c_int, signal: c_int) -> c_int;
+    fn getpid() -> c_int;
+    fn _exit(status: c_int) -> !;
 }
+
+const SIGKILL: c_int = 9;
 
 /// Whether the library is refused the block that it asks for.
 fn is_refused() -> bool {
     let granted = LIBRARY_GRANTED.get();
     LIBRARY_GRANTED.set(granted.saturating_sub(usize::from(granted < usize::MAX)));
-    LIBRARY_REFUSES.get() || granted == 0
+    let is_refused = LIBRARY_REFUSES.get() || granted == 0;
+    if is_refused && LIBRARY_DIES.get() {
+        // SAFETY: it takes numbers alone.
+        unsafe { kill(getpid(), SIGKILL) };
+    }
+    is_refused
 }
 
 /// The C library's, which the set's library calls.
@@ -100,6 +115,8 @@ of_sets_and_maps! {
     a_close_that_the_library_refuses
     a_set_that_lends_its_handles_closes_all_or_none
     a_set_that_lends_its_handles_is_renewed_or_not
+    a_set_that_processes_share
+    a_process_that_dies_in_a_report
 }
 
 /// How many bytes a key of a report takes, and an entry.
@@ -233,4 +250,56 @@ fn a_set_that_lends_its_handles_is_renewed_or_not<K: Both>() {
     }
     let report = K::report(set.close().expect("memory"));
     assert_eq!((report.keys, report.free), (vec![1, 2], wanted.slots - 2));
+}
+
+/// What the library notes of a mapping is there for the next one of that size, so each kind has sizes of its own.
+fn shared_shape<K: Both>(keys: usize) -> Shape {
+    Shape::for_keys(u32::try_from(keys + 64 * size_of::<K::Item>()).expect("few"), 2)
+}
+
+fn a_set_that_processes_share<K: Both>() {
+    let (shape, items) = (shared_shape::<K>(1_000), K::items(&[5, 7]));
+    assert_eq!(refused(|| SharedTable::<K>::open_with(shape, &items).err()), Some(OpenError::Memory));
+    assert_eq!(refused_in_the_library(|| SharedTable::<K>::open_with(shape, &items).err()), Some(OpenError::Memory));
+    let set = granted(1, || SharedTable::<K>::open_with(shape, &items)).expect("memory for the items as C has them");
+    // SAFETY: no other process has the set, and no other thread.
+    let (report, renew) = (|| unsafe { set.report() }, || unsafe { set.renew(shape) });
+    assert_eq!(refused(report).err(), Some(ReportError::Memory));
+    assert_eq!(refused_in_the_library(report).err(), Some(ReportError::Memory));
+    // a turn, its calls and a renewal ask for none
+    refused(|| {
+        refused_in_the_library(|| {
+            // SAFETY: as above.
+            let mut mine = unsafe { set.claim(1) };
+            assert_eq!(K::insert(&mut mine.turn(), 6), Ok(true));
+            assert_eq!(renew(), Ok(()));
+        });
+    });
+    let told = K::report(report().expect("memory"));
+    assert_eq!((told.keys, told.free), (vec![5, 6, 7], shape.slots - 3));
+}
+
+/// It leaves the set without its handles, and that is said.
+fn a_process_that_dies_in_a_report<K: Both>() {
+    let shape = shared_shape::<K>(2_000);
+    let set = SharedTable::<K>::open(shape).expect("a set");
+    // SAFETY: the child makes a call of the set, and ends.
+    let child = unsafe { fork() };
+    if child == 0 {
+        LIBRARY_DIES.set(true);
+        // SAFETY: the parent waits; and it ends the process.
+        unsafe {
+            let _ = refused_in_the_library(|| set.report());
+            _exit(0)
+        }
+    }
+    let mut status = 0;
+    // SAFETY: nothing else has the status.
+    assert_eq!((unsafe { waitpid(child, &mut status, 0) }, status), (child, SIGKILL));
+    // SAFETY: the child is dead, and no other thread has the set.
+    unsafe {
+        assert_eq!(set.report().err(), Some(ReportError::Missing));
+        assert_eq!(set.renew(shape), Err(RenewError::Missing));
+        assert!(catch_unwind(AssertUnwindSafe(|| set.inherit(1))).is_err());
+    }
 }

@@ -55,6 +55,37 @@ fn each_type_comes_back_in_its_order() {
     comes_back(&numbers.map(ByBits));
 }
 
+/// What is made of its bits gives others: they lose their last digit.
+#[derive(Clone, Copy, Debug, PartialEq, Eq)]
+struct Tens(u64);
+
+impl Bits for Tens {
+    fn to_bits(self) -> u64 {
+        self.0
+    }
+
+    fn from_bits(bits: u64) -> Tens {
+        Tens(bits / 10 * 10)
+    }
+}
+
+/// A call that asks for the next value as often as it finds another one than it expects ends here too.
+#[test]
+fn calls_end_where_bits_do_not_come_back() {
+    let mut map = Map::handles_with(Shape::for_keys(8, 1), &[(5, Tens(15))]).expect("a map").remove(0);
+    let mut asked = 0;
+    let mut add = |value: Tens| {
+        asked += 1;
+        assert!(asked < 9, "it is asked without end");
+        Tens(value.0 + 15)
+    };
+    assert_eq!(map.fetch_update(5, |value| Some(add(value))), Ok(Some(Tens(10))));
+    assert_eq!(map.get(5), Ok(Some(Tens(20)))); // of 25
+    assert_eq!(map.entry(5).and_modify(|value| *value = add(*value)).or_insert(Tens(0)), Ok(Tens(35)));
+    assert_eq!(map.retain(|_, value| add(value) == Tens(0)), Ok(1));
+    assert_eq!(map.has(5), Ok(false));
+}
+
 #[test]
 fn bits_that_are_worked_by_hand() {
     assert_eq!((200_u8.to_bits(), u64::MAX.to_bits(), true.to_bits(), 'k'.to_bits()), (200, u64::MAX, 1, 0x6b));
