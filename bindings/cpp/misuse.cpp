@@ -1,5 +1,5 @@
 // What must not compile. Each line that is said to be refused is, by each compiler, and no other line is: bindings/headers sees to it.
-#include "vbr.hpp"
+#include "vbr_shared.hpp"
 
 #include <string>
 
@@ -100,6 +100,55 @@ void handles(vbr::handle &set, vbr::map_handle &map, vbr::set<std::uint32_t>::ha
     loan->set_steps(few); // refused
     vbr::pass &pass = *loan;
     static_cast<void>(pass.insert(5));
+}
+
+// A walk isn't one of a pass that ends before it.
+std::uint64_t walks(vbr::handle &set, vbr::claim &claim, vbr::map_claim &of_map) {
+    std::uint64_t sum = 0;
+    for (std::uint64_t key : claim.turn().keys()) sum += key; // refused
+    for (auto [key, value] : of_map.turn().entries()) sum += key * value; // refused
+    for (std::uint64_t key : vbr::handle(std::move(set)).keys()) sum += key; // refused
+    auto turn = claim.turn();
+    for (std::uint64_t key : turn.keys()) sum += key;
+    return sum;
+}
+
+// Calls by the handle of a shared set are made in a turn, whose pass stays there, and a claim is one of its kind.
+void processes(vbr::shared_set &set, vbr::shared_map &map, vbr::claim &claim, vbr::map_claim &of_map, std::vector<vbr::handle> &all) {
+    static_cast<void>(claim.insert(5)); // refused
+    static_cast<void>(claim->insert(5)); // refused
+    static_cast<void>(set.insert(5)); // refused
+    static_cast<void>(set.claim(1).insert(5)); // refused
+    auto turn = claim.turn();
+    auto copied = turn; // refused
+    auto moved = std::move(turn); // refused
+    vbr::pass taken_out = std::move(turn); // refused
+    vbr::handle as_handle = std::move(turn); // refused
+    vbr::pass &too_short = claim.turn(); // refused
+    turn.set_steps(few); // refused
+    static_cast<void>(turn.close()); // refused
+    std::swap(turn, turn); // refused
+    vbr::pass &pass = turn;
+    static_cast<void>(pass.insert(5));
+    vbr::claim copy = claim; // refused
+    vbr::claim of_a_map = std::move(of_map); // refused
+    vbr::map_pass &map_pass = turn; // refused
+    static_cast<void>(of_map.turn().insert(5)); // refused
+    static_cast<void>(of_map.turn().insert(5, 70));
+    vbr::shared_set second = set; // refused
+    set = std::move(map); // refused
+    vbr::shared_set from_map = vbr::open_map_shared(shape, 1).value(); // refused
+    vbr::shared_set not_asked = vbr::open_shared(shape, 1); // refused
+    vbr::lender lender(std::move(set)); // refused
+    static_cast<void>(vbr::handle::report_all(set)); // refused
+    claim.turn(); // refused
+    set.claim(1); // refused
+    set.inherit(1); // refused
+    set.renew(shape); // refused
+    set.report(); // refused
+    vbr::open_shared(shape, 1); // refused
+    if (set.inherit(1)) return; // refused
+    if (set.inherit(1).value() && set.renew(shape) && set.claim(1)) all.clear();
 }
 
 // Keys and values have no padding and at most 64 bits, and those of a range fit without doubt.

@@ -40,7 +40,7 @@
    A handle may go to another thread by whatever orders the two. Where a thread ends, or an exception leaves a function, the
    handles that it owned end too, which closes them; nothing is lost. What vbr(3) says of cancelled threads, signals and forks
    holds here as well: a signal handler inserts, removes, changes values, looks up and walks by `next`, asks results by has_value, and
-   opens, closes and ends no handle. */
+   opens, closes and ends no handle. vbr_shared.hpp has sets and maps that processes share. */
 #ifndef VBR_HPP
 #define VBR_HPP
 
@@ -152,7 +152,7 @@ enum class [[nodiscard]] refusal : std::int32_t {
     no_slot = VBR_NO_SLOT,           /* the handle found no slot for a node; no call was made; insert, get_or_insert: the key is absent */
     epoch_spent = VBR_EPOCH_SPENT,   /* a node is wanted and the last epoch is spent; no call was made; renew the set */
     no_handle = VBR_NO_HANDLE,       /* the handle is empty; a lender has none */
-    on_loan = VBR_IN_USE,            /* of a lender: a handle is on loan, and all stays as it was */
+    on_loan = VBR_IN_USE,            /* of a lender, and of processes: a handle is on loan, or in a turn; all stays as it was */
     bad_shape = VBR_BAD_SHAPE,       /* open, renew: a number of the shape is out of range */
     bad_count = VBR_BAD_COUNT,       /* open: the number of handles is not from 1 to 64, of open_many to 65,536 */
     no_memory = VBR_NO_MEMORY,       /* open: nothing was done; else all stays as it was */
@@ -858,17 +858,17 @@ public:
         return detail::yes_or_no(vbr_remove_within(&this->raw, detail::word_of(key), budget.count()));
     }
 
-    /* All keys, one after another.
+    /* All keys, one after another. The pass has a name, since it has to live as long as the walk.
 
            for (std::uint64_t key : mine.keys()) sum += key; */
-    basic_walk<kind> keys() noexcept { return this->walk(nullptr, this->steps()); }
-    basic_walk<kind> keys_within(vbr::steps budget) noexcept { return this->walk(nullptr, budget); }
+    basic_walk<kind> keys() & noexcept { return this->walk(nullptr, this->steps()); }
+    basic_walk<kind> keys_within(vbr::steps budget) & noexcept { return this->walk(nullptr, budget); }
 
     /* The same from a cursor on, which moves along: a walk that was left, or came to no end, goes on from there.
 
            for (std::uint64_t key : mine.keys(from)) sum += key; */
-    basic_walk<kind> keys(cursor &from) noexcept { return this->walk(&from, this->steps()); }
-    basic_walk<kind> keys_within(cursor &from, vbr::steps budget) noexcept { return this->walk(&from, budget); }
+    basic_walk<kind> keys(cursor &from) & noexcept { return this->walk(&from, this->steps()); }
+    basic_walk<kind> keys_within(cursor &from, vbr::steps budget) & noexcept { return this->walk(&from, budget); }
 };
 
 /* That of a handle to a map.
@@ -1003,17 +1003,17 @@ public:
         return std::optional<Value>();
     }
 
-    /* All entries, one after another.
+    /* All entries, one after another. The pass has a name, as for keys.
 
            for (auto [key, value] : mine.entries()) sum += key * value; */
-    basic_walk<kind> entries() noexcept { return this->walk(nullptr, this->steps()); }
-    basic_walk<kind> entries_within(vbr::steps budget) noexcept { return this->walk(nullptr, budget); }
+    basic_walk<kind> entries() & noexcept { return this->walk(nullptr, this->steps()); }
+    basic_walk<kind> entries_within(vbr::steps budget) & noexcept { return this->walk(nullptr, budget); }
 
     /* The same from a cursor on, which moves along: a walk that was left, or came to no end, goes on from there.
 
            for (auto [key, value] : mine.entries(from)) sum += key * value; */
-    basic_walk<kind> entries(cursor &from) noexcept { return this->walk(&from, this->steps()); }
-    basic_walk<kind> entries_within(cursor &from, vbr::steps budget) noexcept { return this->walk(&from, budget); }
+    basic_walk<kind> entries(cursor &from) & noexcept { return this->walk(&from, this->steps()); }
+    basic_walk<kind> entries_within(cursor &from, vbr::steps budget) & noexcept { return this->walk(&from, budget); }
 };
 
 /* What a handle to a set and one to a map have in common; each may be empty. One thread at a time makes calls with it, by its pass. Its
@@ -1244,6 +1244,31 @@ typename map_of<Key, Value>::item taken_as(const map_of<Key, Value> *, const Fro
     return {static_cast<Key>(key), static_cast<Value>(value)};
 }
 
+/* Makes a call with the items of a range: those of an array or a vector where they are, and others copied. */
+template <class Kind, class Items, class Call>
+auto with_items(const Items &items, const Call &call) {
+    if constexpr (std::is_same_v<typename array_of<Items>::type, typename Kind::item>) {
+        return call(std::data(items), std::size(items));
+    } else {
+        std::vector<typename Kind::item> copy;
+        for (const auto &each : items) copy.push_back(taken_as(static_cast<const Kind *>(nullptr), each));
+        return call(copy.data(), copy.size());
+    }
+}
+
+/* Makes a call with items as the library has them. */
+template <class Kind, class Call>
+auto with_words(const typename Kind::item *items, std::size_t count, const Call &call) {
+    static constexpr typename Kind::words none = {};
+    if constexpr (Kind::is_plain) {
+        return call(count ? items : &none);
+    } else {
+        std::vector<typename Kind::words> copy;
+        for (std::size_t i = 0; i < count; i++) copy.push_back(Kind::words_of(items[i]));
+        return call(count ? copy.data() : &none);
+    }
+}
+
 /* The openings of sets, and those of maps; vbr::set and vbr::map have them. */
 template <class Handle>
 struct openings {
@@ -1268,13 +1293,7 @@ public:
     }
     template <class Items>
     static result<std::vector<Handle>> open_with(const shape &wanted, std::size_t count, const Items &items) {
-        if constexpr (std::is_same_v<typename array_of<Items>::type, item>) {
-            return open_with(wanted, count, std::data(items), std::size(items));
-        } else {
-            std::vector<item> copy;
-            for (const auto &each : items) copy.push_back(taken_as(static_cast<const kind *>(nullptr), each));
-            return open_with(wanted, count, copy.data(), copy.size());
-        }
+        return with_items<kind>(items, [&](const item *first, std::size_t many) { return open_with(wanted, count, first, many); });
     }
     static result<std::vector<Handle>> open_many(const shape &wanted, std::size_t count, const item *items = nullptr,
                                                  std::size_t item_count = 0) {
@@ -1285,20 +1304,13 @@ private:
     template <class Call>
     static result<std::vector<Handle>> opened(const Call &call, const shape &wanted, std::size_t count, std::size_t most, const item *items,
                                               std::size_t item_count) {
-        static constexpr typename kind::words none = {};
-        std::vector<typename kind::words> copy;
-        const typename kind::words *words = &none;
-        if constexpr (kind::is_plain) {
-            if (item_count) words = items;
-        } else {
-            for (std::size_t i = 0; i < item_count; i++) copy.push_back(kind::words_of(items[i]));
-            if (item_count) words = copy.data();
-        }
         auto shared = std::make_shared<detail::shared<kind>>();
         std::vector<Handle> handles(count <= most ? count : 0);
         shared->parked.resize(handles.size());
         std::vector<typename kind::raw> raw(handles.empty() ? 1 : handles.size());
-        vbr_answer code = call(raw.data(), handles.size(), wanted, wanted.seed ? *wanted.seed : random_seed(), words, item_count);
+        vbr_answer code = with_words<kind>(items, item_count, [&](const typename kind::words *words) {
+            return call(raw.data(), handles.size(), wanted, wanted.seed ? *wanted.seed : random_seed(), words, item_count);
+        });
         if (code != VBR_OK) return refusal{code};
         shared->open.store(count, std::memory_order_relaxed);
         shared->count = count;
