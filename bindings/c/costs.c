@@ -2,7 +2,7 @@
    A set of a million keys; with `largest` also the greatest one there can be, empty and with sixteen million keys. A renewal by
    hand is a close of all handles and an opening with the keys of the report, and takes no longer than these two do; one by
    vbr_renew_all takes no more processor time than one by hand. To give all handles up takes less than a close, which has a report.
-   All but for a margin for what else the machine does. */
+   All but for a margin for what else the machine does, whose noise more rounds take away. */
 #include "vbr.h"
 
 #include <stdio.h>
@@ -12,7 +12,7 @@
 
 #define CHECK(x) do { if (!(x)) { fprintf(stderr, "costs.c:%d: %s\n", __LINE__, #x); exit(1); } } while (0)
 
-enum { HANDLES = 4, ROUNDS = 5 };
+enum { HANDLES = 4, ROUNDS = 5, MOST_ROUNDS = 50 };
 
 static double now(void) {
     struct timespec t;
@@ -25,8 +25,9 @@ static double least(double a, double b) { return a < b ? a : b; }
 static void measure(const char *what, uint32_t slots, uint32_t buckets, uint32_t count) {
     double opening = 1e9, closing = 1e9, renewal = 1e9, ending = 1e9, by_hand = 1e9, at_once = 1e9;
     uint64_t *keys = calloc(slots, sizeof *keys), step = UINT64_MAX / (count + 1);
+    int is_well = 0;
     CHECK(keys);
-    for (int round = 0; round < ROUNDS; round++) {
+    for (int round = 0; round < ROUNDS || (!is_well && round < MOST_ROUNDS); round++) {
         vbr_handle handle[HANDLES] = {{0}};
         vbr_report report = {0};
         for (uint64_t i = 0; i < count; i++) keys[i] = i * step + (i * 0x9E3779B97F4A7C15u >> 20) % step;
@@ -47,9 +48,10 @@ static void measure(const char *what, uint32_t slots, uint32_t buckets, uint32_t
         vbr_end_all(handle, HANDLES);
         ending = least(ending, now() - ends);
         opening = least(opening, opened - begun), closing = least(closing, closed - opened), renewal = least(renewal, renewed - opened);
+        is_well = renewal < 3 * (opening + closing) && at_once < 1.5 * by_hand && ending < 1.5 * closing;
     }
     free(keys);
-    CHECK(renewal < 3 * (opening + closing) && at_once < 1.5 * by_hand && ending < 1.5 * closing);
+    CHECK(is_well);
     printf("%-44s opening %6.3f, closing %6.3f, renewal %6.3f, ending %6.3f s; processor time of one by hand %6.3f, at once %6.3f s\n", what, opening, closing, renewal, ending,
            by_hand, at_once);
 }
