@@ -15,6 +15,7 @@ SCRIPT := crates/vbr_example/data/phases.script
 BENCH ?= --short
 SOAK ?= 1000000000
 REALTIME ?= 100000000
+KILLED ?= 500
 FUZZ ?= 9000000 1000000
 COMPARE ?=
 PREBUILT ?=
@@ -43,7 +44,7 @@ help:
 	@echo 'make clients             build and run the clients in C and Rust over the library'
 	@echo 'make faults              refuse memory call by call, and try the program in a shell: statuses, streams, memory'
 	@echo 'make soak                a thousand million calls of four threads on set after set, and as many on maps, each answer balanced;'
-	@echo '                         and a hundred million of each in an order that keeps to real time'
+	@echo '                         a hundred million of each in an order that keeps to real time; and over 30,000 kills of processes'
 	@echo 'make fuzz                ten million random inputs for the library and the program, on all processors'
 	@echo 'make bench               prove and run the measurements, in their short form, and print a CSV table'
 	@echo 'make bench BENCH=        the same in their full form; BENCH has the options of crates/vbr_bench'
@@ -194,6 +195,9 @@ soak:
 	@cc -std=c11 -O2 -Wall -Wextra -Ibindings/include -pthread -o target/clients/realtime bindings/c/realtime.c -Ltarget -lvbr
 	@target/clients/realtime sets $(REALTIME)
 	@target/clients/realtime maps $(REALTIME)
+	@cc -std=c11 -O2 -Wall -Wextra -Ibindings/include -pthread -o target/clients/killed bindings/c/killed.c -Ltarget -lvbr
+	@target/clients/killed order $(KILLED)
+	@target/clients/killed balance $(KILLED)
 
 fuzz:
 	@tools/needs fuzz
