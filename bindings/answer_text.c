@@ -19,9 +19,10 @@ const char *vbr_answer_text(int answer)
     case -8: return "no memory";
     case -9: return "the set is lost";
     case -10: return "the keys do not ascend, or are too many";
-    case -11: return "no room for the keys";
+    case -11: return "no room for the keys, or in the file";
     case -12: return "a handle is missing";
     case -13: return "handles of different sets";
+    case -14: return "a slot is in hand, or none is";
     default: return "no answer of this library";
     }
 }

@@ -3,7 +3,8 @@
    or which value a key has, and nobody asks. And where no key is looked up, keys and answers may be null. The proved exports are of a
    pointer that is there; in the archive they have the names close_handle, drop_handle, map_close_handle, map_drop_handle,
    map_get_found, map_replace_found and so on, and these stand before them. So do those of look-ups of several keys, has_all_keys,
-   map_has_all_keys and map_get_all_keys, which get how many the answers are: they are as many as the keys.
+   map_has_all_keys and map_get_all_keys, which get how many the answers are: they are as many as the keys. And so do reports with
+   slots, report_keys_slots and map_report_entries_slots, which get how much room the slots have: as much as the keys or entries.
 
    It includes nothing, so that the kit's compiler makes the same bytes of it on every machine. */
 enum { VBR_NO_HANDLE = -4 }; /* of vbr.h */
@@ -26,6 +27,8 @@ int map_replace_found(void *handle, word key, word value, word *found, unsigned 
 int vbr_map_replace_within(void *handle, word key, word value, word *found, unsigned steps);
 int map_put_found(void *handle, word key, word value, word *found, unsigned steps);
 int vbr_map_put_within(void *handle, word key, word value, word *found, unsigned steps);
+int map_put_held_found(void *handle, word key, word value, word *found, unsigned steps);
+int vbr_map_put_held_within(void *handle, word key, word value, word *found, unsigned steps);
 int map_get_or_insert_found(void *handle, word key, word value, word *found, unsigned steps);
 int vbr_map_get_or_insert_within(void *handle, word key, word value, word *found, unsigned steps);
 int map_compare_exchange_found(void *handle, word key, word expected, word value, word *found, unsigned steps);
@@ -38,6 +41,10 @@ void map_has_all_keys(void *handle, const word *keys, word count, int *answers, 
 void vbr_map_has_all_within(void *handle, const word *keys, word count, int *answers, unsigned steps);
 void map_get_all_keys(void *handle, const word *keys, word count, void *found, word found_count, unsigned steps);
 void vbr_map_get_all_within(void *handle, const word *keys, word count, void *found, unsigned steps);
+int report_keys_slots(void *handles, word count, void *keys, word room, void *slots, word slot_room, void *report);
+int vbr_report_slots(void *handles, word count, void *keys, void *slots, word room, void *report);
+int map_report_entries_slots(void *handles, word count, void *entries, word room, void *slots, word slot_room, void *report);
+int vbr_map_report_slots(void *handles, word count, void *entries, void *slots, word room, void *report);
 
 int vbr_close(void *handle, void *keys, word room, void *report)
 {
@@ -81,6 +88,11 @@ int vbr_map_put_within(void *handle, word key, word value, word *found, unsigned
     return map_put_found(handle, key, value, found ? found : &(word){0}, steps);
 }
 
+int vbr_map_put_held_within(void *handle, word key, word value, word *found, unsigned steps)
+{
+    return map_put_held_found(handle, key, value, found ? found : &(word){0}, steps);
+}
+
 int vbr_map_get_or_insert_within(void *handle, word key, word value, word *found, unsigned steps)
 {
     return map_get_or_insert_found(handle, key, value, found ? found : &(word){0}, steps);
@@ -109,4 +121,14 @@ void vbr_map_has_all_within(void *handle, const word *keys, word count, int *ans
 void vbr_map_get_all_within(void *handle, const word *keys, word count, void *found, unsigned steps)
 {
     if (count) map_get_all_keys(handle, keys, count, found, count, steps);
+}
+
+int vbr_report_slots(void *handles, word count, void *keys, void *slots, word room, void *report)
+{
+    return report_keys_slots(handles, count, keys, room, slots, room, report);
+}
+
+int vbr_map_report_slots(void *handles, word count, void *entries, void *slots, word room, void *report)
+{
+    return map_report_entries_slots(handles, count, entries, room, slots, room, report);
 }

@@ -17,6 +17,7 @@ void *memcpy(void *to, const void *from, word size);
 void *mmap(void *start, word length, int protection, int flags, int file, long offset);
 int munmap(void *start, word length);
 int madvise(void *start, word length, int advice);
+long pread(int file, void *bytes, word count, long from);
 
 void *block_taken(word size);
 void *block_resized(void *block, word size);
@@ -24,7 +25,7 @@ void block_freed(void *block);
 
 enum { READ_AND_WRITE = 3, SHARED = 1, ANONYMOUS = 32, NO_RESERVE = 0x4000 }; /* of mmap, in the kernel's interface */
 enum { GIVEN_BACK = 9 };                                                    /* MADV_REMOVE: the pages go back to the system */
-enum { VBR_OK = 0, VBR_NO = 0, VBR_YES = 1, VBR_NO_HANDLE = -4, VBR_BAD_SHAPE = -6, VBR_BAD_COUNT = -7, VBR_NO_MEMORY = -8, VBR_BAD_KEYS = -10 };
+enum { VBR_OK = 0, VBR_NO = 0, VBR_YES = 1, VBR_NO_HANDLE = -4, VBR_BAD_SHAPE = -6, VBR_BAD_COUNT = -7, VBR_NO_MEMORY = -8, VBR_BAD_KEYS = -10, VBR_NO_ROOM = -11 };
 enum { LINE = 64, PAGE = 4096, LARGE = 1 << 20, MAX_SLOTS = 16777215, MAX_BUCKETS = 16777216, MAX_MANY = 65536 };
 
 static const word MAX_EPOCH = 549755813887; /* of vbr.h, as the numbers above */
@@ -32,7 +33,7 @@ static const word MAX_EPOCH = 549755813887; /* of vbr.h, as the numbers above */
 /* A handle as vbr.h has it, and as it lies in a mapping, where it has lines of the cache of its own: its mark is stored at each call. */
 typedef struct plain {
     void *owned;
-    unsigned steps, unused;
+    unsigned steps, in_call;
 } plain;
 
 typedef struct handle {
@@ -181,8 +182,8 @@ void *block_resized(void *bytes, word size)
 
 int vbr_open_many_seeded(void *handles, word count, unsigned slots, unsigned buckets, word last_epoch, word seed, const void *keys, word key_count);
 int vbr_map_open_many_seeded(void *handles, word count, unsigned slots, unsigned buckets, word last_epoch, word seed, const void *entries, word entry_count);
-int vbr_renew_all_seeded(void *handles, word count, unsigned slots, unsigned buckets, word last_epoch, word seed);
-int vbr_map_renew_all_seeded(void *handles, word count, unsigned slots, unsigned buckets, word last_epoch, word seed);
+int renew_keys_seeded(void *handles, word count, unsigned slots, unsigned buckets, word last_epoch, word seed);
+int renew_entries_seeded(void *handles, word count, unsigned slots, unsigned buckets, word last_epoch, word seed);
 void forsake_handle(void *handle);
 void map_forsake_handle(void *handle);
 word vbr_seed(void *handle);
@@ -193,6 +194,8 @@ int vbr_open_shared(handle **handles, word count, unsigned slots, unsigned bucke
 int vbr_map_open_shared(handle **handles, word count, unsigned slots, unsigned buckets, word last_epoch, const void *entries, word entry_count);
 int vbr_open_shared_in(int file, handle **handles, word count, unsigned slots, unsigned buckets, word last_epoch, const void *keys, word key_count);
 int vbr_map_open_shared_in(int file, handle **handles, word count, unsigned slots, unsigned buckets, word last_epoch, const void *entries, word entry_count);
+int vbr_renew_all_seeded(void *handles, word count, unsigned slots, unsigned buckets, word last_epoch, word seed);
+int vbr_map_renew_all_seeded(void *handles, word count, unsigned slots, unsigned buckets, word last_epoch, word seed);
 int vbr_renew_shared(handle *handles, unsigned slots, unsigned buckets, word last_epoch);
 int vbr_inherit(handle *handle);
 plain *vbr_gather(handle *handles);
@@ -251,6 +254,14 @@ static int are_keys(const word *items, word count, word apart, unsigned slots)
     return 1;
 }
 
+/* Whether a file ends before so many bytes: a process that touches what lies behind its end is ended by a signal. Where the file can't be
+   read, the mapping is refused. */
+static int is_shorter(int file, word size)
+{
+    char last;
+    return pread(file, &last, 1, (long)(size - 1)) == 0;
+}
+
 /* The proved opening makes the same tests; here they come before the mapping, so that they are answered in the order of
    vbr_open_many. */
 static int open_in(int kind, int file, word is_map, handle **handles, word count, unsigned slots, unsigned buckets, word last_epoch, const void *items, word item_count)
@@ -261,6 +272,7 @@ static int open_in(int kind, int file, word is_map, handle **handles, word count
     if (item_count == 0) items = &nothing;
     if (!are_keys(items, item_count, is_map ? 2 : 1, slots)) return VBR_BAD_KEYS;
     word size = vbr_shared_size(count, slots, buckets);
+    if (kind != ANONYMOUS && is_shorter(file, size)) return VBR_NO_ROOM;
     struct share *share = mmap(0, size, READ_AND_WRITE, SHARED | NO_RESERVE | kind, file, 0);
     if (share == (void *)-1) return VBR_NO_MEMORY;
     *share = (struct share){.size = size, .top = (char *)(share + 1), .count = count, .is_map = is_map};
@@ -313,6 +325,23 @@ int vbr_inherit(handle *it)
     return VBR_NO;
 }
 
+/* The proved renewals, whose memory comes from where the handles lie: from their mapping, or from malloc. */
+int vbr_renew_all_seeded(void *handles, word count, unsigned slots, unsigned buckets, word last_epoch, word seed)
+{
+    filled = share_of(handles);
+    int told = renew_keys_seeded(handles, count, slots, buckets, last_epoch, seed);
+    filled = 0;
+    return told;
+}
+
+int vbr_map_renew_all_seeded(void *handles, word count, unsigned slots, unsigned buckets, word last_epoch, word seed)
+{
+    filled = share_of(handles);
+    int told = renew_entries_seeded(handles, count, slots, buckets, last_epoch, seed);
+    filled = 0;
+    return told;
+}
+
 int vbr_renew_shared(handle *handles, unsigned slots, unsigned buckets, word last_epoch)
 {
     struct share *share = share_of(handles);
@@ -322,10 +351,8 @@ int vbr_renew_shared(handle *handles, unsigned slots, unsigned buckets, word las
         if (!share->handles[i].owned) return VBR_NO_HANDLE;
     for (word i = 0; i < share->count; i++) vbr_inherit(&share->handles[i]);
     plain *all = gather(share);
-    filled = share;
     int told = share->is_map ? vbr_map_renew_all_seeded(all, share->count, slots, buckets, last_epoch, vbr_map_seed(all))
                              : vbr_renew_all_seeded(all, share->count, slots, buckets, last_epoch, vbr_seed(all));
-    filled = 0;
     spread(share);
     return told;
 }

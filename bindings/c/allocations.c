@@ -1,6 +1,9 @@
 /* Each allocation is refused in turn, and then all from some allocation on; nothing is lost or leaked.
-   Link with -Wl,--wrap=malloc,--wrap=realloc,--wrap=free. */
+   Link with -Wl,--wrap=malloc,--wrap=calloc,--wrap=realloc,--wrap=free. */
 #include "vbr.h"
+#ifndef OF_VALUES
+#include "vbr_records.h"
+#endif
 
 #include <stdio.h>
 #include <stdlib.h>
@@ -8,6 +11,7 @@
 #define CHECK(x) do { if (!(x)) { fprintf(stderr, "allocations.c:%d: %s\n", __LINE__, #x); return 1; } } while (0)
 
 void *__real_malloc(size_t size);
+void *__real_calloc(size_t count, size_t size);
 void *__real_realloc(void *block, size_t size);
 void __real_free(void *block);
 
@@ -24,6 +28,12 @@ static int refuses(void) {
 
 void *__wrap_malloc(size_t size) {
     void *block = refuses() ? NULL : __real_malloc(size);
+    if (block) blocks++;
+    return block;
+}
+
+void *__wrap_calloc(size_t count, size_t size) {
+    void *block = refuses() ? NULL : __real_calloc(count, size);
     if (block) blocks++;
     return block;
 }
@@ -124,6 +134,40 @@ static int renewed_with(long n, int *done) {
     return 0;
 }
 
+#ifndef OF_VALUES
+/* Records are carried over a renewal while the nth allocation is refused: both are done, or neither. */
+static int carried_with(long n, int *done) {
+    vbr_map_handle map[2] = {{0}};
+    vbr_records records = {0};
+    uint64_t seen[3] = {0};
+    vbr_incarnation at = {0, 0, 0};
+    CHECK(vbr_map_open(map, 2, 8, 2, 100) == VBR_OK && vbr_records_open(&records, 8, sizeof seen, NULL) == VBR_OK);
+    for (uint64_t key = 6; key < 8; key++) {
+        uint32_t slot = 0;
+        uint64_t mine[3] = {key, key, key};
+        CHECK(vbr_map_hold(&map[1], &slot) == VBR_YES);
+        vbr_records_write(&records, slot, mine);
+        CHECK(vbr_map_insert_held(&map[1], 13 - key, key) == VBR_YES); /* so they change places */
+    }
+    allowed = n;
+    vbr_answer told = vbr_map_records_renew(map, 2, 16, 4, 1000, &records, NULL);
+    *done = told == VBR_OK && allowed >= 0;
+    allowed = -1;
+    CHECK(told == VBR_OK || told == VBR_NO_MEMORY);
+    CHECK(records.slots == (told == VBR_OK ? 16 : 8) && vbr_map_slots(&map[0]) == records.slots);
+    for (uint64_t key = 6; key < 8; key++) {
+        CHECK(vbr_map_records_read(&map[0], &records, 13 - key, seen, &at) == VBR_YES && at.value == key);
+        CHECK(seen[0] == key && seen[1] == key && seen[2] == key);
+    }
+    vbr_map_end_all(map, 2);
+    vbr_records_close(&records);
+    CHECK(blocks == 0);
+    return 0;
+}
+#else
+static int carried_with(long n, int *done) { return *done = n >= 0, 0; }
+#endif
+
 /* A set whose handles are given up asks for no memory, and frees all. */
 static int ended(void) {
     vbr_handle handle[3] = {{0}};
@@ -142,6 +186,9 @@ int main(void) {
         int done = 0;
         for (long n = 0; !done; n++)
             if (renewed_with(n, &done)) return 1;
+        done = 0;
+        for (long n = 0; !done; n++)
+            if (carried_with(n, &done)) return 1;
     }
     for (int turn = 0; turn < 8; turn++) {
         int done = 0;

@@ -26,10 +26,11 @@ static int empty_handles(void) {
 static int words(void) {
     static const char *const texts[] = {"no, or done", "out of steps", "no slot", "the last epoch is spent", "no handle", "a handle is in use",
         "a number is out of range", "too few handles, or too many", "no memory", "the set is lost", "the keys do not ascend, or are too many",
-        "no room for the keys", "a handle is missing", "handles of different sets"};
+        "no room for the keys, or in the file", "a handle is missing", "handles of different sets"};
     for (int i = VBR_MIXED; i <= VBR_OK; i++) CHECK(!strcmp(vbr_answer_text((vbr_answer)i), texts[-i]));
     CHECK(!strcmp(vbr_answer_text(VBR_YES), "yes") && !strcmp(vbr_answer_text(VBR_OTHER), "another value"));
-    CHECK(!strcmp(vbr_answer_text((vbr_answer)-14), "no answer of this library"));
+    CHECK(!strcmp(vbr_answer_text(VBR_HELD), "a slot is in hand, or none is"));
+    CHECK(!strcmp(vbr_answer_text((vbr_answer)-15), "no answer of this library"));
     return 0;
 }
 

@@ -1,6 +1,7 @@
 /* The headers in C99 to C23 and C++11 to C++23, with every warning: each name of them is used once, and the program runs. */
 #include "vbr.h"
 #include "vbr_lend.h"
+#include "vbr_records.h"
 #include "vbr_shared.h"
 
 #include <stdio.h>
@@ -39,6 +40,7 @@ static const char *text_of(vbr_answer answer) {
     case VBR_NO_ROOM: return "no room";
     case VBR_MISSING: return "missing";
     case VBR_MIXED: return "mixed";
+    case VBR_HELD: return "held";
     }
     return "another";
 }
@@ -101,6 +103,7 @@ static int check(void) {
     vbr_cursor cursor = VBR_CURSOR_BEGIN;
     uint64_t keys[KEYS] = {0}, key = 0;
     CHECK(sizeof(vbr_cursor) == 16 && sizeof(vbr_answer) == 4 && sizeof(vbr_handle) == 16 && sizeof(vbr_report) == 24);
+    CHECK(sizeof(vbr_map_handle) == 16 && offsetof(vbr_handle, in_call) == 12 && offsetof(vbr_map_handle, in_call) == 12);
     CHECK(VBR_VERSION == 1000000 * VBR_VERSION_MAJOR + 1000 * VBR_VERSION_MINOR + VBR_VERSION_PATCH);
     CHECK(VBR_AMPLE_STEPS >= 100000 + VBR_MAX_SLOTS / 64 && VBR_AMPLE_STEPS >= 18 * 3 + VBR_MAX_SLOTS / 64 + 20);
     CHECK(VBR_MAX_HANDLES == 64 && VBR_MAX_BUCKETS == 16777216 && VBR_MAX_EPOCH == (UINT64_C(1) << 39) - 1);
@@ -128,6 +131,61 @@ static int check(void) {
     CHECK(vbr_close(&handle[0], keys, KEYS, &report) == VBR_NO && vbr_close(&handle[1], keys, KEYS, &report) == VBR_YES);
     CHECK(report.live == 1 && keys[0] == 5);
     vbr_drop(&none), vbr_end_all(handle, HANDLES);
+    return 0;
+}
+
+static int check_slots(void) {
+    static vbr_handle handle[HANDLES], none;
+    static uint64_t block[SLOTS];
+    uint32_t slot = SLOTS, slots[KEYS] = {0};
+    uint64_t keys[KEYS] = {0}, mine = 70, seen = 0;
+    vbr_incarnation at = {0, 0, 0};
+    vbr_records records = EMPTY;
+    vbr_report report = EMPTY;
+    THROWS_NONE(vbr_hold(&none, &slot), vbr_records_read(&none, &records, 5, &seen, &at));
+    CHECK(sizeof(vbr_incarnation) == 24 && vbr_open(handle, HANDLES, SLOTS, KEYS, VBR_MAX_EPOCH) == VBR_OK);
+    CHECK(vbr_records_size(SLOTS, sizeof mine) == sizeof block && vbr_records_open(&records, SLOTS, sizeof mine, block) == VBR_OK);
+    CHECK(vbr_hold(&handle[0], &slot) == VBR_YES && text_of(vbr_hold_within(&handle[0], &slot, 500))[0] == 'h' && slot < SLOTS);
+    CHECK(vbr_let_go(&handle[0]) == VBR_YES && vbr_hold_within(&handle[0], &slot, 500) == VBR_YES);
+    vbr_records_write(&records, slot, &mine);
+    CHECK(vbr_insert_held(&handle[0], 5) == VBR_YES && vbr_insert_held_within(&handle[0], 6, 500) == VBR_HELD);
+    CHECK(vbr_get_entry(&handle[1], 5, &at) == VBR_YES && vbr_get_entry_within(&handle[1], 6, &at, 500) == VBR_NO && at.slot == slot);
+    vbr_records_copy(&records, at.slot, &seen);
+    CHECK(vbr_is_still(&handle[1], &at) == VBR_YES && seen == 70 && vbr_is_still(&none, &at) == VBR_NO_HANDLE);
+    CHECK(vbr_records_read(&handle[1], &records, 5, &seen, &at) == VBR_YES && vbr_records_read(&none, &records, 5, &seen, &at) == VBR_NO_HANDLE);
+    CHECK(vbr_report_slots(handle, HANDLES, keys, slots, KEYS, &report) == VBR_YES && slots[0] == slot && seen == 0);
+    CHECK(vbr_records_renew(handle, HANDLES, SLOTS, KEYS, VBR_MAX_EPOCH, &records, NULL) == VBR_OK && records.words != block);
+    CHECK(vbr_records_read(&handle[0], &records, 5, &seen, &at) == VBR_YES && seen == 70);
+    vbr_end_all(handle, HANDLES), vbr_records_close(&records);
+    return 0;
+}
+
+static int check_map_slots(void) {
+    static vbr_map_handle map[HANDLES], none;
+    uint32_t slot = SLOTS, slots[KEYS] = {0};
+    uint64_t key = 0, value = 0, mine = 70, seen = 0;
+    vbr_entry entries[KEYS] = {{0, 0}};
+    vbr_incarnation at = {0, 0, 0};
+    vbr_cursor cursor = VBR_CURSOR_BEGIN, again = VBR_CURSOR_BEGIN;
+    vbr_records records = EMPTY;
+    vbr_report report = EMPTY;
+    THROWS_NONE(vbr_map_hold(&none, &slot), vbr_map_records_read(&none, &records, 5, &seen, &at));
+    CHECK(vbr_map_open(map, HANDLES, SLOTS, KEYS, VBR_MAX_EPOCH) == VBR_OK && vbr_records_open(&records, SLOTS, sizeof mine, NULL) == VBR_OK);
+    CHECK(vbr_map_hold(&map[0], &slot) == VBR_YES && vbr_map_hold_within(&map[0], &slot, 500) == VBR_HELD);
+    CHECK(vbr_map_let_go(&map[0]) == VBR_YES && vbr_map_hold_within(&map[0], &slot, 500) == VBR_YES);
+    vbr_records_write(&records, slot, &mine);
+    CHECK(vbr_map_insert_held(&map[0], 5, 50) == VBR_YES && vbr_map_insert_held_within(&map[0], 5, 50, 500) == VBR_HELD);
+    CHECK(vbr_map_get_entry(&map[1], 5, &at) == VBR_YES && vbr_map_get_entry_within(&map[1], 6, &at, 500) == VBR_NO && at.value == 50);
+    CHECK(vbr_map_is_still(&none, &at) == VBR_NO_HANDLE && vbr_map_replace_held(&map[0], 5, &at, 51) == VBR_HELD);
+    CHECK(vbr_map_replace_held_within(&map[0], 5, &at, 51, 500) == VBR_HELD && vbr_map_put_held(&map[0], 5, 51, &value) == VBR_HELD);
+    CHECK(vbr_map_put_held_within(&map[0], 5, 51, NULL, 500) == VBR_HELD && value == 0);
+    CHECK(vbr_map_next_at(&map[1], &cursor, &key, &at) == VBR_YES && key == 5 && vbr_map_next_at_within(&map[1], &cursor, &key, &at, 500) == VBR_NO);
+    CHECK(vbr_map_records_next(&map[1], &again, &records, &key, &seen, &at) == VBR_YES && key == 5 && seen == 70);
+    CHECK(vbr_map_report_slots(map, HANDLES, entries, slots, KEYS, &report) == VBR_YES && slots[0] == slot && entries[0].value == 50);
+    CHECK(vbr_map_records_renew(map, HANDLES, SLOTS, KEYS, VBR_MAX_EPOCH, &records, NULL) == VBR_OK);
+    CHECK(vbr_map_records_read(&map[1], &records, 5, &seen, &at) == VBR_YES && seen == 70);
+    CHECK(vbr_map_remove_entry(&map[1], 5, &at) == VBR_YES && vbr_map_remove_entry_within(&map[1], 5, &at, 500) == VBR_NO);
+    vbr_map_end_all(map, HANDLES), vbr_records_close(&records);
     return 0;
 }
 
@@ -160,7 +218,7 @@ static int check_shared(void) {
 }
 
 int main(void) {
-    if (check() || check_maps() || check_shared()) return 1;
+    if (check() || check_maps() || check_slots() || check_map_slots() || check_shared()) return 1;
     puts("each name of the headers: passed");
     return 0;
 }

@@ -319,6 +319,7 @@ static int play(uint64_t *random) {
             if (count && !was_in_call && of[p]->calls[count - 1].state == BEGUN) unseen++;
             if (r.inherits) {
                 if (vbr_inherit(&handles[has_handle[p]]) != (was_in_call ? VBR_NO : VBR_YES)) return failed("inherit", p);
+                if (handles[has_handle[p]].both.in_call) return failed("a mark that is left", p);
             } else if (was_in_call) has_handle[p] = free_handle++;
         }
         of[p] = &board->lives[lives_begun % LIVES];

@@ -1,6 +1,6 @@
 /* A set and a map that processes share, in small: handles go from process to process, a child that is killed between two calls loses
-   nothing, one that is killed in a call is inherited, threads go on while their process forks, closes come from several processes, and a
-   file shows the memory by name. */
+   nothing, one that is killed in a call is inherited, threads go on while their process forks, closes come from several processes, a
+   file shows the memory by name, and one that is too short, or can't be mapped, is refused before anything is written. */
 #define _GNU_SOURCE
 #include "vbr_shared.h"
 
@@ -13,11 +13,12 @@
 #include <string.h>
 #include <sys/mman.h>
 #include <sys/resource.h>
+#include <sys/stat.h>
 #include <sys/wait.h>
 #include <time.h>
 #include <unistd.h>
 
-#define CHECK(x) do { if (!(x)) { fprintf(stderr, "processes.c:%d: %s\n", __LINE__, #x); return 1; } } while (0)
+#define CHECK(x) do { if (!(x)) { fprintf(stderr, "processes.c:%d: FAILED: %s\n", __LINE__, #x); return 1; } } while (0)
 
 static int ended_well(pid_t child) {
     int status;
@@ -126,6 +127,26 @@ static int forks_beside_threads(void) {
     return 0;
 }
 
+/* A renewal by another name, of handles that stand side by side: what it opens lies in the mapping too, so a child's key is there. */
+static int renewed_so(void) {
+    vbr_shared_handle *handle;
+    CHECK(vbr_open_shared(&handle, 2, 256, 16, VBR_MAX_EPOCH, NULL, 0) == VBR_OK && vbr_insert(&handle[0].set, 1) == VBR_YES);
+    vbr_answer renewed = vbr_renew_all(vbr_gather(handle), 2, 512, 16, VBR_MAX_EPOCH); // VBR_OK: in the mapping
+    vbr_spread(handle);
+    CHECK(renewed == VBR_OK && vbr_slots(&handle[0].set) == 512);
+    pid_t child = fork();
+    if (!child) _exit(vbr_has(&handle[1].set, 1) == VBR_YES && vbr_insert(&handle[1].set, 2) == VBR_YES ? 0 : 1);
+    CHECK(ended_well(child) && vbr_has(&handle[0].set, 2) == VBR_YES);
+    CHECK(vbr_renew_all_seeded(vbr_gather(handle), 2, 256, 16, VBR_MAX_EPOCH, 7) == VBR_OK);
+    vbr_spread(handle);
+    child = fork();
+    if (!child) _exit(vbr_remove(&handle[1].set, 2) == VBR_YES ? 0 : 1);
+    CHECK(ended_well(child) && vbr_has(&handle[0].set, 2) == VBR_NO && vbr_has(&handle[0].set, 1) == VBR_YES);
+    vbr_end_all(vbr_gather(handle), 2);
+    vbr_unmap_shared(handle);
+    return 0;
+}
+
 /* The memory in a file: another program maps it, and sees the epoch and the flags. */
 static int by_name(void) {
     int file = memfd_create("vbr", 0);
@@ -154,6 +175,61 @@ static int by_name(void) {
     close(file);
     handle = NULL;
     CHECK(vbr_open_shared_in(-1, &handle, 2, 1024, 64, 12345, NULL, 0) == VBR_NO_MEMORY && !handle);
+    return 0;
+}
+
+enum { SHORT = 3000 }; /* what a file has that is too short */
+
+/* Whether the file still has what was written to it, and no more. */
+static int is_untouched(int file, const char *kept) {
+    char has[SHORT];
+    struct stat told;
+    return !fstat(file, &told) && told.st_size == SHORT && pread(file, has, SHORT, 0) == SHORT && !memcmp(has, kept, SHORT);
+}
+
+/* Whether an opening in this file is refused so, of a set and of a map, and leaves what it was given. */
+static int is_refused(int file, vbr_answer refusal) {
+    static const uint64_t keys[2] = {6, 7};
+    static const vbr_entry entries[2] = {{6, 60}, {7, 70}};
+    vbr_shared_handle *handle = NULL;
+    return vbr_open_shared_in(file, &handle, 2, 64, 8, 100, keys, 2) == refusal && vbr_map_open_shared_in(file, &handle, 2, 64, 8, 100, entries, 2) == refusal && !handle;
+}
+
+/* Files in which no set can be: each is refused by name, and neither the file nor a set beside it loses anything. */
+static int files(void) {
+    vbr_shared_handle *beside, *handle = NULL;
+    static const uint64_t keys[2] = {6, 7}, wrong[2] = {7, 6};
+    char kept[SHORT], name[64];
+    int ends[2], file = memfd_create("vbr", MFD_ALLOW_SEALING);
+    off_t size = (off_t)vbr_shared_size(2, 64, 8);
+    CHECK(file >= 0 && !pipe(ends) && vbr_open_shared(&beside, 2, 64, 8, 100, keys, 2) == VBR_OK);
+    /* it is empty, or has something, or lacks its last byte */
+    CHECK(is_refused(file, VBR_NO_ROOM));
+    memset(kept, 'k', SHORT);
+    CHECK(pwrite(file, kept, SHORT, 0) == SHORT && is_refused(file, VBR_NO_ROOM) && is_untouched(file, kept));
+    CHECK(!ftruncate(file, size - 1) && is_refused(file, VBR_NO_ROOM) && !ftruncate(file, SHORT) && is_untouched(file, kept));
+    /* other refusals come before */
+    CHECK(vbr_open_shared_in(file, &handle, 2, 0, 8, 100, wrong, 2) == VBR_BAD_SHAPE && vbr_open_shared_in(file, &handle, 2, 64, VBR_MAX_BUCKETS + 1, 100, wrong, 2) == VBR_BAD_SHAPE);
+    CHECK(vbr_open_shared_in(file, &handle, 0, 64, 8, 100, wrong, 2) == VBR_BAD_COUNT && vbr_open_shared_in(file, &handle, VBR_MAX_MANY_HANDLES + 1, 64, 8, 100, wrong, 2) == VBR_BAD_COUNT);
+    CHECK(vbr_open_shared_in(file, &handle, 2, 64, 8, 100, wrong, 2) == VBR_BAD_KEYS && !handle && is_untouched(file, kept));
+    /* it may only be read, or only be written, and is too short or not */
+    sprintf(name, "/proc/self/fd/%d", file);
+    int read_only = open(name, O_RDONLY), write_only = open(name, O_WRONLY);
+    CHECK(read_only >= 0 && write_only >= 0 && is_refused(read_only, VBR_NO_ROOM) && is_refused(write_only, VBR_NO_MEMORY) && is_untouched(file, kept));
+    CHECK(!ftruncate(file, size) && is_refused(read_only, VBR_NO_MEMORY) && is_refused(write_only, VBR_NO_MEMORY) && !ftruncate(file, SHORT) && is_untouched(file, kept));
+    close(read_only), close(write_only);
+    /* there is no file, or it is no file of bytes */
+    int folder = open("/", O_RDONLY);
+    CHECK(folder >= 0 && is_refused(folder, VBR_NO_MEMORY) && is_refused(ends[0], VBR_NO_MEMORY) && is_refused(ends[1], VBR_NO_MEMORY));
+    close(folder), close(ends[0]), close(ends[1]);
+    CHECK(is_refused(ends[0], VBR_NO_MEMORY) && is_refused(-1, VBR_NO_MEMORY));
+    /* where it is long enough it is taken, and one that nobody can make shorter stays so */
+    CHECK(!ftruncate(file, size) && !fcntl(file, F_ADD_SEALS, F_SEAL_SHRINK) && vbr_open_shared_in(file, &handle, 2, 64, 8, 100, keys, 2) == VBR_OK);
+    CHECK(ftruncate(file, SHORT) != 0 && vbr_has(&handle[1].set, 7) == VBR_YES && vbr_insert(&handle[0].set, 8) == VBR_YES);
+    close(file);
+    CHECK(vbr_has(&handle[1].set, 8) == VBR_YES && vbr_has(&beside[1].set, 8) == VBR_NO && vbr_has(&beside[1].set, 7) == VBR_YES);
+    vbr_end_all(vbr_gather(handle), 2), vbr_end_all(vbr_gather(beside), 2);
+    vbr_unmap_shared(handle), vbr_unmap_shared(beside);
     return 0;
 }
 
@@ -194,7 +270,7 @@ static int orders(void) {
 }
 
 int main(void) {
-    if (refusals() || sets() || deaths() || forks_beside_threads() || by_name() || orders()) return 1;
+    if (refusals() || sets() || deaths() || renewed_so() || forks_beside_threads() || by_name() || orders() || files()) return 1;
     puts("processes in C: passed");
     return 0;
 }

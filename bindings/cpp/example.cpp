@@ -533,10 +533,25 @@ static int spared() {
     return 0;
 }
 
+static int slots_in_hand() {
+    std::vector<vbr::handle> both = vbr::open(vbr::shape::for_keys(1024, 2), 2).value();
+    vbr::handle &mine = both[0];
+    int count = 0;
+    vbr::held slot = mine.hold().value();
+    std::uint32_t number = slot.number();
+    CHECK(mine.insert(7) == vbr::refusal::held && both[1].insert(8) == true && mine.insert(std::move(slot), 8) == false);
+    if (mine.insert(std::move(slot), 7).value()) count++; // 7 stands in this slot
+    std::optional<vbr::incarnation> at = both[1].get_entry(7).value();
+    CHECK(count == 1 && !slot.is_held() && at && at->slot() == number && both[1].is_still(*at) == true && !both[1].get_entry(9).value());
+    std::vector<std::uint32_t> slots = vbr::handle::report_slots(both).value();
+    CHECK(slots.size() == 2 && slots[0] == number);
+    return 0;
+}
+
 int main() {
     if (example() || calls() || spared() || results() || words() || budgets() || all_handles() || many_keys() || the_most() || crowds()) return 1;
     if (refusals() || ranges() || walks() || walked_by_iterators() || refused_walks() || ends() || ends_of_all()) return 1;
-    if (exceptions() || closes_at_once() || loans() || seeds()) return 1;
+    if (exceptions() || closes_at_once() || loans() || seeds() || slots_in_hand()) return 1;
     std::puts("example in C++: passed");
     return 0;
 }

@@ -1,6 +1,6 @@
 // The map in C++: the examples of vbr.hpp (bindings/headers sees that their lines are here), values that change, ranges of entries,
 // walks, closes, ends of handles, exceptions, and loans.
-#include "vbr.hpp"
+#include "vbr_records.hpp"
 
 #include <array>
 #include <atomic>
@@ -16,6 +16,8 @@
 // What doesn't compile is seen by bindings/headers; here what a type doesn't do.
 static_assert(!std::is_copy_constructible_v<vbr::map_handle> && !std::is_copy_assignable_v<vbr::map_handle>);
 static_assert(std::is_nothrow_move_constructible_v<vbr::map_handle> && std::is_nothrow_move_assignable_v<vbr::map_handle>);
+static_assert(!std::is_copy_constructible_v<vbr::map_held> && std::is_nothrow_move_constructible_v<vbr::map_held>);
+static_assert(!std::is_constructible_v<vbr::map_held, vbr::held> && !std::is_constructible_v<vbr::incarnation, vbr::map_incarnation>);
 static_assert(!std::is_constructible_v<bool, vbr::map_pass::found>);
 static_assert(!std::is_constructible_v<bool, vbr::result<vbr::compared<std::uint64_t>>>);
 static_assert(!std::is_constructible_v<vbr::map_handle, vbr::handle> && !std::is_constructible_v<vbr::handle, vbr::map_handle>);
@@ -335,9 +337,117 @@ static int all_handles() {
     return 0;
 }
 
+// Slots in hand, and what stands in them.
+static int slots_in_hand() {
+    std::vector<vbr::map_handle> both = vbr::open_map(vbr::shape::for_keys(1024, 2), 2).value();
+    vbr::map_handle &mine = both[0];
+    std::vector<std::uint64_t> beside(mine.slots());
+    std::uint64_t sum = 0;
+    int added = 0, changed = 0, copied = 0, puts = 0, taken_out = 0;
+    {
+        vbr::map_held slot = mine.hold().value();
+        beside[slot.number()] = 7; // nobody else writes there
+        CHECK(mine.hold() == vbr::refusal::held && mine.insert(6, 60) == vbr::refusal::held && mine.has(6) == false);
+        slot.let_go(); // its record isn't written any more
+        CHECK(!slot.is_held() && mine.insert(6, 60) == true && mine.insert(std::move(slot), 9, 90) == vbr::refusal::held);
+    }
+    std::optional<vbr::map_incarnation> at = mine.get_entry(6).value(); // at->slot() is where 6 stands
+    sum += at->value();
+    if (mine.is_still(*at).value()) copied++; // what was copied since at was found is of this entry
+    CHECK(sum == 60 && copied == 1 && both[1].get_entry(6).value() == at && both[1].get_entry(7).value() == std::nullopt);
+    {
+        vbr::map_held slot = mine.hold().value();
+        std::uint32_t number = slot.number();
+        CHECK(both[1].insert(std::move(slot), 7, 70) == vbr::refusal::held && slot.is_held()); // it is of the other handle
+        CHECK(mine.insert(std::move(slot), 6, 61) == false && slot.is_held());
+        CHECK(mine.insert_within(std::move(slot), 7, 70, vbr::steps{1}) == vbr::refusal::out_of_steps && slot.is_held());
+        if (mine.insert(std::move(slot), 7, 70).value()) added++; // 7 stands in this slot
+        if (slot.is_held()) return 1;
+        at = mine.get_entry_within(7, vbr::steps{500}).value();
+        CHECK(added == 1 && at->slot() == number && at->value() == 70);
+    }
+    vbr::map_held slot = mine.hold_within(vbr::steps{500}).value();
+    if (mine.replace(std::move(slot), 7, *at, 71).value()) changed++; // nobody had changed 7 since it was found
+    if (!slot.is_held()) slot = mine.hold().value(); // a call by it was done
+    CHECK(changed == 1 && mine.replace(std::move(slot), 7, *at, 72) == false && mine.remove_entry(7, *at) == false);
+    vbr::map_held moved = std::move(slot);
+    slot = std::move(moved);
+    CHECK(slot.is_held());
+    if (mine.put(std::move(slot), 7, 72).has_value()) puts++; // 7 stands in this slot
+    CHECK(puts == 1 && !slot.is_held() && mine.get(7) == 72u);
+    vbr::cursor from;
+    auto stands = mine.next_at(from).value(); // a key, and its incarnation
+    CHECK(stands && both[1].get_entry(stands->first).value() == stands->second);
+    while (mine.next_at(from).value()) sum++;
+    CHECK(sum == 61);
+    at = mine.get_entry(7).value();
+    if (mine.remove_entry(7, *at).value()) taken_out++; // nobody had changed 7 since it was found
+    CHECK(taken_out == 1 && mine.is_still(*at) == true); // until the slot is handed out anew
+    std::vector<std::uint32_t> slots = vbr::map_handle::report_slots(both).value();
+    CHECK(slots.size() == 1 && slots[0] == mine.get_entry(6).value()->slot());
+    CHECK(vbr::map_handle::renew_all(both, vbr::shape::for_keys(16, 2)).has_value() && mine.get_entry(6).value()->slot() == 0);
+    slot = mine.hold().value();
+    std::optional<vbr::map_report> first = both[0].close().value();
+    CHECK(!first); // the slot is put back
+    slot.let_go();
+    CHECK(told(both[1]).size() == 1);
+    return 0;
+}
+
+struct account {
+    char owner[32];
+    std::uint64_t balance;
+};
+
+// Records beside the slots, which go along with the entries over a renewal.
+static int records_beside() {
+    std::vector<vbr::map_handle> both = vbr::open_map(vbr::shape::for_keys(1024, 2), 2).value();
+    vbr::map_handle &mine = both[0], &other = both[1];
+    vbr::records<account> accounts(mine.slots());
+    vbr::map_held slot = mine.hold().value();
+    accounts.write(slot, account{"somebody", 100});
+    bool added = mine.insert(std::move(slot), 6, 0).value();
+    CHECK(added && !accounts.read(other, 5).value());
+    accounts.write(slot, account{"nobody", 1}); // it is no longer held, so nothing is written
+    {
+        auto there = accounts.read(mine, 6).value();
+        std::uint64_t paid = there->record.balance;
+        CHECK(there && paid == 100 && there->record.owner[7] == 'y' && there->at == other.get_entry(6).value());
+        slot = other.hold().value();
+        accounts.write(slot, account{"somebody", paid + 50});
+        CHECK(other.replace(std::move(slot), 6, there->at, 1) == true);
+    }
+    std::optional<vbr::map_incarnation> at = mine.get_entry(6).value(); // at->slot() is where 6 stands
+    account copy = accounts.copy(*at);
+    CHECK(mine.is_still(*at) == true && copy.balance == 150);
+    vbr::result<void> renewed = accounts.renew(both, vbr::shape::for_keys(2048, 2));
+    CHECK(renewed && mine.slots() == 2048 + 2 * 64 && accounts.read(mine, 6).value()->record.balance == 150);
+    CHECK(accounts.renew(both, vbr::shape{0, 8}).error() == vbr::refusal::bad_shape && accounts.read(mine, 6).value()->at.slot() == 0);
+    vbr::records<account> moved = std::move(accounts);
+    CHECK(moved.read(other, 6).value()->record.balance == 150);
+    return 0;
+}
+
+// The same where handles are lent.
+static int records_beside_loans() {
+    vbr::map_lender lender(vbr::open_map(vbr::shape::for_keys(8, 2), 2).value()), none;
+    vbr::records<account> accounts(lender.slots());
+    {
+        vbr::map_loan mine = lender.lend();
+        vbr::map_held slot = mine->hold().value(); // it is put back before the loan is
+        accounts.write(slot, account{"somebody", 100});
+        CHECK(mine->insert(std::move(slot), 6, 0) == true);
+    }
+    vbr::result<void> renewed = accounts.renew(lender, vbr::shape::for_keys(2048, 2));
+    CHECK(renewed && lender.slots() == 2048 + 2 * 64 && accounts.read(*lender.lend(), 6).value()->record.balance == 100);
+    CHECK(accounts.renew(none, vbr::shape::for_keys(8, 1)).error() == vbr::refusal::no_handle);
+    CHECK(accounts.renew(lender, vbr::shape{0, 8}).error() == vbr::refusal::bad_shape);
+    return 0;
+}
+
 int main() {
     if (example() || all_handles() || calls() || many_keys() || changes() || updates() || refusals() || ranges() || walks()) return 1;
-    if (crowds() || renewals() || ends() || exceptions() || loans()) return 1;
+    if (crowds() || renewals() || ends() || exceptions() || loans() || slots_in_hand() || records_beside() || records_beside_loans()) return 1;
     std::puts("example of maps in C++: passed");
     return 0;
 }

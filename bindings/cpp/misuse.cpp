@@ -44,6 +44,19 @@ void budgets(vbr::handle &set, vbr::map_handle &map) {
     std::uint64_t to_number = few; // refused
 }
 
+// A slot in hand is moved and never copied, and a call that publishes it takes it.
+void slots_in_hand(vbr::map_handle &map, vbr::map_held &slot, vbr::held &of_set, const vbr::map_incarnation &at) {
+    static_cast<void>(map.insert(std::move(slot), 5, 70));
+    static_cast<void>(map.replace(std::move(slot), 5, at, 71));
+    static_cast<void>(map.insert(slot, 5, 70)); // refused
+    static_cast<void>(map.put(slot, 5, 70)); // refused
+    static_cast<void>(map.insert(std::move(of_set), 5, 70)); // refused
+    static_cast<void>(map.replace(std::move(slot), 5, 71)); // refused
+    vbr::map_held copy = slot; // refused
+    map.hold(); // refused
+    map.get_entry(5); // refused
+}
+
 // Nothing that a call answers is thrown away.
 void thrown_away(vbr::handle &set, vbr::map_handle &map, vbr::lender &lender, std::vector<vbr::handle> &handles) {
     set.insert(5); // refused

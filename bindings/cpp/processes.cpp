@@ -236,7 +236,7 @@ static void refusals() {
     int file = memfd_create("vbr", 0), ends[2];
     CHECK(file >= 0 && pipe(ends) == 0 && Shared::open_in(ends[0], good, 1).error() == vbr::refusal::no_memory);
     CHECK(ftruncate(file, static_cast<off_t>(vbr::shared_size(good, 1)) - 1) == 0);
-    CHECK(Shared::open_in(file, good, 1).error() == vbr::refusal::no_memory);
+    CHECK(Shared::open_in(file, good, 1).error() == vbr::refusal::no_room && Shared::open_in(file, good, 1, wrong.data(), 2).error() == vbr::refusal::bad_keys);
     CHECK(ftruncate(file, static_cast<off_t>(vbr::shared_size(good, 1))) == 0);
     CHECK(Shared::open_in(file, good, 1, wrong.data(), 1).value().claim(0).turn().has(6) == true);
     close(ends[0]), close(ends[1]), close(file);

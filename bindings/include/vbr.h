@@ -106,14 +106,25 @@ typedef enum vbr_answer {
     VBR_NO = 0,            /* the answer is no; of vbr_close: others are open;
                               of vbr_next: the walk is at its end;
                               of vbr_inherit: a call was under way, and the slots of the handle are lost for now;
-                              put, get_or_insert: the key was absent, and is inserted;
-                              replace, compare_exchange, remove_if: the key is absent, and nothing was changed */
+                              put, get_or_insert, put_held: the key was absent, and is inserted;
+                              replace, compare_exchange, remove_if: the key is absent, and nothing was changed;
+                              insert_held: the key is there, and the slot is in hand still;
+                              replace_held, remove_entry: that entry isn't there, and nothing was changed;
+                              is_still: the slot was handed out anew;
+                              next_at: the walk is at its end */
     VBR_YES = 1,           /* the answer is yes; of vbr_close: it was the last, the set is closed;
                               of vbr_next: the next key is given;
                               of vbr_inherit: no call was under way;
                               replace, put: the key was there, and has the new value; get_or_insert: the key is there;
                               compare_exchange: the key had the value that is expected, and has the new one;
-                              remove_if: the key had the value that is expected, and is taken out */
+                              remove_if: the key had the value that is expected, and is taken out;
+                              hold: the slot is in hand; let_go: it was put back;
+                              insert_held: the key was absent, and stands in the slot;
+                              replace_held: the slot took the place of the entry;
+                              put_held: the key was there, and stands in the slot with the new value;
+                              remove_entry: the entry was there, and is taken out;
+                              is_still: no other node was in the slot since the entry was found, and nobody had it in hand;
+                              next_at: the next key is given */
     VBR_OTHER = 2,         /* compare_exchange, remove_if: the key is there with another value; nothing was changed */
     VBR_OUT_OF_STEPS = -1, /* the budget is spent; no call was made; a greater budget may help;
                               next: the cursor keeps how far it has come */
@@ -132,10 +143,14 @@ typedef enum vbr_answer {
     VBR_BAD_KEYS = -10,    /* open_with: the keys do not ascend, or there are more than slots; nothing
                               was done */
     VBR_NO_ROOM = -11,     /* close: it is the last and stays as it was; the report has how many keys; renew_all: there
-                              are more keys than slots, and they are as they were */
+                              are more keys than slots, and they are as they were; open_shared_in: the file is too
+                              short, and nothing was done */
     VBR_MISSING = -12,     /* report_all, close_all, renew_all: not all handles that were opened; they are as they were */
     VBR_EMPTY VBR_DEPRECATED("VBR_NO_HANDLE") = -4, /* the old name of VBR_NO_HANDLE, for one version */
-    VBR_MIXED = -13        /* report_all, close_all, renew_all: handles of different sets; they are as they were */
+    VBR_MIXED = -13,       /* report_all, close_all, renew_all: handles of different sets; they are as they were */
+    VBR_HELD = -14         /* hold, insert, replace, put, get_or_insert, compare_exchange: a slot is in hand, and the call
+                              would take another one; let_go, insert_held, replace_held, put_held: none is in hand;
+                              nothing was done */
 } vbr_answer;
 #ifdef __cplusplus
 static_assert(sizeof(vbr_answer) == 4, "the library answers by 32 bits");
@@ -152,14 +167,16 @@ VBR_NODISCARD const char *vbr_answer_text(vbr_answer answer) VBR_NOEXCEPT;
 /* Handles */
 
 /* A handle to a set. It is {0}, or {} in C++, until it is opened, or has a budget: `steps` is that of its calls which are given
-   none, and 0 is VBR_AMPLE_STEPS. A program sets it before the opening or between two calls, and no call writes it. What the handle
-   owns is the library's.
+   none, and 0 is VBR_AMPLE_STEPS. A program sets it before the opening or between two calls, and no call writes it. `in_call` is the
+   mark of a handle that processes share, which vbr_begin and vbr_end of vbr_shared.h set and clear; other handles leave it 0. What the
+   handle owns is the library's.
 
        vbr_handle handle[2] = {{0}};
        handle[1].steps = 5000; // the calls by this handle make at most so many steps */
 typedef struct vbr_handle {
     void *owned;
     uint32_t steps;
+    uint32_t in_call;
 } vbr_handle;
 
 /* The budget of a handle's calls.
@@ -235,7 +252,7 @@ VBR_NODISCARD vbr_answer vbr_open_many_seeded(vbr_handle *handles, size_t count,
 
 /* Calls on keys */
 
-/* Adds a key: VBR_YES if it was absent, VBR_NO if it was there. Else VBR_OUT_OF_STEPS, VBR_NO_SLOT, VBR_EPOCH_SPENT or
+/* Adds a key: VBR_YES if it was absent, VBR_NO if it was there. Else VBR_OUT_OF_STEPS, VBR_NO_SLOT, VBR_EPOCH_SPENT, VBR_HELD or
    VBR_NO_HANDLE. At VBR_NO_SLOT have other handles give their slots back (vbr_spare), remove keys, or make it again. Where it adds
    the key, the handle then fills its reserve for the next inserts, as vbr_reserve says. It takes no memory and never waits.
 
@@ -462,6 +479,7 @@ void vbr_end_all(vbr_handle *handles, size_t count) VBR_NOEXCEPT VBR_NONNULL;
 typedef struct vbr_map_handle {
     void *owned;
     uint32_t steps;
+    uint32_t in_call;
 } vbr_map_handle;
 
 /* The budget of a handle's calls.
@@ -528,7 +546,7 @@ VBR_NODISCARD vbr_answer vbr_map_open_many_seeded(vbr_map_handle *handles, size_
 /* Calls on keys and their values */
 
 /* Adds a key with its value: VBR_YES if the key was absent, VBR_NO if it was there; then it keeps the value that it has. Else
-   VBR_OUT_OF_STEPS, VBR_NO_SLOT, VBR_EPOCH_SPENT or VBR_NO_HANDLE. At VBR_NO_SLOT have other handles give their slots back
+   VBR_OUT_OF_STEPS, VBR_NO_SLOT, VBR_EPOCH_SPENT, VBR_HELD or VBR_NO_HANDLE. At VBR_NO_SLOT have other handles give their slots back
    (vbr_map_spare), remove keys, or make it again. Where it adds the key, the handle then fills its reserve, as vbr_reserve says.
    So do vbr_map_put and vbr_map_get_or_insert. It takes no memory and never waits.
 
@@ -574,7 +592,7 @@ VBR_NODISCARD vbr_answer vbr_map_get_within(vbr_map_handle *handle, uint64_t key
                                             uint32_t steps) VBR_NOEXCEPT VBR_NONNULL_FIRST;
 
 /* Gives a key that is there another value: VBR_YES if it was there, and the value that it had is then in `*found`; VBR_NO if it was
-   absent, and then nothing was changed. Else VBR_OUT_OF_STEPS, VBR_NO_SLOT, VBR_EPOCH_SPENT or VBR_NO_HANDLE. Unless it answers
+   absent, and then nothing was changed. Else VBR_OUT_OF_STEPS, VBR_NO_SLOT, VBR_EPOCH_SPENT, VBR_HELD or VBR_NO_HANDLE. Unless it answers
    VBR_YES nothing is written, and `found` may be null. No call finds the key absent meanwhile. The new value takes a slot, and the
    old one gives its own back. It takes no memory and never waits.
 
@@ -590,9 +608,9 @@ VBR_NODISCARD vbr_answer vbr_map_replace_within(vbr_map_handle *handle, uint64_t
                                                 uint32_t steps) VBR_NOEXCEPT VBR_NONNULL_FIRST;
 
 /* Gives a key this value, whether it is there or not: VBR_YES if it was there, and the value that it had is then in `*found`;
-   VBR_NO if it was absent, and it is then inserted. Else VBR_OUT_OF_STEPS, VBR_NO_SLOT, VBR_EPOCH_SPENT or VBR_NO_HANDLE. Unless it
-   answers VBR_YES nothing is written, and `found` may be null. It is a replacement as vbr_map_replace makes it, or an insert. It
-   takes no memory and never waits.
+   VBR_NO if it was absent, and it is then inserted. Else VBR_OUT_OF_STEPS, VBR_NO_SLOT, VBR_EPOCH_SPENT, VBR_HELD or VBR_NO_HANDLE.
+   Unless it answers VBR_YES nothing is written, and `found` may be null. It is a replacement as vbr_map_replace makes it, or an
+   insert. It takes no memory and never waits.
 
        if (vbr_map_put(&map[1], 6, 60, NULL) == VBR_NO) added++; // 6 was absent; either way it has 60 */
 VBR_NODISCARD static inline vbr_answer vbr_map_put(vbr_map_handle *handle, uint64_t key, uint64_t value,
@@ -606,8 +624,9 @@ VBR_NODISCARD vbr_answer vbr_map_put_within(vbr_map_handle *handle, uint64_t key
                                             uint32_t steps) VBR_NOEXCEPT VBR_NONNULL_FIRST;
 
 /* Gives the value of a key, or inserts the key with this one: VBR_YES if it is there, and its value is then in `*found`; VBR_NO if
-   it was absent, and it is then inserted. Else VBR_OUT_OF_STEPS, VBR_NO_SLOT, VBR_EPOCH_SPENT or VBR_NO_HANDLE. Unless it answers
-   VBR_YES nothing is written, and `found` may be null. It is a get or an insert, in one call. It takes no memory and never waits.
+   it was absent, and it is then inserted. Else VBR_OUT_OF_STEPS, VBR_NO_SLOT, VBR_EPOCH_SPENT, VBR_HELD or VBR_NO_HANDLE. Unless it
+   answers VBR_YES nothing is written, and `found` may be null. It is a get or an insert, in one call. It takes no memory and never
+   waits.
 
        if (vbr_map_get_or_insert(&map[0], 5, 1, &found) == VBR_YES) there++; // 5 had the value found, and keeps it */
 VBR_NODISCARD static inline vbr_answer vbr_map_get_or_insert(vbr_map_handle *handle, uint64_t key, uint64_t value,
@@ -622,9 +641,9 @@ VBR_NODISCARD vbr_answer vbr_map_get_or_insert_within(vbr_map_handle *handle, ui
 
 /* Gives a key another value if it has the one that is expected: VBR_YES if it had, and it has the new one then; VBR_OTHER if it is
    there with another value; VBR_NO if it is absent. With VBR_OTHER and VBR_NO nothing was changed. Else VBR_OUT_OF_STEPS,
-   VBR_NO_SLOT, VBR_EPOCH_SPENT or VBR_NO_HANDLE. With VBR_YES and VBR_OTHER the value that the key had is in `*found`; else nothing
-   is written, and `found` may be null. It is a replacement as vbr_map_replace makes it, or a look-up. A value that is computed from
-   the one found is stored so, and no other thread's is lost. It takes no memory and never waits.
+   VBR_NO_SLOT, VBR_EPOCH_SPENT, VBR_HELD or VBR_NO_HANDLE. With VBR_YES and VBR_OTHER the value that the key had is in `*found`;
+   else nothing is written, and `found` may be null. It is a replacement as vbr_map_replace makes it, or a look-up. A value that is
+   computed from the one found is stored so, and no other thread's is lost. It takes no memory and never waits.
 
        vbr_answer told = vbr_map_get(&map[0], 5, &seen) == VBR_YES ? VBR_OTHER : VBR_NO;
        while (told == VBR_OTHER) // until nobody else has changed it since it was seen
@@ -826,6 +845,206 @@ void vbr_map_drop(vbr_map_handle *handle) VBR_NOEXCEPT;
        vbr_map_end_all(map, 2); // nothing is reported, and the memory of the map is freed */
 void vbr_map_end_all(vbr_map_handle *handles, size_t count) VBR_NOEXCEPT VBR_NONNULL;
 
+/* Slots in hand, for records beside the entries */
+
+/* Where an entry stands: the slot of its node, and the birth of that node; of a map also its value, and of a set 0. No other node that
+   was ever in that slot has this birth. So it names one entry, which may have left meanwhile, and no later one of the same key. It is
+   good until the set is renewed or closed.
+
+       vbr_incarnation at = {0, 0, 0}; // what a call that finds the key writes */
+typedef struct vbr_incarnation {
+    uint64_t birth;
+    uint64_t value;
+    uint32_t slot; /* below vbr_slots */
+} vbr_incarnation;
+
+/* Takes a slot in hand: VBR_YES, and its number is then in `*slot`, which is below vbr_slots. It is in the hand of this handle alone,
+   until a call makes it the node of a key, or it is let go. So a program that keeps a record for each slot may write this one
+   meanwhile, and nobody else does. Else VBR_HELD, where a slot is held already, or what an insert answers that finds none:
+   VBR_OUT_OF_STEPS, VBR_NO_SLOT, VBR_EPOCH_SPENT or VBR_NO_HANDLE. Unless it answers VBR_YES nothing is written.
+
+   A slot that is held is one of the 64 that are counted for each handle. While there is one, the calls that would take another answer
+   VBR_HELD: insert, replace, put, get_or_insert, compare_exchange, and this one. Look-ups, walks, removes and reports go on. A close, a
+   drop and a renewal put it back. It takes no memory and never waits.
+
+       if (vbr_hold(&handle[0], &slot) == VBR_YES) beside[slot] = 7; // nobody else writes there */
+VBR_NODISCARD static inline vbr_answer vbr_hold(vbr_handle *handle, uint32_t *slot) VBR_NOEXCEPT VBR_NONNULL;
+
+/* Takes a slot in hand as vbr_hold does, within `steps` steps, in place of the budget of the handle. What it answers is what
+   vbr_hold answers.
+
+       told = vbr_hold_within(&handle[0], &slot, 500); // at most 500 steps */
+VBR_NODISCARD vbr_answer vbr_hold_within(vbr_handle *handle, uint32_t *slot, uint32_t steps) VBR_NOEXCEPT VBR_NONNULL;
+
+/* Takes a slot of a map in hand, as vbr_hold does of a set.
+
+       if (vbr_map_hold(&map[0], &slot) == VBR_YES) beside[slot] = 7; // nobody else writes there */
+VBR_NODISCARD static inline vbr_answer vbr_map_hold(vbr_map_handle *handle, uint32_t *slot) VBR_NOEXCEPT VBR_NONNULL;
+
+/* Takes a slot in hand as vbr_map_hold does, within `steps` steps, in place of the budget of the handle. What it answers is what
+   vbr_map_hold answers.
+
+       told = vbr_map_hold_within(&map[0], &slot, 500); // at most 500 steps */
+VBR_NODISCARD vbr_answer vbr_map_hold_within(vbr_map_handle *handle, uint32_t *slot, uint32_t steps) VBR_NOEXCEPT VBR_NONNULL;
+
+/* Puts the slot that is held back: VBR_YES. Else VBR_HELD, where none is held, or VBR_NO_HANDLE. It makes at most one step.
+
+       if (vbr_let_go(&handle[0]) == VBR_YES) let_go++; // and its record isn't written any more */
+VBR_NODISCARD vbr_answer vbr_let_go(vbr_handle *handle) VBR_NOEXCEPT VBR_NONNULL;
+
+/* Puts the slot of a map that is held back, as vbr_let_go does of a set.
+
+       if (vbr_map_let_go(&map[0]) == VBR_YES) let_go++; // and its record isn't written any more */
+VBR_NODISCARD vbr_answer vbr_map_let_go(vbr_map_handle *handle) VBR_NOEXCEPT VBR_NONNULL;
+
+/* Adds a key by the slot that is held: VBR_YES if it was absent, and this slot is then its node, and none is held; VBR_NO if it was
+   there. Else VBR_OUT_OF_STEPS, VBR_HELD, where none is held, or VBR_NO_HANDLE. Unless it answers VBR_YES the slot is held still, and
+   its record may be written on. Where it adds the key, the handle then fills its reserve, as vbr_reserve says. It takes no memory and
+   never waits.
+
+       if (vbr_insert_held(&handle[0], 5) == VBR_YES) added++; // 5 stands in this slot, with what was written beside it */
+VBR_NODISCARD static inline vbr_answer vbr_insert_held(vbr_handle *handle, uint64_t key) VBR_NOEXCEPT VBR_NONNULL;
+
+/* Adds a key as vbr_insert_held does, within `steps` steps, in place of the budget of the handle. What it answers is what
+   vbr_insert_held answers.
+
+       told = vbr_insert_held_within(&handle[0], 7, 500); // at most 500 steps */
+VBR_NODISCARD vbr_answer vbr_insert_held_within(vbr_handle *handle, uint64_t key, uint32_t steps) VBR_NOEXCEPT VBR_NONNULL;
+
+/* Adds a key with its value by the slot that is held, as vbr_insert_held does of a set: where it answers VBR_NO the key keeps its
+   value.
+
+       if (vbr_map_insert_held(&map[0], 5, 70) == VBR_YES) added++; // 5 stands in this slot, with what was written beside it */
+VBR_NODISCARD static inline vbr_answer vbr_map_insert_held(vbr_map_handle *handle, uint64_t key,
+                                                           uint64_t value) VBR_NOEXCEPT VBR_NONNULL;
+
+/* Adds a key with its value as vbr_map_insert_held does, within `steps` steps, in place of the budget of the handle. What it answers
+   is what vbr_map_insert_held answers.
+
+       told = vbr_map_insert_held_within(&map[0], 7, 71, 500); // at most 500 steps */
+VBR_NODISCARD vbr_answer vbr_map_insert_held_within(vbr_map_handle *handle, uint64_t key, uint64_t value,
+                                                    uint32_t steps) VBR_NOEXCEPT VBR_NONNULL;
+
+/* Gives a key this value by the slot that is held, in place of the very entry that was found: VBR_YES if the key still had that entry,
+   and this slot is then its node, and none is held; VBR_NO if it is absent, or has another entry by now, also one with the same value.
+   Else VBR_OUT_OF_STEPS, VBR_HELD, where none is held, or VBR_NO_HANDLE. Unless it answers VBR_YES nothing was changed, and the slot is
+   held still. The slot of the old entry is given back as vbr_map_replace does it. It takes no memory and never waits.
+
+       if (vbr_map_replace_held(&map[0], 5, &at, 71) == VBR_YES) changed++; // nobody had changed 5 since it was found */
+VBR_NODISCARD static inline vbr_answer vbr_map_replace_held(vbr_map_handle *handle, uint64_t key, const vbr_incarnation *at,
+                                                            uint64_t value) VBR_NOEXCEPT VBR_NONNULL;
+
+/* Gives a key this value as vbr_map_replace_held does, within `steps` steps, in place of the budget of the handle. What it answers is
+   what vbr_map_replace_held answers.
+
+       told = vbr_map_replace_held_within(&map[0], 7, &at, 72, 500); // at most 500 steps */
+VBR_NODISCARD vbr_answer vbr_map_replace_held_within(vbr_map_handle *handle, uint64_t key, const vbr_incarnation *at, uint64_t value,
+                                                     uint32_t steps) VBR_NOEXCEPT VBR_NONNULL;
+
+/* Gives a key this value by the slot that is held, whether it is there or not: VBR_YES if it was there, and the value that it had is
+   then in `*found`; VBR_NO if it was absent, and it is then inserted. In both cases this slot is its node, and none is held. Else
+   VBR_OUT_OF_STEPS, and the slot is held still; VBR_HELD, where none is held; or VBR_NO_HANDLE. Unless it answers VBR_YES nothing is
+   written, and `found` may be null. It takes no memory and never waits.
+
+       if (vbr_map_put_held(&map[0], 6, 60, NULL) == VBR_NO) added++; // 6 was absent; either way it stands in this slot */
+VBR_NODISCARD static inline vbr_answer vbr_map_put_held(vbr_map_handle *handle, uint64_t key, uint64_t value,
+                                                        uint64_t *found) VBR_NOEXCEPT VBR_NONNULL_FIRST;
+
+/* Gives a key this value as vbr_map_put_held does, within `steps` steps, in place of the budget of the handle. What it answers is what
+   vbr_map_put_held answers.
+
+       told = vbr_map_put_held_within(&map[0], 7, 73, &value, 500); // at most 500 steps */
+VBR_NODISCARD vbr_answer vbr_map_put_held_within(vbr_map_handle *handle, uint64_t key, uint64_t value, uint64_t *found,
+                                                 uint32_t steps) VBR_NOEXCEPT VBR_NONNULL_FIRST;
+
+/* Looks a key up as vbr_has does, and tells where it stands: VBR_YES if it is there, and `*at` names its entry then; VBR_NO if it is
+   absent. Else VBR_OUT_OF_STEPS or VBR_NO_HANDLE. Unless it answers VBR_YES nothing is written. Its steps are those of vbr_has, all
+   loads. It takes no memory and never waits.
+
+       if (vbr_get_entry(&handle[1], 5, &at) == VBR_YES) there++; // 5 stood in at.slot during the call */
+VBR_NODISCARD static inline vbr_answer vbr_get_entry(vbr_handle *handle, uint64_t key, vbr_incarnation *at) VBR_NOEXCEPT VBR_NONNULL;
+
+/* Looks a key up as vbr_get_entry does, within `steps` steps, in place of the budget of the handle. What it answers is what
+   vbr_get_entry answers.
+
+       told = vbr_get_entry_within(&handle[1], 7, &at, 500); // at most 500 steps */
+VBR_NODISCARD vbr_answer vbr_get_entry_within(vbr_handle *handle, uint64_t key, vbr_incarnation *at,
+                                              uint32_t steps) VBR_NOEXCEPT VBR_NONNULL;
+
+/* Looks a key up as vbr_map_get does, and tells where it stands, as vbr_get_entry does of a set: where it answers VBR_YES, `at->value`
+   is the value.
+
+       if (vbr_map_get_entry(&map[1], 5, &at) == VBR_YES) there++; // 5 stood in at.slot, and had at.value */
+VBR_NODISCARD static inline vbr_answer vbr_map_get_entry(vbr_map_handle *handle, uint64_t key,
+                                                         vbr_incarnation *at) VBR_NOEXCEPT VBR_NONNULL;
+
+/* Looks a key up as vbr_map_get_entry does, within `steps` steps, in place of the budget of the handle. What it answers is what
+   vbr_map_get_entry answers.
+
+       told = vbr_map_get_entry_within(&map[1], 7, &at, 500); // at most 500 steps */
+VBR_NODISCARD vbr_answer vbr_map_get_entry_within(vbr_map_handle *handle, uint64_t key, vbr_incarnation *at,
+                                                  uint32_t steps) VBR_NOEXCEPT VBR_NONNULL;
+
+/* Whether a slot is still that of the entry that was found there, in one step, a load: VBR_YES if it is. Then, at each moment since the
+   entry was found, no other node was in the slot, and nobody had it in hand; so a record that was copied from beside it in between is
+   that of the entry, whole. The entry itself may have been taken out meanwhile. VBR_NO: the slot was handed out anew, and what was
+   copied is of nobody. Else VBR_NO_HANDLE.
+
+       if (vbr_is_still(&handle[1], &at) == VBR_YES) copied++; // what was copied since at was found is of this entry */
+VBR_NODISCARD vbr_answer vbr_is_still(vbr_handle *handle, const vbr_incarnation *at) VBR_NOEXCEPT VBR_NONNULL;
+
+/* Whether a slot of a map is still that of the entry that was found there, as vbr_is_still says of a set.
+
+       if (vbr_map_is_still(&map[1], &at) == VBR_YES) copied++; // what was copied since at was found is of this entry */
+VBR_NODISCARD vbr_answer vbr_map_is_still(vbr_map_handle *handle, const vbr_incarnation *at) VBR_NOEXCEPT VBR_NONNULL;
+
+/* Takes a key out if it still has the very entry that was found: VBR_YES if it had, and it is then absent; VBR_NO if it is absent, or
+   has another entry by now, and then nothing was changed. Else VBR_OUT_OF_STEPS or VBR_NO_HANDLE. What vbr_remove says of the node of
+   the key holds here too. It takes no memory and never waits.
+
+       if (vbr_map_remove_entry(&map[0], 5, &at) == VBR_YES) taken++; // nobody had changed 5 since it was found */
+VBR_NODISCARD static inline vbr_answer vbr_map_remove_entry(vbr_map_handle *handle, uint64_t key,
+                                                            const vbr_incarnation *at) VBR_NOEXCEPT VBR_NONNULL;
+
+/* Takes a key out as vbr_map_remove_entry does, within `steps` steps, in place of the budget of the handle. What it answers is what
+   vbr_map_remove_entry answers.
+
+       told = vbr_map_remove_entry_within(&map[0], 7, &at, 500); // at most 500 steps */
+VBR_NODISCARD vbr_answer vbr_map_remove_entry_within(vbr_map_handle *handle, uint64_t key, const vbr_incarnation *at,
+                                                     uint32_t steps) VBR_NOEXCEPT VBR_NONNULL;
+
+/* Gives the next key of a walk as vbr_map_next does, and tells where it stands, as vbr_map_get_entry does: VBR_YES, and the key is then
+   in `*key`, and its entry in `*at`; VBR_NO at the end. Else VBR_OUT_OF_STEPS or VBR_NO_HANDLE. Unless it answers VBR_YES no key and no
+   entry is written. Its steps are those of vbr_map_next. It takes no memory and never waits.
+
+       do {
+           told = vbr_map_next_at(&map[0], &cursor, &key, &at);
+           if (told == VBR_YES) sum += at.value; // the key stood in at.slot, and had this value
+       } while (told == VBR_YES || told == VBR_OUT_OF_STEPS); // at the end it is VBR_NO */
+VBR_NODISCARD static inline vbr_answer vbr_map_next_at(vbr_map_handle *handle, vbr_cursor *cursor, uint64_t *key,
+                                                       vbr_incarnation *at) VBR_NOEXCEPT VBR_NONNULL;
+
+/* Gives the next key of a walk as vbr_map_next_at does, within `steps` steps, in place of the budget of the handle. What it answers is
+   what vbr_map_next_at answers.
+
+       told = vbr_map_next_at_within(&map[0], &cursor, &key, &at, 5000); // at most 5000 steps */
+VBR_NODISCARD vbr_answer vbr_map_next_at_within(vbr_map_handle *handle, vbr_cursor *cursor, uint64_t *key, vbr_incarnation *at,
+                                                uint32_t steps) VBR_NOEXCEPT VBR_NONNULL;
+
+/* Tells what is in a set as vbr_report_all does, and in which slots: keys[i] stands in slots[i]. Both arrays have `room` places, which
+   are initialised before. A renewal after it, with no call in between, gives keys[i] slot i: so the record beside slots[i] is the one
+   to put beside slot i. What it answers is what vbr_report_all answers.
+
+       vbr_answer told = vbr_report_slots(handle, 2, keys, slots, 8, &report); // VBR_YES: keys[i] stands in slots[i] */
+VBR_NODISCARD vbr_answer vbr_report_slots(vbr_handle *handles, size_t count, uint64_t *keys, uint32_t *slots, size_t room,
+                                          vbr_report *report) VBR_NOEXCEPT VBR_NONNULL;
+
+/* Tells what is in a map as vbr_map_report_all does, and in which slots, as vbr_report_slots does of a set.
+
+       vbr_answer told = vbr_map_report_slots(map, 2, entries, slots, 8, &report); // VBR_YES: entries[i] stands in slots[i] */
+VBR_NODISCARD vbr_answer vbr_map_report_slots(vbr_map_handle *handles, size_t count, vbr_entry *entries, uint32_t *slots, size_t room,
+                                              vbr_report *report) VBR_NOEXCEPT VBR_NONNULL;
+
 #ifdef __cplusplus
 }
 #endif
@@ -891,6 +1110,37 @@ static inline void vbr_map_get_all(vbr_map_handle *handle, const uint64_t *keys,
 }
 static inline vbr_answer vbr_map_next(vbr_map_handle *handle, vbr_cursor *cursor, vbr_entry *entry) VBR_NOEXCEPT {
     return vbr_map_next_within(handle, cursor, entry, vbr_map_steps_of(handle));
+}
+static inline vbr_answer vbr_hold(vbr_handle *handle, uint32_t *slot) VBR_NOEXCEPT {
+    return vbr_hold_within(handle, slot, vbr_steps_of(handle));
+}
+static inline vbr_answer vbr_map_hold(vbr_map_handle *handle, uint32_t *slot) VBR_NOEXCEPT {
+    return vbr_map_hold_within(handle, slot, vbr_map_steps_of(handle));
+}
+static inline vbr_answer vbr_insert_held(vbr_handle *handle, uint64_t key) VBR_NOEXCEPT {
+    return vbr_insert_held_within(handle, key, vbr_steps_of(handle));
+}
+static inline vbr_answer vbr_map_insert_held(vbr_map_handle *handle, uint64_t key, uint64_t value) VBR_NOEXCEPT {
+    return vbr_map_insert_held_within(handle, key, value, vbr_map_steps_of(handle));
+}
+static inline vbr_answer vbr_map_replace_held(vbr_map_handle *handle, uint64_t key, const vbr_incarnation *at,
+                                              uint64_t value) VBR_NOEXCEPT {
+    return vbr_map_replace_held_within(handle, key, at, value, vbr_map_steps_of(handle));
+}
+static inline vbr_answer vbr_map_put_held(vbr_map_handle *handle, uint64_t key, uint64_t value, uint64_t *found) VBR_NOEXCEPT {
+    return vbr_map_put_held_within(handle, key, value, found, vbr_map_steps_of(handle));
+}
+static inline vbr_answer vbr_get_entry(vbr_handle *handle, uint64_t key, vbr_incarnation *at) VBR_NOEXCEPT {
+    return vbr_get_entry_within(handle, key, at, vbr_steps_of(handle));
+}
+static inline vbr_answer vbr_map_get_entry(vbr_map_handle *handle, uint64_t key, vbr_incarnation *at) VBR_NOEXCEPT {
+    return vbr_map_get_entry_within(handle, key, at, vbr_map_steps_of(handle));
+}
+static inline vbr_answer vbr_map_remove_entry(vbr_map_handle *handle, uint64_t key, const vbr_incarnation *at) VBR_NOEXCEPT {
+    return vbr_map_remove_entry_within(handle, key, at, vbr_map_steps_of(handle));
+}
+static inline vbr_answer vbr_map_next_at(vbr_map_handle *handle, vbr_cursor *cursor, uint64_t *key, vbr_incarnation *at) VBR_NOEXCEPT {
+    return vbr_map_next_at_within(handle, cursor, key, at, vbr_map_steps_of(handle));
 }
 
 #endif

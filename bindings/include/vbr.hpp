@@ -158,9 +158,10 @@ enum class [[nodiscard]] refusal : std::int32_t {
     no_memory = VBR_NO_MEMORY,       /* open: nothing was done; else all stays as it was */
     lost = VBR_LOST,                 /* close: it was the last, and a pass is not there; no program is known to get it */
     bad_keys = VBR_BAD_KEYS,         /* open_with: the keys do not ascend, or there are more than slots */
-    no_room = VBR_NO_ROOM,           /* renew: there are more keys than slots of the shape */
+    no_room = VBR_NO_ROOM,           /* renew: there are more keys than slots of the shape; open_in: the file is too short */
     missing = VBR_MISSING,           /* of all handles: they are fewer than were opened with the set, or none */
-    mixed = VBR_MIXED                /* of all handles: two of them are of different sets */
+    mixed = VBR_MIXED,               /* of all handles: two of them are of different sets */
+    held = VBR_HELD                  /* a slot is held, and the call would take another one; of calls by a held slot: it isn't this handle's */
 };
 
 /* A refusal in words.
@@ -178,9 +179,10 @@ constexpr const char *to_string(refusal why) noexcept {
     case refusal::no_memory: return "there is no memory";
     case refusal::lost: return "a pass is not there";
     case refusal::bad_keys: return "the keys do not ascend, or are more than slots";
-    case refusal::no_room: return "there are more keys than slots";
+    case refusal::no_room: return "there are more keys than slots, or the file is too short";
     case refusal::missing: return "handles are missing";
     case refusal::mixed: return "handles are of different sets";
+    case refusal::held: return "a slot is in hand, or none is";
     }
     return "not refused";
 }
@@ -458,11 +460,88 @@ struct cursor {
     vbr_cursor raw = VBR_CURSOR_BEGIN;
 };
 
+/* Where an entry stands: its slot, and the birth of its node; of a map also its value. No other node that was ever in that slot has this
+   birth, so it names one entry, and no later one of the same key. It is good until the set is renewed or closed.
+
+       std::optional<vbr::map_incarnation> at = mine.get_entry(6).value(); // at->slot() is where 6 stands */
+template <class Value>
+class basic_incarnation {
+public:
+    std::uint32_t slot() const noexcept { return raw.slot; }
+    std::uint64_t birth() const noexcept { return raw.birth; }
+
+    /* The value of the entry, of a map.
+
+           sum += at->value(); */
+    template <class V = Value, std::enable_if_t<!std::is_void_v<V>, int> = 0>
+    V value() const noexcept {
+        return detail::value_of<V>(raw.value);
+    }
+
+    friend bool operator==(const basic_incarnation &one, const basic_incarnation &other) noexcept {
+        return one.raw.slot == other.raw.slot && one.raw.birth == other.raw.birth;
+    }
+
+private:
+    template <class>
+    friend class basic_pass;
+    template <class, class>
+    friend class basic_map_pass;
+    vbr_incarnation raw = {0, 0, 0};
+};
+
+/* A slot in hand, or none. Until a call makes it the node of a key nobody else has it, so the record that a program keeps beside it is
+   this handle's to write. It is moved and never copied, and puts the slot back where it ends. The handle stays where it is meanwhile.
+
+       vbr::map_held slot = mine.hold().value();
+       beside[slot.number()] = 7; // nobody else writes there */
+template <class Kind>
+class [[nodiscard]] basic_held {
+public:
+    basic_held() noexcept = default;
+    basic_held(basic_held &&other) noexcept : handle(std::exchange(other.handle, nullptr)), slot(other.slot) {}
+    ~basic_held() { let_go(); }
+
+    basic_held &operator=(basic_held &&other) noexcept {
+        if (this != &other) {
+            let_go();
+            handle = std::exchange(other.handle, nullptr);
+            slot = other.slot;
+        }
+        return *this;
+    }
+
+    /* Whether a slot is held: not after it was moved from, let go, or made the node of a key.
+
+           if (!slot.is_held()) slot = mine.hold().value(); // a call by it was done */
+    bool is_held() const noexcept { return handle != nullptr; }
+
+    /* The number of the slot, which is below `slots()` of the set.
+
+           beside[slot.number()] = 7; // nobody else writes there */
+    std::uint32_t number() const noexcept { return slot; }
+
+    /* Puts the slot back.
+
+           slot.let_go(); // its record isn't written any more */
+    void let_go() noexcept {
+        if (handle) static_cast<void>(Kind::let_go(std::exchange(handle, nullptr)));
+    }
+
+private:
+    template <class>
+    friend class basic_pass;
+    basic_held(typename Kind::raw *of, std::uint32_t number) noexcept : handle(of), slot(number) {}
+    typename Kind::raw *handle = nullptr;
+    std::uint32_t slot = 0;
+};
+
 namespace detail {
 
 /* The calls on sets, and those on maps. */
 struct set_calls {
     using raw = vbr_handle;
+    using value = void;
     using words = std::uint64_t; /* an item as the library has it */
     static std::uint32_t steps_of(const raw *handle) noexcept { return vbr_steps_of(handle); }
     static vbr_answer has(raw *handle, std::uint64_t key, std::uint32_t steps) noexcept { return vbr_has_within(handle, key, steps); }
@@ -491,6 +570,16 @@ struct set_calls {
     static vbr_answer report_all(raw *handles, std::size_t count, words *keys, std::size_t room, vbr_report *report) noexcept {
         return vbr_report_all(handles, count, keys, room, report);
     }
+    static vbr_answer report_slots(raw *handles, std::size_t count, words *keys, std::uint32_t *slots, std::size_t room,
+                                   vbr_report *report) noexcept {
+        return vbr_report_slots(handles, count, keys, slots, room, report);
+    }
+    static vbr_answer hold(raw *handle, std::uint32_t *slot, std::uint32_t steps) noexcept { return vbr_hold_within(handle, slot, steps); }
+    static vbr_answer let_go(raw *handle) noexcept { return vbr_let_go(handle); }
+    static vbr_answer get_entry(raw *handle, std::uint64_t key, vbr_incarnation *at, std::uint32_t steps) noexcept {
+        return vbr_get_entry_within(handle, key, at, steps);
+    }
+    static vbr_answer is_still(raw *handle, const vbr_incarnation *at) noexcept { return vbr_is_still(handle, at); }
     static vbr_answer renew_all(raw *handles, std::size_t count, const shape &wanted, std::uint64_t seed) noexcept {
         return vbr_renew_all_seeded(handles, count, wanted.slots, wanted.buckets, wanted.last_epoch, seed);
     }
@@ -530,6 +619,16 @@ struct map_calls {
     static vbr_answer report_all(raw *handles, std::size_t count, words *entries, std::size_t room, vbr_report *report) noexcept {
         return vbr_map_report_all(handles, count, entries, room, report);
     }
+    static vbr_answer report_slots(raw *handles, std::size_t count, words *entries, std::uint32_t *slots, std::size_t room,
+                                   vbr_report *report) noexcept {
+        return vbr_map_report_slots(handles, count, entries, slots, room, report);
+    }
+    static vbr_answer hold(raw *handle, std::uint32_t *slot, std::uint32_t steps) noexcept { return vbr_map_hold_within(handle, slot, steps); }
+    static vbr_answer let_go(raw *handle) noexcept { return vbr_map_let_go(handle); }
+    static vbr_answer get_entry(raw *handle, std::uint64_t key, vbr_incarnation *at, std::uint32_t steps) noexcept {
+        return vbr_map_get_entry_within(handle, key, at, steps);
+    }
+    static vbr_answer is_still(raw *handle, const vbr_incarnation *at) noexcept { return vbr_map_is_still(handle, at); }
     static vbr_answer renew_all(raw *handles, std::size_t count, const shape &wanted, std::uint64_t seed) noexcept {
         return vbr_map_renew_all_seeded(handles, count, wanted.slots, wanted.buckets, wanted.last_epoch, seed);
     }
@@ -553,6 +652,7 @@ struct set_of : set_calls {
 template <class Key, class Value>
 struct map_of : map_calls {
     static constexpr bool is_plain = detail::is_plain<Key> && detail::is_plain<Value>;
+    using value = Value;
     using key = Key;
     using item = std::conditional_t<is_plain, vbr_entry, basic_entry<Key, Value>>;
     using report = basic_map_report<item>;
@@ -808,12 +908,53 @@ public:
            std::uint32_t reserved = mine.reserve(32); // for its inserts to come */
     std::uint32_t reserve(std::uint32_t wanted) noexcept { return Kind::reserve(&raw, wanted); }
 
+    using held = basic_held<Kind>;
+    using incarnation = basic_incarnation<typename Kind::value>;
+
+    /* Takes a slot in hand, as vbr_hold does. While one is held, calls that would take another one are refused with refusal::held;
+       look-ups, walks and removes go on.
+
+           vbr::map_held slot = mine.hold().value(); */
+    result<held> hold() noexcept { return hold_within(steps()); }
+    result<held> hold_within(vbr::steps budget) noexcept {
+        std::uint32_t slot = 0;
+        vbr_answer told = Kind::hold(&raw, &slot, budget.count());
+        if (told < 0) return refusal{told};
+        return held(&raw, slot);
+    }
+
+    /* Looks a key up, and tells where it stands; none where it is absent. Its steps are loads.
+
+           std::optional<vbr::map_incarnation> at = mine.get_entry(6).value(); // at->slot() is where 6 stands */
+    result<std::optional<incarnation>> get_entry(key_type key) noexcept { return get_entry_within(key, steps()); }
+    result<std::optional<incarnation>> get_entry_within(key_type key, vbr::steps budget) noexcept {
+        incarnation at;
+        vbr_answer told = Kind::get_entry(&raw, detail::word_of(key), &at.raw, budget.count());
+        if (told < 0) return refusal{told};
+        return told == VBR_NO ? std::nullopt : std::optional<incarnation>(at);
+    }
+
+    /* Whether a slot is still that of the entry that was found there, in one step, as vbr_is_still says: what was copied from beside it
+       since then is of that entry, whole.
+
+           if (mine.is_still(*at).value()) copied++; // what was copied since at was found is of this entry */
+    result<bool> is_still(const incarnation &at) noexcept { return detail::yes_or_no(Kind::is_still(&raw, &at.raw)); }
+
 protected:
     using kind = Kind;
     static constexpr std::size_t part = 64; /* so many keys of a batch are looked up at once */
     basic_pass() noexcept = default;
     ~basic_pass() = default;
     basic_walk<Kind> walk(cursor *from, vbr::steps budget) noexcept { return {&raw, from, budget}; }
+
+    // Makes a call by the slot that is held, which is spent where that is so.
+    template <class Call, class Spends>
+    vbr_answer by(held &slot, const Call &call, const Spends &spends) noexcept {
+        if (slot.handle != &raw) return VBR_HELD;
+        vbr_answer told = call();
+        if (spends(told)) slot.handle = nullptr;
+        return told;
+    }
 
     // Calls with some keys after others, each time with where they begin and how many they are.
     template <class Call>
@@ -848,6 +989,18 @@ public:
     result<bool> insert(Key key) noexcept { return insert_within(key, this->steps()); }
     result<bool> insert_within(Key key, vbr::steps budget) noexcept {
         return detail::yes_or_no(vbr_insert_within(&this->raw, detail::word_of(key), budget.count()));
+    }
+
+    using typename basic_pass<detail::set_of<Key>>::held;
+
+    /* Adds a key by the slot that is held: true if it was absent, and the slot is then its node. Else the slot is held still.
+
+           if (mine.insert(std::move(slot), 7).value()) count++; // 7 stands in this slot */
+    result<bool> insert(held &&slot, Key key) noexcept { return insert_within(std::move(slot), key, this->steps()); }
+    result<bool> insert_within(held &&slot, Key key, vbr::steps budget) noexcept {
+        return detail::yes_or_no(this->by(
+            slot, [&] { return vbr_insert_held_within(&this->raw, detail::word_of(key), budget.count()); },
+            [](vbr_answer told) { return told == VBR_YES; }));
     }
 
     /* Takes a key out: true if it was there.
@@ -889,6 +1042,67 @@ public:
     result<bool> insert(Key key, Value value) noexcept { return insert_within(key, value, this->steps()); }
     result<bool> insert_within(Key key, Value value, vbr::steps budget) noexcept {
         return detail::yes_or_no(vbr_map_insert_within(&this->raw, detail::word_of(key), detail::word_of(value), budget.count()));
+    }
+
+    using typename basic_pass<detail::map_of<Key, Value>>::held;
+    using typename basic_pass<detail::map_of<Key, Value>>::incarnation;
+
+    /* Adds a key with its value by the slot that is held: true if the key was absent, and the slot is then its node. Else the slot is held
+       still.
+
+           if (mine.insert(std::move(slot), 7, 70).value()) added++; // 7 stands in this slot */
+    result<bool> insert(held &&slot, Key key, Value value) noexcept { return insert_within(std::move(slot), key, value, this->steps()); }
+    result<bool> insert_within(held &&slot, Key key, Value value, vbr::steps budget) noexcept {
+        return detail::yes_or_no(this->by(
+            slot, [&] { return vbr_map_insert_held_within(&this->raw, detail::word_of(key), detail::word_of(value), budget.count()); },
+            [](vbr_answer told) { return told == VBR_YES; }));
+    }
+
+    /* Gives a key this value by the slot that is held, in place of the very entry that was found: true if the key still had it. Else
+       nothing is changed, and the slot is held still.
+
+           if (mine.replace(std::move(slot), 7, *at, 71).value()) changed++; // nobody had changed 7 since it was found */
+    result<bool> replace(held &&slot, Key key, const incarnation &at, Value value) noexcept {
+        return replace_within(std::move(slot), key, at, value, this->steps());
+    }
+    result<bool> replace_within(held &&slot, Key key, const incarnation &at, Value value, vbr::steps budget) noexcept {
+        return detail::yes_or_no(this->by(
+            slot,
+            [&] { return vbr_map_replace_held_within(&this->raw, detail::word_of(key), &at.raw, detail::word_of(value), budget.count()); },
+            [](vbr_answer told) { return told == VBR_YES; }));
+    }
+
+    /* Gives a key this value by the slot that is held, whether it is there or not, and returns the one that it had. Where it is refused the
+       slot is held still.
+
+           if (mine.put(std::move(slot), 7, 72).has_value()) puts++; // 7 stands in this slot */
+    found put(held &&slot, Key key, Value value) noexcept { return put_within(std::move(slot), key, value, this->steps()); }
+    found put_within(held &&slot, Key key, Value value, vbr::steps budget) noexcept {
+        std::uint64_t had = 0;
+        vbr_answer told = this->by(
+            slot, [&] { return vbr_map_put_held_within(&this->raw, detail::word_of(key), detail::word_of(value), &had, budget.count()); },
+            [](vbr_answer answer) { return answer >= 0; });
+        return detail::value_by<Value>(told, had);
+    }
+
+    /* Takes a key out if it still has the very entry that was found. Else nothing is changed.
+
+           if (mine.remove_entry(7, *at).value()) taken_out++; // nobody had changed 7 since it was found */
+    result<bool> remove_entry(Key key, const incarnation &at) noexcept { return remove_entry_within(key, at, this->steps()); }
+    result<bool> remove_entry_within(Key key, const incarnation &at, vbr::steps budget) noexcept {
+        return detail::yes_or_no(vbr_map_remove_entry_within(&this->raw, detail::word_of(key), &at.raw, budget.count()));
+    }
+
+    /* The next key of a walk, and where it stands; none at the end. It is as `next` otherwise.
+
+           auto stands = mine.next_at(from).value(); // a key, and its incarnation */
+    result<std::optional<std::pair<Key, incarnation>>> next_at(cursor &from) noexcept { return next_at_within(from, this->steps()); }
+    result<std::optional<std::pair<Key, incarnation>>> next_at_within(cursor &from, vbr::steps budget) noexcept {
+        std::uint64_t key = 0;
+        incarnation at;
+        vbr_answer told = vbr_map_next_at_within(&this->raw, &from.raw, &key, &at.raw, budget.count());
+        if (told < 0) return refusal{told};
+        return told == VBR_NO ? std::nullopt : std::optional<std::pair<Key, incarnation>>({detail::value_of<Key>(key), at});
     }
 
     /* Takes a key out, and gives its value.
@@ -1072,6 +1286,14 @@ public:
         return room.report();
     }
 
+    /* The slots of what is in a set or a map, by all its handles: slots[i] is that of item i of the report that is made now. A renewal
+       after it, with no call in between, gives item i slot i. It takes the memory of a close, and 4 bytes for each slot besides.
+
+           std::vector<std::uint32_t> slots = vbr::map_handle::report_slots(both).value(); */
+    static result<std::vector<std::uint32_t>> report_slots(std::vector<basic_handle> &handles) {
+        return report_slots(handles.size(), in_order(handles));
+    }
+
     /* Lets all handles of a set or a map go on over a fresh one of this shape, with the keys that were in it, or the entries: at
        epoch 1, and larger where there are to be more of them. No other thread is in a call of one of them. The balance of the first
        handle is the number of keys then, and that of the others is 0. The fresh set is opened before the other one is given up.
@@ -1092,6 +1314,8 @@ private:
     friend struct detail::openings;
     template <class Handle>
     friend class detail::lending;
+    template <class Record>
+    friend class records;
 
     /* The handles of a vector, each by its number. */
     static auto in_order(std::vector<basic_handle> &handles) noexcept {
@@ -1120,6 +1344,22 @@ private:
     }
 
     template <class Nth>
+    static result<std::vector<std::uint32_t>> report_slots(std::size_t count, const Nth &nth) {
+        if (result<void> are = are_all(count, nth); !are) return are.error();
+        detail::report_room<kind> room(nth(0).shared->slots);
+        std::vector<std::uint32_t> slots(nth(0).shared->slots);
+        vbr_answer code = with_all(count, nth, [&](auto *all) {
+            return room.fill([&](auto *items, std::size_t size, vbr_report *totals) {
+                vbr_answer told = kind::report_slots(all, count, items, slots.data(), size, totals);
+                if (told == VBR_YES) slots.resize(totals->live);
+                return told;
+            });
+        });
+        if (code != VBR_YES) return refusal{code};
+        return slots;
+    }
+
+    template <class Nth>
     static result<void> renew_all(std::size_t count, const Nth &nth, const shape &wanted) noexcept {
         if (result<void> are = are_all(count, nth); !are) return are;
         std::uint64_t seed = wanted.seed ? *wanted.seed : nth(0).seed();
@@ -1138,7 +1378,8 @@ private:
     /* Whether all others are closed. If not, this one is then closed too: it is parked for the last one. */
     bool is_last() noexcept {
         if (shared->open.load(std::memory_order_acquire) == 1) return true;
-        this->spare(); // those that are open can have its slots
+        static_cast<void>(kind::let_go(&raw)); // those that are open can have its slots
+        this->spare();
         shared->parked[number] = raw;
         if (shared->open.fetch_sub(1, std::memory_order_acq_rel) == 1) {
             shared->open.store(1, std::memory_order_relaxed);
@@ -1199,7 +1440,9 @@ private:
     std::shared_ptr<detail::shared<kind>> shared;
 };
 
-// vbr_lend.hpp has these.
+// vbr_lend.hpp and vbr_records.hpp have these.
+template <class Record>
+class records;
 template <class Handle>
 class basic_lender;
 template <class Handle, class Owner = detail::lending<Handle> *>
@@ -1356,9 +1599,13 @@ struct map : detail::openings<basic_handle<basic_map_pass<Key, Value>>> {
 using pass = set<>::pass;
 using handle = set<>::handle;
 using report = set<>::report;
+using held = pass::held;
+using incarnation = pass::incarnation;
 using map_pass = map<>::pass;
 using map_handle = map<>::handle;
 using map_report = map<>::report;
+using map_held = map_pass::held;
+using map_incarnation = map_pass::incarnation;
 
 /* Opens an empty set with `count` handles, from 1 to 64.
 

@@ -238,6 +238,12 @@ public:
 
     /* Lets the handles go on over a fresh set of this shape, once all loans are back, if they are before the time is over. */
     result<void> renew(const shape &wanted, const deadline &until) {
+        return renew_by(wanted, until, [&](std::size_t all, const auto &nth) { return Handle::renew_all(all, nth, wanted); });
+    }
+
+    /* The same by this renewal, which is given how many handles there are, and each by its number. */
+    template <class Renewal>
+    result<void> renew_by(const shape &wanted, const deadline &until, const Renewal &renews) {
         if (!is_in_range(wanted)) return refusal::bad_shape;
         renewal mine(*this);
         const std::size_t before = renewals.load(std::memory_order_relaxed);
@@ -250,7 +256,7 @@ public:
         if (is_done_by_another) return result<void>(std::in_place);
         if (handles() == 0) return refusal::no_handle;
         if (!mine.has_all()) return refusal::on_loan;
-        result<void> told = Handle::renew_all(handles(), [this](std::size_t number) -> Handle & { return places[number].handle; }, wanted);
+        result<void> told = renews(handles(), [this](std::size_t number) -> Handle & { return places[number].handle; });
         if (told) {
             opened.set(wanted);
             renewals.fetch_add(1, std::memory_order_relaxed);
@@ -475,6 +481,8 @@ public:
     result<void> end_all() noexcept { return all ? all->end_all() : refusal::no_handle; }
 
 private:
+    template <class Record>
+    friend class records;
     using place_type = typename lending::place_type;
     place_type *taken() noexcept { return all ? all->take() : nullptr; }
 

@@ -36,8 +36,8 @@ extern "C" {
 #define VBR_NONNULL_SECOND
 #endif
 
-/* A handle as it lies in the mapping. Its `set`, or its `map`, is for the calls of vbr.h. It has 128 bytes, so that no two share a line
-   of the cache, since its mark is stored with each call; the mark is among the bytes that a vbr_handle doesn't use.
+/* A handle as it lies in the mapping. Its `set`, or its `map`, is for the calls of vbr.h, and `both` has the fields of either. It has 128
+   bytes, so that no two share a line of the cache, since its mark is stored with each call.
 
        vbr_shared_handle *handle; // the first of the array that an opening gives
        handle[0].set.steps = 5000; // a budget, as of any handle */
@@ -46,7 +46,7 @@ typedef union vbr_shared_handle {
     vbr_map_handle map;
     struct {
         void *owned;
-        uint32_t steps, in_call; /* the mark, which is vbr_begin's */
+        uint32_t steps, in_call;
     } both;
     unsigned char lines[128];
 } vbr_shared_handle;
@@ -71,8 +71,10 @@ VBR_NODISCARD vbr_answer vbr_map_open_shared(vbr_shared_handle **handles, size_t
                                              const vbr_entry *entries, size_t entry_count) VBR_NOEXCEPT VBR_NONNULL_FIRST;
 
 /* Opens a set as vbr_open_shared does, in a file, which is open for reading and writing and has vbr_shared_size bytes or more: one of
-   memfd_create, to be looked at by its name, or of a tmpfs with large pages. It may be closed afterwards. VBR_NO_MEMORY too where it
-   can't be mapped. What was in the file is lost.
+   memfd_create, to be looked at by its name, or of a tmpfs with large pages. It may be closed afterwards. What was in the file is lost.
+   After the tests of vbr_open_shared come VBR_NO_ROOM where the file is shorter, and VBR_NO_MEMORY where it can't be mapped; then
+   nothing of it was written. While a process has the set, nobody makes the file shorter: whoever touches what was cut off is ended by
+   a signal. A memfd keeps its length by F_SEAL_SHRINK.
 
        if (vbr_open_shared_in(file, &handle, 2, 1024, 64, 12345, NULL, 0) != VBR_OK) return 1; */
 VBR_NODISCARD vbr_answer vbr_open_shared_in(int file, vbr_shared_handle **handles, size_t count, uint32_t slots, uint32_t buckets,

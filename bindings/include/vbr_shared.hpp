@@ -31,7 +31,6 @@
 #include <cstddef>
 #include <cstdint>
 #include <initializer_list>
-#include <sys/stat.h>
 #include <utility>
 
 namespace vbr {
@@ -105,13 +104,6 @@ inline void begin_turn(vbr_shared_handle &it) noexcept {
 inline void end_turn(vbr_shared_handle &it) noexcept {
     __atomic_signal_fence(__ATOMIC_SEQ_CST);
     __atomic_store_n(&it.both.in_call, it.both.in_call - 1, __ATOMIC_RELAXED);
-}
-
-/* A file that has room for a mapping, or -1, which can't be mapped: what lies behind the end of a file ends a process by a signal. */
-inline int with_room(int file, std::size_t size) noexcept {
-    struct stat told = {};
-    if (::fstat(file, &told) != 0) return -1;
-    return S_ISREG(told.st_mode) && static_cast<std::uint64_t>(told.st_size) < size ? -1 : file;
 }
 
 } // namespace detail
@@ -238,14 +230,14 @@ public:
     }
 
     /* The same in a file, which is open for reading and writing and has shared_size bytes: one of memfd_create, or of a tmpfs with large
-       pages. It may be closed afterwards. What was in it is lost. It is refused with no_memory too where the file is shorter, or can't
-       be mapped.
+       pages. It may be closed afterwards. What was in it is lost. It is refused with no_room where the file is shorter, and with
+       no_memory where it can't be mapped; then nothing of it was written. Nobody makes it shorter while a process has the set.
 
            auto seen = vbr::shared<ports>::open_in(file, shape, 2); */
     static result<basic_shared> open_in(int file, const shape &wanted, std::size_t count, const item_type *items = nullptr,
                                         std::size_t item_count = 0) {
         return opened(wanted, count, items, item_count, [&](vbr_shared_handle **handles, const words *first) {
-            return calls::open_in(detail::with_room(file, shared_size(wanted, count)), handles, count, wanted, first, item_count);
+            return calls::open_in(file, handles, count, wanted, first, item_count);
         });
     }
 

@@ -5,10 +5,12 @@
    - that a handle is used: two threads that use one, with no order between them, are reported, unless both ask for a number of it;
    - that what a thread did before it inserted a key comes before what a thread does that then finds it, and what it did
      before it removed one before what a thread does that then finds it absent;
+   - that what was done before a slot was let go, or its key removed or given another value, comes before what a thread does that then
+     holds it;
    - that what was done before a handle was closed comes before what the last close tells, and that this one writes the report.
 
    For maps it says the same, where a get is a look-up, and besides that a value was written. A call that may give a key
-   another value counts as a remove and an insert. A call of a walk counts as a write of its cursor, and one that gives a key finds
+   another value counts as a remove and an insert, also one by a slot that is held. A call of a walk counts as a write of its cursor, and one that gives a key finds
    it, and writes it. So a right program is silent, and one that reads what it didn't look up, or what is absent, is reported.
    What the library itself copies and frees while it closes, drops, reports and renews isn't reported, since the sanitizer doesn't
    see the steps that order it: threads may close and drop handles of their own at the same time. The names of the calls within
@@ -34,9 +36,9 @@ void __tsan_write_range(void *address, long size); /* signed, as in GCC, where i
 void __tsan_ignore_thread_begin(void);
 void __tsan_ignore_thread_end(void);
 
-/* For each group of keys whom inserts come before, and whom removes; then whom closes come before. */
+/* For each group of keys whom inserts come before, and whom removes; then whom closes come before, and whom what frees a slot. */
 #define VBR_TSAN_GROUPS (1u << 14)
-__attribute__((weak)) uint64_t vbr_tsan_places[2 * VBR_TSAN_GROUPS + 1];
+__attribute__((weak)) uint64_t vbr_tsan_places[2 * VBR_TSAN_GROUPS + 2];
 
 #ifdef __cplusplus
 }
@@ -52,6 +54,10 @@ static inline void *vbr_tsan_gone(uint64_t key) {
 
 static inline void *vbr_tsan_closed(void) {
     return &vbr_tsan_places[2 * VBR_TSAN_GROUPS];
+}
+
+static inline void *vbr_tsan_free(void) {
+    return &vbr_tsan_places[2 * VBR_TSAN_GROUPS + 1];
 }
 
 /* A call on a handle writes what the handle owns, and one that shows a number reads it. */
@@ -86,10 +92,22 @@ static inline vbr_answer vbr_tsan_given(uint64_t *value, vbr_answer answer) {
     return answer;
 }
 
+/* What a call comes after that may remove a key, and whose slot may be held then. */
+static inline void vbr_tsan_removes(uint64_t key) {
+    __tsan_release(vbr_tsan_gone(key));
+    __tsan_release(vbr_tsan_free());
+}
+
 /* What a call comes after that may remove a value and insert another one. */
 static inline void vbr_tsan_changes(uint64_t key) {
     __tsan_release(vbr_tsan_there(key));
-    __tsan_release(vbr_tsan_gone(key));
+    vbr_tsan_removes(key);
+}
+
+/* What comes before an answer that names an entry, which was written. */
+static inline vbr_answer vbr_tsan_named(uint64_t key, vbr_incarnation *at, vbr_answer answer) {
+    if (answer == VBR_YES) __tsan_write_range(at, sizeof *at);
+    return vbr_tsan_found(key, answer);
 }
 
 /* What comes before an answer of a look-up of several keys, which was written. */
@@ -113,7 +131,7 @@ VBR_NODISCARD static inline vbr_answer vbr_tsan_insert_within(vbr_handle *handle
 
 VBR_NODISCARD static inline vbr_answer vbr_tsan_remove_within(vbr_handle *handle, uint64_t key, uint32_t steps) VBR_NOEXCEPT {
     vbr_tsan_uses(handle);
-    __tsan_release(vbr_tsan_gone(key));
+    vbr_tsan_removes(key);
     return vbr_tsan_found(key, vbr_remove_within(handle, key, steps));
 }
 
@@ -141,7 +159,7 @@ VBR_NODISCARD static inline vbr_answer vbr_tsan_map_insert_within(vbr_map_handle
 
 VBR_NODISCARD static inline vbr_answer vbr_tsan_map_remove_within(vbr_map_handle *handle, uint64_t key, uint64_t *value, uint32_t steps) VBR_NOEXCEPT {
     vbr_tsan_map_uses(handle);
-    __tsan_release(vbr_tsan_gone(key));
+    vbr_tsan_removes(key);
     return vbr_tsan_given(value, vbr_tsan_found(key, vbr_map_remove_within(handle, key, value, steps)));
 }
 
@@ -176,7 +194,7 @@ VBR_NODISCARD static inline vbr_answer vbr_tsan_map_compare_exchange_within(vbr_
 
 VBR_NODISCARD static inline vbr_answer vbr_tsan_map_remove_if_within(vbr_map_handle *handle, uint64_t key, uint64_t expected, uint64_t *found, uint32_t steps) VBR_NOEXCEPT {
     vbr_tsan_map_uses(handle);
-    __tsan_release(vbr_tsan_gone(key));
+    vbr_tsan_removes(key);
     return vbr_tsan_given(found, vbr_tsan_found(key, vbr_map_remove_if_within(handle, key, expected, found, steps)));
 }
 
@@ -203,6 +221,52 @@ static inline void vbr_tsan_map_get_all_within(vbr_map_handle *handle, const uin
 VBR_NODISCARD static inline vbr_answer vbr_tsan_map_next_within(vbr_map_handle *handle, vbr_cursor *cursor, vbr_entry *entry, uint32_t steps) VBR_NOEXCEPT {
     vbr_tsan_map_uses(handle);
     return vbr_tsan_given(&entry->value, vbr_tsan_walked(cursor, &entry->key, vbr_map_next_within(handle, cursor, entry, steps)));
+}
+
+VBR_NODISCARD static inline vbr_answer vbr_tsan_insert_held_within(vbr_handle *handle, uint64_t key, uint32_t steps) VBR_NOEXCEPT {
+    vbr_tsan_uses(handle);
+    __tsan_release(vbr_tsan_there(key));
+    return vbr_tsan_added(key, vbr_insert_held_within(handle, key, steps));
+}
+
+VBR_NODISCARD static inline vbr_answer vbr_tsan_get_entry_within(vbr_handle *handle, uint64_t key, vbr_incarnation *at, uint32_t steps) VBR_NOEXCEPT {
+    vbr_tsan_uses(handle);
+    return vbr_tsan_named(key, at, vbr_get_entry_within(handle, key, at, steps));
+}
+
+VBR_NODISCARD static inline vbr_answer vbr_tsan_map_insert_held_within(vbr_map_handle *handle, uint64_t key, uint64_t value, uint32_t steps) VBR_NOEXCEPT {
+    vbr_tsan_map_uses(handle);
+    __tsan_release(vbr_tsan_there(key));
+    return vbr_tsan_added(key, vbr_map_insert_held_within(handle, key, value, steps));
+}
+
+VBR_NODISCARD static inline vbr_answer vbr_tsan_map_replace_held_within(vbr_map_handle *handle, uint64_t key, const vbr_incarnation *at, uint64_t value, uint32_t steps) VBR_NOEXCEPT {
+    vbr_tsan_map_uses(handle);
+    vbr_tsan_changes(key);
+    return vbr_tsan_found(key, vbr_map_replace_held_within(handle, key, at, value, steps));
+}
+
+VBR_NODISCARD static inline vbr_answer vbr_tsan_map_put_held_within(vbr_map_handle *handle, uint64_t key, uint64_t value, uint64_t *found, uint32_t steps) VBR_NOEXCEPT {
+    vbr_tsan_map_uses(handle);
+    vbr_tsan_changes(key);
+    return vbr_tsan_given(found, vbr_tsan_found(key, vbr_map_put_held_within(handle, key, value, found, steps)));
+}
+
+VBR_NODISCARD static inline vbr_answer vbr_tsan_map_get_entry_within(vbr_map_handle *handle, uint64_t key, vbr_incarnation *at, uint32_t steps) VBR_NOEXCEPT {
+    vbr_tsan_map_uses(handle);
+    return vbr_tsan_named(key, at, vbr_map_get_entry_within(handle, key, at, steps));
+}
+
+VBR_NODISCARD static inline vbr_answer vbr_tsan_map_remove_entry_within(vbr_map_handle *handle, uint64_t key, const vbr_incarnation *at, uint32_t steps) VBR_NOEXCEPT {
+    vbr_tsan_map_uses(handle);
+    vbr_tsan_removes(key);
+    return vbr_tsan_found(key, vbr_map_remove_entry_within(handle, key, at, steps));
+}
+
+VBR_NODISCARD static inline vbr_answer vbr_tsan_map_next_at_within(vbr_map_handle *handle, vbr_cursor *cursor, uint64_t *key, vbr_incarnation *at, uint32_t steps) VBR_NOEXCEPT {
+    vbr_tsan_map_uses(handle);
+    vbr_answer answer = vbr_tsan_walked(cursor, key, vbr_map_next_at_within(handle, cursor, key, at, steps));
+    return answer == VBR_YES ? vbr_tsan_named(*key, at, answer) : answer;
 }
 
 #ifdef __cplusplus
@@ -247,6 +311,31 @@ static inline vbr_answer vbr_tsan_reported(void *items, size_t size, vbr_report 
         vbr_answer answer = vbr_##FOR##report_all(handles, count, items, room, report); \
         __tsan_ignore_thread_end(); \
         return vbr_tsan_reported(items, sizeof *items, report, answer); \
+    } \
+    VBR_NODISCARD static inline vbr_answer vbr_tsan_##FOR##report_slots(vbr_##FOR##handle *handles, size_t count, item *items, \
+                                                                        uint32_t *slots, size_t room, vbr_report *report) VBR_NOEXCEPT { \
+        for (size_t i = 0; i < count; i++) vbr_tsan_##FOR##uses(&handles[i]); \
+        __tsan_ignore_thread_begin(); \
+        vbr_answer answer = vbr_##FOR##report_slots(handles, count, items, slots, room, report); \
+        __tsan_ignore_thread_end(); \
+        if (answer == VBR_YES && report->live > 0) __tsan_write_range(slots, VBR_TSAN_SIZE(report->live * sizeof *slots)); \
+        return vbr_tsan_reported(items, sizeof *items, report, answer); \
+    } \
+    VBR_NODISCARD static inline vbr_answer vbr_tsan_##FOR##hold_within(vbr_##FOR##handle *handle, uint32_t *slot, uint32_t steps) VBR_NOEXCEPT { \
+        vbr_tsan_##FOR##uses(handle); \
+        vbr_answer answer = vbr_##FOR##hold_within(handle, slot, steps); \
+        if (answer == VBR_YES) __tsan_write4(slot); \
+        if (answer == VBR_YES) __tsan_acquire(vbr_tsan_free()); \
+        return answer; \
+    } \
+    VBR_NODISCARD static inline vbr_answer vbr_tsan_##FOR##let_go(vbr_##FOR##handle *handle) VBR_NOEXCEPT { \
+        vbr_tsan_##FOR##uses(handle); \
+        __tsan_release(vbr_tsan_free()); \
+        return vbr_##FOR##let_go(handle); \
+    } \
+    VBR_NODISCARD static inline vbr_answer vbr_tsan_##FOR##is_still(vbr_##FOR##handle *handle, const vbr_incarnation *at) VBR_NOEXCEPT { \
+        vbr_tsan_##FOR##uses(handle); \
+        return vbr_##FOR##is_still(handle, at); \
     } \
     VBR_NODISCARD static inline vbr_answer vbr_tsan_##FOR##renew_all(vbr_##FOR##handle *handles, size_t count, uint32_t slots, \
                                                                      uint32_t buckets, uint64_t last_epoch) VBR_NOEXCEPT { \
@@ -309,6 +398,12 @@ VBR_TSAN_CALLS(map_, vbr_entry)
 #define vbr_has_within vbr_tsan_has_within
 #define vbr_has_all_within vbr_tsan_has_all_within
 #define vbr_next_within vbr_tsan_next_within
+#define vbr_insert_held_within vbr_tsan_insert_held_within
+#define vbr_get_entry_within vbr_tsan_get_entry_within
+#define vbr_hold_within vbr_tsan_hold_within
+#define vbr_let_go vbr_tsan_let_go
+#define vbr_is_still vbr_tsan_is_still
+#define vbr_report_slots vbr_tsan_report_slots
 #define vbr_close vbr_tsan_close
 #define vbr_close_all vbr_tsan_close_all
 #define vbr_report_all vbr_tsan_report_all
@@ -334,6 +429,16 @@ VBR_TSAN_CALLS(map_, vbr_entry)
 #define vbr_map_has_all_within vbr_tsan_map_has_all_within
 #define vbr_map_get_all_within vbr_tsan_map_get_all_within
 #define vbr_map_next_within vbr_tsan_map_next_within
+#define vbr_map_insert_held_within vbr_tsan_map_insert_held_within
+#define vbr_map_replace_held_within vbr_tsan_map_replace_held_within
+#define vbr_map_put_held_within vbr_tsan_map_put_held_within
+#define vbr_map_get_entry_within vbr_tsan_map_get_entry_within
+#define vbr_map_remove_entry_within vbr_tsan_map_remove_entry_within
+#define vbr_map_next_at_within vbr_tsan_map_next_at_within
+#define vbr_map_hold_within vbr_tsan_map_hold_within
+#define vbr_map_let_go vbr_tsan_map_let_go
+#define vbr_map_is_still vbr_tsan_map_is_still
+#define vbr_map_report_slots vbr_tsan_map_report_slots
 #define vbr_map_close vbr_tsan_map_close
 #define vbr_map_close_all vbr_tsan_map_close_all
 #define vbr_map_report_all vbr_tsan_map_report_all

@@ -1,8 +1,10 @@
 //! All handles of a set or a map at once: their report, and their renewal.
 use crate::handle::{HandleOf, Shared};
 use crate::library::{code, Raw};
+use crate::records::Words;
 use crate::reporting::Room;
 use crate::{order, Kind, RenewError, ReportError, Shape};
+use alloc::vec::Vec;
 use core::ptr::NonNull;
 
 /// Calls of all handles of a set, in any order, of which none is in a call meanwhile.
@@ -55,7 +57,13 @@ impl<T: Kind> HandleOf<T> {
     /// [`RenewError`], and the handles stay as they were, and go on.
     pub fn renew_all(handles: &mut [HandleOf<T>], shape: Shape) -> Result<(), RenewError> {
         shape.check_numbers()?;
-        handles.renew(shape)
+        handles.renew(shape, None)
+    }
+
+    /// As [`HandleOf::renew_all`], and the records go along.
+    pub(crate) fn renew_along(handles: &mut [HandleOf<T>], shape: Shape, records: &Words) -> Result<(), RenewError> {
+        shape.check_numbers()?;
+        handles.renew(shape, Some(records))
     }
 }
 
@@ -81,10 +89,16 @@ pub(crate) trait All<T: Kind> {
         Ok(first)
     }
 
-    /// Lets the handles go on over a fresh set of this shape, whose numbers are in range.
-    fn renew(&mut self, shape: Shape) -> Result<(), RenewError> {
+    /// Lets the handles go on over a fresh set of this shape, whose numbers are in range, and records with them.
+    fn renew(&mut self, shape: Shape, records: Option<&Words>) -> Result<(), RenewError> {
         let mut shared = self.shared()?;
         let Shape { slots, buckets, last_epoch, seed, steps, .. } = shape;
+        let copies = match records {
+            // SAFETY: it is there while one of its handles is open, and these are.
+            Some(records) => self.slots_of_items(unsafe { shared.as_ref() }.slots).and_then(|slots| records.copies(&slots)),
+            None => Some(Vec::new()),
+        };
+        let copies = copies.ok_or(RenewError::Memory)?;
         let seed = seed.unwrap_or_else(|| self.at(0).seed());
         let told = self.with_raw(|all, count| {
             // SAFETY: these are all handles of the set or map, and nothing else has one of them.
@@ -92,6 +106,9 @@ pub(crate) trait All<T: Kind> {
         });
         match told {
             code::DONE => {
+                if let Some(records) = records {
+                    records.put(&copies);
+                }
                 // SAFETY: this thread has all handles that share it, so nothing else reaches it.
                 unsafe { shared.as_mut() }.slots = slots;
                 if let Some(steps) = steps {
@@ -102,6 +119,20 @@ pub(crate) trait All<T: Kind> {
             code::NO_ROOM => Err(RenewError::Slots),
             _ => Err(RenewError::Memory),
         }
+    }
+
+    /// The slot of each item, in the order of the report, where the set has so many slots; none where there is no memory.
+    fn slots_of_items(&mut self, slots: u32) -> Option<Vec<u32>> {
+        let mut room = Room::<T>::of(slots)?;
+        let mut told = Vec::new();
+        told.try_reserve_exact(slots as usize).ok()?;
+        told.resize(slots as usize, 0);
+        let numbers = self.with_raw(|all, count| {
+            // SAFETY: these are all handles of the set or map, and nothing else has one of them; there is room for as many slots as items.
+            room.fill(|items, room, numbers| unsafe { T::REPORT_SLOTS(all, count, items, told.as_mut_ptr(), room, numbers) })
+        });
+        told.truncate(numbers.ok()?.live as usize);
+        Some(told)
     }
 
     /// Makes a call of the library with all handles, which are all of one set and at least one, side by side; then each handle has

@@ -7,7 +7,7 @@ use core::num::NonZero;
 /// A type that is kept in 64 bits: that of the keys of a set or a map, or of the values of a map.
 ///
 /// The unsigned and signed integers up to 64 bits have it, `usize` and `isize`, those that are [`NonZero`], `bool`, `char`, pairs
-/// of `u32`, eight bytes, and by [`ByBits`] `f64`. For a type of your own say how it is made of 64 bits, and they of it:
+/// of `u32`, eight bytes, `()`, and by [`ByBits`] `f64`. For a type of your own say how it is made of 64 bits, and they of it:
 ///
 /// ```
 /// use vbr::{Bits, Set, Shape};
@@ -111,6 +111,17 @@ mod integers {
 }
 
 non_zero! { u8 u16 u32 u64 usize i8 i16 i32 i64 isize }
+
+/// The value of a map that has none beside its records.
+impl Bits for () {
+    #[inline]
+    fn to_bits(self) -> u64 {
+        0
+    }
+
+    #[inline]
+    fn from_bits(_: u64) {}
+}
 
 impl Bits for bool {
     #[inline]

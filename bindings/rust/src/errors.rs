@@ -20,6 +20,8 @@ pub enum OpenError {
     Keys(KeysError),
     /// There is no memory.
     Memory,
+    /// The file is shorter than the memory of the set ([`SharedTable::size`](crate::SharedTable::size)), of an opening in a file alone.
+    ShortFile,
 }
 
 /// Why a set or a map can't be opened with these keys.
@@ -87,6 +89,9 @@ pub enum Refusal {
     /// An insert of an absent key, or a call that gives a key another value, would have needed an epoch beyond the last one.
     /// Renew the set or the map ([`Table::renew`], [`HandleOf::renew_all`]); until then look-ups and removes are answered as ever.
     EpochSpent,
+    /// A call would take a slot, and the handle has one in hand, since a [`Held`](crate::Held) was forgotten ([`core::mem::forget`]).
+    /// [`PassOf::hold`](crate::PassOf::hold) takes another one in its place; drop that.
+    Held,
 }
 
 /// Why the last handle got no report: of a map's as `CloseError<MapHandle>`, and of a set that lends its handles as
@@ -254,6 +259,7 @@ impl fmt::Display for OpenError {
             OpenError::Shape(number) => number.fmt(f),
             OpenError::Keys(why) => why.fmt(f),
             OpenError::Memory => f.write_str("there is no memory for the set or map"),
+            OpenError::ShortFile => f.write_str("the file is too short for the set or map"),
         }
     }
 }
@@ -279,6 +285,7 @@ impl fmt::Display for Refusal {
             Refusal::OutOfSteps => "the budget of steps is spent",
             Refusal::NoSlot => "no slot was found",
             Refusal::EpochSpent => "the last epoch is spent",
+            Refusal::Held => "a slot is in hand",
         })
     }
 }

@@ -1,6 +1,7 @@
 //! Handles on loan.
 use crate::all::All;
 use crate::boxed::boxed;
+use crate::records::Words;
 use crate::reporting::Unreported;
 use crate::waiting::Waiters;
 use crate::{HandleOf, Keys, Kind, OpenError, PassOf, RenewError, Shape, Steps, Table};
@@ -120,7 +121,7 @@ impl<T: Kind> Lender<T> {
     }
 
     /// Lets the handles go on over a fresh set of this shape, once all loans are back, if they are before the deadline.
-    pub(crate) fn renew(&self, shape: Shape, deadline: Option<Instant>) -> Result<(), RenewError> {
+    pub(crate) fn renew(&self, shape: Shape, deadline: Option<Instant>, records: Option<&Words>) -> Result<(), RenewError> {
         shape.check_numbers()?;
         let shape = shape.with_handles(self.count());
         let before = self.made.renewals.load(Ordering::Relaxed);
@@ -134,7 +135,7 @@ impl<T: Kind> Lender<T> {
         if !is_to_be_made.ok_or(RenewError::Lent)? {
             return Ok(()); // another thread's serves both
         }
-        mine.renew(shape)?;
+        mine.renew(shape, records)?;
         self.made.shape.set(shape);
         self.made.renewals.fetch_add(1, Ordering::Relaxed);
         Ok(())

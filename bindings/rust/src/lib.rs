@@ -23,7 +23,7 @@
 //!
 //! - **Platform.** Linux on x86-64, processors of x86-64-v2 or later (SSE4.2 and POPCNT). It was run on Xeons in virtual machines
 //!   under Debian 12, and nowhere else. Rust 1.81 or later, with `std`.
-//! - **Limits.** Keys and values of at most 64 bits. Up to [`MAX_SLOTS`] slots (16,777,215), of which each key takes one and each
+//! - **Limits.** Keys and values of at most 64 bits, and [`Records`] of any size beside them. Up to [`MAX_SLOTS`] slots (16,777,215), of which each key takes one and each
 //!   handle keeps up to 64; [`MAX_HANDLES`] handles; memory that is taken at the opening, 8 × (2 + buckets + 4 × slots +
 //!   ⌈slots / 64⌉) bytes for a set, and 8 more for each slot of a map. A set doesn't grow by itself: [`Table::renew`] and
 //!   [`HandleOf::renew_all`] let it go on in another shape.
@@ -115,9 +115,16 @@
 //! # Ok::<(), Box<dyn std::error::Error>>(())
 //! ```
 //!
-//! Programs to begin from are in `examples`: `page_cache.rs`, the index of a page cache; `records.rs`, records beside a map, for
-//! values larger than 64 bits; `limiter.rs`, a rate limiter; `logins.rs`, logins that expire; `server.rs`, a map that a clock renews;
-//! `prefork.rs`, processes that share a map and are killed; and short ones, `routes.rs`, `interner.rs` and `visited.rs`.
+//! Programs to begin from are in `examples`: `page_cache.rs`, the index of a page cache; `slot_records.rs`, records of any size beside
+//! the slots of a map, and `records.rs`, records that values name; `limiter.rs`, a rate limiter; `logins.rs`, logins that expire;
+//! `server.rs`, a map that a clock renews; `prefork.rs`, processes that share a map and are killed; and short ones, `routes.rs`,
+//! `interner.rs` and `visited.rs`.
+//!
+//! # Records of any size
+//!
+//! [`Records`] are values of any size, in fixed memory, one for each slot of a set or a map. A thread holds a slot ([`PassOf::hold`]),
+//! writes its record, which nobody else does meanwhile, and publishes it with a key by the [`Held`] slot. A reader gets a copy that is
+//! whole, and of the entry that the key had at a moment of the call. Nobody waits, and nobody frees a record.
 //!
 //! # Budgets
 //!
@@ -236,6 +243,7 @@ mod changing;
 mod entry;
 mod errors;
 mod handle;
+mod holding;
 mod iterating;
 mod kind;
 mod lending;
@@ -246,6 +254,7 @@ mod misuse;
 mod order;
 mod pass;
 mod processes;
+mod records;
 mod reporting;
 mod set;
 mod shape;
@@ -258,12 +267,14 @@ pub use changing::Compared;
 pub use entry::{Entry, ModifiedEntry};
 pub use errors::{CloseError, KeysError, OpenError, OutOfSteps, Refusal, RenewError, ReportError, Unclosed};
 pub use handle::HandleOf;
+pub use holding::{Held, Incarnation};
 pub use iterating::{Cursor, Iter};
 pub use kind::{Entries, Keys, Kind};
 pub use lending::{Lent, LentBy, OwnedLent};
 pub use map::{Map, MapHandle, MapPass, MapReport};
 pub use pass::PassOf;
 pub use processes::{Claim, Inherited, SharedMap, SharedSet, SharedTable, Turn};
+pub use records::{Record, Records};
 pub use set::{Handle, Pass, Report, Set};
 pub use shape::{random_seed, Shape, ShapeError};
 pub use steps::Steps;

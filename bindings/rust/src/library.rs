@@ -15,6 +15,7 @@ pub(crate) mod code {
     pub(crate) const NO_HANDLE: i32 = -4;
     pub(crate) const NO_MEMORY: i32 = -8;
     pub(crate) const NO_ROOM: i32 = -11;
+    pub(crate) const HELD: i32 = -14;
     /// Of what answers neither yes nor no.
     pub(crate) const DONE: i32 = 0;
 }
@@ -56,6 +57,15 @@ pub(crate) struct ReportNumbers {
 pub(crate) struct Pair {
     key: u64,
     value: u64,
+}
+
+/// Where an entry stands, as C sees it.
+#[repr(C)]
+#[derive(Clone, Copy, Default)]
+pub(crate) struct Stands {
+    pub(crate) birth: u64,
+    pub(crate) value: u64,
+    pub(crate) slot: u32,
 }
 
 /// What a get of several keys tells of one.
@@ -100,6 +110,19 @@ extern "C" {
     fn vbr_reserve(handle: *mut Raw, wanted: u32) -> u32;
     fn vbr_close_all(handles: *mut Raw, count: usize, keys: *mut u64, room: usize, told: *mut ReportNumbers) -> i32;
     fn vbr_report_all(handles: *mut Raw, count: usize, keys: *mut u64, room: usize, told: *mut ReportNumbers) -> i32;
+    fn vbr_report_slots(
+        handles: *mut Raw,
+        count: usize,
+        keys: *mut u64,
+        slots: *mut u32,
+        room: usize,
+        told: *mut ReportNumbers,
+    ) -> i32;
+    fn vbr_hold_within(handle: *mut Raw, slot: *mut u32, steps: u32) -> i32;
+    fn vbr_let_go(handle: *mut Raw) -> i32;
+    pub(crate) fn vbr_insert_held_within(handle: *mut Raw, key: u64, steps: u32) -> i32;
+    fn vbr_get_entry_within(handle: *mut Raw, key: u64, at: *mut Stands, steps: u32) -> i32;
+    fn vbr_is_still(handle: *mut Raw, at: *const Stands) -> i32;
     fn vbr_renew_all_seeded(handles: *mut Raw, count: usize, slots: u32, buckets: u32, last_epoch: u64, seed: u64) -> i32;
     fn vbr_end_all(handles: *mut Raw, count: usize);
     fn vbr_open_shared(
@@ -162,6 +185,22 @@ extern "C" {
     fn vbr_map_reserve(handle: *mut Raw, wanted: u32) -> u32;
     fn vbr_map_close_all(handles: *mut Raw, count: usize, entries: *mut Pair, room: usize, told: *mut ReportNumbers) -> i32;
     fn vbr_map_report_all(handles: *mut Raw, count: usize, entries: *mut Pair, room: usize, told: *mut ReportNumbers) -> i32;
+    fn vbr_map_report_slots(
+        handles: *mut Raw,
+        count: usize,
+        entries: *mut Pair,
+        slots: *mut u32,
+        room: usize,
+        told: *mut ReportNumbers,
+    ) -> i32;
+    fn vbr_map_hold_within(handle: *mut Raw, slot: *mut u32, steps: u32) -> i32;
+    fn vbr_map_let_go(handle: *mut Raw) -> i32;
+    pub(crate) fn vbr_map_insert_held_within(handle: *mut Raw, key: u64, value: u64, steps: u32) -> i32;
+    pub(crate) fn vbr_map_replace_held_within(handle: *mut Raw, key: u64, at: *const Stands, value: u64, steps: u32) -> i32;
+    pub(crate) fn vbr_map_put_held_within(handle: *mut Raw, key: u64, value: u64, found: *mut u64, steps: u32) -> i32;
+    fn vbr_map_get_entry_within(handle: *mut Raw, key: u64, at: *mut Stands, steps: u32) -> i32;
+    fn vbr_map_is_still(handle: *mut Raw, at: *const Stands) -> i32;
+    pub(crate) fn vbr_map_remove_entry_within(handle: *mut Raw, key: u64, at: *const Stands, steps: u32) -> i32;
     fn vbr_map_renew_all_seeded(handles: *mut Raw, count: usize, slots: u32, buckets: u32, last_epoch: u64, seed: u64)
         -> i32;
     fn vbr_map_end_all(handles: *mut Raw, count: usize);
@@ -193,6 +232,9 @@ type OpenShared<Plain> = unsafe extern "C" fn(*mut *mut SharedRaw, usize, u32, u
 /// The same in a file.
 type OpenSharedIn<Plain> = unsafe extern "C" fn(c_int, *mut *mut SharedRaw, usize, u32, u32, u64, *const Plain, usize) -> i32;
 
+/// Tells the items of a set or a map with their slots: it is given where to write both, and how much room there is.
+type ReportSlots<Plain> = unsafe extern "C" fn(*mut Raw, usize, *mut Plain, *mut u32, usize, *mut ReportNumbers) -> i32;
+
 /// The calls of the library that sets and maps have alike, over an item, a key or a key with its value, and what a close tells.
 pub(crate) trait Calls<Item, Told> {
     /// An item as C sees it.
@@ -204,6 +246,11 @@ pub(crate) trait Calls<Item, Told> {
     const OPEN: unsafe extern "C" fn(*mut Raw, usize, u32, u32, u64, u64, *const Self::Plain, usize) -> i32;
     const CLOSE_ALL: unsafe extern "C" fn(*mut Raw, usize, *mut Self::Plain, usize, *mut ReportNumbers) -> i32;
     const REPORT_ALL: unsafe extern "C" fn(*mut Raw, usize, *mut Self::Plain, usize, *mut ReportNumbers) -> i32;
+    const REPORT_SLOTS: ReportSlots<Self::Plain>;
+    const HOLD: unsafe extern "C" fn(*mut Raw, *mut u32, u32) -> i32;
+    const LET_GO: unsafe extern "C" fn(*mut Raw) -> i32;
+    const GET_ENTRY: unsafe extern "C" fn(*mut Raw, u64, *mut Stands, u32) -> i32;
+    const IS_STILL: unsafe extern "C" fn(*mut Raw, *const Stands) -> i32;
     const RENEW_ALL: unsafe extern "C" fn(*mut Raw, usize, u32, u32, u64, u64) -> i32;
     const END_ALL: unsafe extern "C" fn(*mut Raw, usize);
     const OPEN_SHARED: OpenShared<Self::Plain>;
@@ -237,6 +284,11 @@ impl<K: Bits> Calls<K, Report<K>> for Keys<K> {
     const OPEN: unsafe extern "C" fn(*mut Raw, usize, u32, u32, u64, u64, *const u64, usize) -> i32 = vbr_open_many_seeded;
     const CLOSE_ALL: unsafe extern "C" fn(*mut Raw, usize, *mut u64, usize, *mut ReportNumbers) -> i32 = vbr_close_all;
     const REPORT_ALL: unsafe extern "C" fn(*mut Raw, usize, *mut u64, usize, *mut ReportNumbers) -> i32 = vbr_report_all;
+    const REPORT_SLOTS: ReportSlots<u64> = vbr_report_slots;
+    const HOLD: unsafe extern "C" fn(*mut Raw, *mut u32, u32) -> i32 = vbr_hold_within;
+    const LET_GO: unsafe extern "C" fn(*mut Raw) -> i32 = vbr_let_go;
+    const GET_ENTRY: unsafe extern "C" fn(*mut Raw, u64, *mut Stands, u32) -> i32 = vbr_get_entry_within;
+    const IS_STILL: unsafe extern "C" fn(*mut Raw, *const Stands) -> i32 = vbr_is_still;
     const RENEW_ALL: unsafe extern "C" fn(*mut Raw, usize, u32, u32, u64, u64) -> i32 = vbr_renew_all_seeded;
     const END_ALL: unsafe extern "C" fn(*mut Raw, usize) = vbr_end_all;
     const OPEN_SHARED: OpenShared<u64> = vbr_open_shared;
@@ -283,6 +335,11 @@ impl<K: Bits, V: Bits> Calls<(K, V), MapReport<K, V>> for Entries<K, V> {
         vbr_map_open_many_seeded;
     const CLOSE_ALL: unsafe extern "C" fn(*mut Raw, usize, *mut Pair, usize, *mut ReportNumbers) -> i32 = vbr_map_close_all;
     const REPORT_ALL: unsafe extern "C" fn(*mut Raw, usize, *mut Pair, usize, *mut ReportNumbers) -> i32 = vbr_map_report_all;
+    const REPORT_SLOTS: ReportSlots<Pair> = vbr_map_report_slots;
+    const HOLD: unsafe extern "C" fn(*mut Raw, *mut u32, u32) -> i32 = vbr_map_hold_within;
+    const LET_GO: unsafe extern "C" fn(*mut Raw) -> i32 = vbr_map_let_go;
+    const GET_ENTRY: unsafe extern "C" fn(*mut Raw, u64, *mut Stands, u32) -> i32 = vbr_map_get_entry_within;
+    const IS_STILL: unsafe extern "C" fn(*mut Raw, *const Stands) -> i32 = vbr_map_is_still;
     const RENEW_ALL: unsafe extern "C" fn(*mut Raw, usize, u32, u32, u64, u64) -> i32 = vbr_map_renew_all_seeded;
     const END_ALL: unsafe extern "C" fn(*mut Raw, usize) = vbr_map_end_all;
     const OPEN_SHARED: OpenShared<Pair> = vbr_map_open_shared;
@@ -328,6 +385,7 @@ pub(crate) fn updated(told: i32) -> Result<bool, Refusal> {
         code::YES => Ok(true),
         code::NO_SLOT => Err(Refusal::NoSlot),
         code::EPOCH_SPENT => Err(Refusal::EpochSpent),
+        code::HELD => Err(Refusal::Held),
         _ => Err(Refusal::OutOfSteps),
     }
 }

@@ -153,7 +153,8 @@ impl<T: Kind> SharedTable<T> {
     ///
     /// # Errors
     ///
-    /// Those of [`SharedTable::open_with`]; [`OpenError::Memory`] too where the file can't be mapped. Nothing is kept then.
+    /// Those of [`SharedTable::open_with`]; then [`OpenError::ShortFile`], and [`OpenError::Memory`] too where the file can't be
+    /// mapped. Nothing is kept then, and nothing of the file was written.
     ///
     /// # Safety
     ///
@@ -176,7 +177,8 @@ impl<T: Kind> SharedTable<T> {
         let items = plain::<T>(items, shape.slots)?;
         let mut first = null_mut();
         let told = open(&mut first, shape.handles, shape, &items);
-        let handles = NonNull::new(first).filter(|_| told == code::DONE).ok_or(OpenError::Memory)?;
+        let refused = if told == code::NO_ROOM { OpenError::ShortFile } else { OpenError::Memory };
+        let handles = NonNull::new(first).filter(|_| told == code::DONE).ok_or(refused)?;
         let table = SharedTable { handles, count: shape.handles, kind: PhantomData };
         // SAFETY: nothing else has a handle yet.
         unsafe { table.set_steps(Shape { steps: Some(shape.steps.unwrap_or_default()), ..shape }) };

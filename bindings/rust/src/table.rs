@@ -324,7 +324,7 @@ impl<T: Kind> Table<T> {
     /// [`RenewError::Shape`], which is tested before it waits, [`RenewError::Slots`] and [`RenewError::Memory`]. The set is as it
     /// was then, and lends its handles again.
     pub fn renew(&self, shape: Shape) -> Result<(), RenewError> {
-        self.lender.renew(shape, None)
+        self.lender.renew(shape, None, None)
     }
 
     /// As [`Table::renew`], or [`RenewError::Lent`] where not all loans were back until the time was over.
@@ -345,7 +345,7 @@ impl<T: Kind> Table<T> {
     ///
     /// Those of [`Table::renew`], and [`RenewError::Lent`]. The set is as it was then, and lends its handles again.
     pub fn renew_timeout(&self, shape: Shape, limit: Duration) -> Result<(), RenewError> {
-        self.lender.renew(shape, Instant::now().checked_add(limit))
+        self.lender.renew(shape, Instant::now().checked_add(limit), None)
     }
 
     /// Closes all handles, those of loans that were forgotten too, and reports what was in the set.

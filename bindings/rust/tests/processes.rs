@@ -320,7 +320,8 @@ fn in_a_file<K: Both>() {
     let ended = CString::new(name.as_str()).expect("a name");
     // SAFETY: the name ends, and the file is opened here.
     let file = unsafe { File::from_raw_fd(memfd_create(ended.as_ptr(), 0)) };
-    file.set_len(SharedTable::<K>::size(shape) as u64).expect("a file");
+    let size = SharedTable::<K>::size(shape) as u64;
+    file.set_len(size).expect("a file");
     for key in [5, 6] {
         // SAFETY: nothing else writes to the file, and what is in it is given up.
         let set = unsafe { SharedTable::<K>::open_in(&file, shape, &K::items(&[key])) }.expect("a set");
@@ -331,6 +332,10 @@ fn in_a_file<K: Both>() {
         drop(set);
         assert!(!is_mapped());
     }
+    file.set_len(size - 1).expect("a file");
+    // SAFETY: as above.
+    assert_eq!(unsafe { SharedTable::<K>::open_in(&file, shape, &[]) }.err(), Some(OpenError::ShortFile));
+    assert_eq!(file.metadata().expect("a file").len(), size - 1);
     let not_mapped = File::open("/").expect("a folder");
     // SAFETY: as above.
     assert_eq!(unsafe { SharedTable::<K>::open_in(&not_mapped, shape, &[]) }.err(), Some(OpenError::Memory));

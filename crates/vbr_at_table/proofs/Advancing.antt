@@ -1,21 +1,19 @@
 -- The steps of a pass that would advance the epoch, through its other steps.
-use Rattle.std.proofs.Common.{◌≡◌, ◌≢◌, ℕ, ◌+◌, ◌≤◌, ◌==◌, ◌&&◌, Bool, true, false, cond, Option, Some, None, List, []}
+use Rattle.std.proofs.Common.{◌≡◌, ◌≢◌, ℕ, ◌+◌, ◌≤◌, ◌==◌, Bool, true, false, cond, Option, Some, None, List, []}
 use Rattle.std.proofs.Common.{◌∷◌, ◌++◌, length, length-append, refl, sym, ap, ◌∙◌, subst, append_assoc, append-nil}
-use Rattle.std.proofs.Common.{eq-eqb, inl, inr, ⊎_elim, arith}
-use Rattle.std.specs.Prelude.{◌⊎◌, Contains, count_by}
+use Rattle.std.proofs.Common.{inl, inr, ⊎_elim, arith}
+use Rattle.std.specs.Prelude.{◌⊎◌, Contains}
 use Rattle.std.proofs.lemmas.Bool.{cases_eq, ne_eqb}
-use Rattle.std.proofs.lemmas.List.Elements.{Contains-append_left, Contains-append_right}
-use Rattle.std.proofs.lemmas.List.Sums.{sum_by-append}
+use Rattle.std.proofs.lemmas.List.Elements.{Contains-append_left, Contains-append_right, Contains-push_cases}
 use Rattle.vbr_machine.specs.Start.{Start}
 use Rattle.vbr_words.specs.Flags.{has_flag}
 use Rattle.vbr_words.specs.declared.link.Link.{Link}
 use Rattle.vbr_machine.specs.Put.{put}
-use Rattle.vbr_machine.specs.Acceptance.{IsUnlinked, MayBear, stamp_in}
+use Rattle.vbr_machine.specs.Acceptance.{IsInHand, IsUnlinked, MayBear, stamp_in}
 use Rattle.vbr_machine.specs.Knowledge.{Know}
 use Rattle.vbr_machine.specs.Learning.{learn, reread, with_key, with_value, with_link}
 use Rattle.vbr_machine.specs.Needs.{NeedsAdvance}
-use Rattle.vbr_machine.specs.Runs.{IsRun, NoneOf, know_after, Begins}
-use Rattle.vbr_machine.specs.declared.event.Event.{Event}
+use Rattle.vbr_machine.specs.Runs.{IsRun, know_after, Begins}
 use Rattle.vbr_machine.specs.declared.event.Step.{Step}
 use Rattle.vbr_machine.specs.declared.event.Step.TheVariants.{ReadEpoch, Advance, StoreStamp, Raise, TakeFlag}
 use Rattle.vbr_machine.specs.declared.event.Step.TheVariants.{StoreBirth, StoreKey, StoreLink, Publish, Mark, Replace}
@@ -29,56 +27,18 @@ use Rattle.vbr_slots.specs.Pools.{hand_without}
 use Rattle.vbr_slots.specs.Views.{Trace, PassView, Did, KeepsPool, knows, event_of}
 use Rattle.vbr_slots.proofs.Lemmas.{did_moment, moment_after}
 use Rattle.vbr_at_table.specs.Advances.{AdvancesOnce, AdvancesWhereNeeded}
-use Rattle.vbr_at_table.specs.StepKinds.{is_advance, is_raise, is_try, is_unlink, advances_or_gives, made_of, advances}
-use Rattle.vbr_at_table.specs.StepKinds.{flags_raised, flags_tried}
-use Rattle.vbr_at_table.specs.KeptSlots.{GoesInTurn, HasSlot, CouldTake, HasFree, StampsUnlinked, KeepsSlots, PoolGrows}
+use Rattle.vbr_at_table.specs.StepKinds.{is_advance, is_raise, is_try, is_unlink, advances_or_gives, advances}
+use Rattle.vbr_at_table.specs.StepKinds.{births_in, flags_raised, flags_tried}
+use Rattle.vbr_at_table.specs.KeptSlots.{GoesInTurn, HasSlot, CouldTake, HasFree, StampsUnlinked, KeepsAside}
+use Rattle.vbr_at_table.specs.KeptSlots.{KeepsSlots, PoolGrows}
 use Rattle.vbr_at_table.specs.FlagsInNeed.{WinsNoFlag}
 use Rattle.vbr_at_table.specs.KeptSlots.{SharesWhereFull, TakesNoSlot, TriesNoFlag}
 use Rattle.vbr_at_table.proofs.FlagsInNeed.{wins_none, wins_none_on, wins_none_refl}
 use Rattle.vbr_at_table.proofs.InTurn.{did_turn}
+use Rattle.vbr_at_table.proofs.SlotsAside.{HasHandled, aside_on, aside_refl, did_aside, handled, keeps_aside}
+use Rattle.vbr_at_table.proofs.SlotsAside.{hand_was, pool_aside, same_slot, stays_seen}
+use Rattle.vbr_at_table.proofs.StepCounts.{did_made, same_made}
 use Rattle.vbr_machine.specs.Disturbances.{one_if}
-
-abbrev made_in : (Step → Bool) → ℕ → List Event → ℕ
-made_in is who events = count_by (λ (e : Event). (e.pass == who) && is e.step) events
-
--- whether an event is such a step of a pass, as a number
-abbrev one_of : (Step → Bool) → ℕ → Event → ℕ
-one_of is who e = made_in is who (e ∷ [])
-
-plus_none : (n : ℕ) → n + 0 ≡ n
-plus_none n = omega arith
-
-as_number : (b : Bool) → 0 + cond b 1 0 ≡ one_if b
-as_number true = refl
-as_number false = refl
-
-module _ (is : Step → Bool) where
-  other_one : (who : ℕ) (e : Event) → e.pass ≢ who → one_of is who e ≡ 0
-  other_one who e ne = ap (λ (b : Bool). 0 + cond (b && is e.step) 1 0) (ne_eqb e.pass who ne)
-
-  own_one : (who : ℕ) (step : Step) → one_of is who (event_of who step) ≡ one_if (is step)
-  own_one who step = ap (λ (b : Bool). 0 + cond (b && is step) 1 0) (eq-eqb who who refl) ∙ as_number (is step)
-
-  both : (who : ℕ) (xs ys : List Event) → made_in is who (xs ++ ys) ≡ made_in is who xs + made_in is who ys
-  both who xs ys = sum_by-append (λ (e : Event). cond ((e.pass == who) && is e.step) 1 0) xs ys
-
-  none_of_others : (who : ℕ) (events : List Event) → NoneOf who events → made_in is who events ≡ 0
-  none_of_others who [] none = refl
-  none_of_others who (x ∷ xs) none =
-      both who (x ∷ []) xs ∙ (λ i. other_one who x none.0 i + none_of_others who xs none.1 i)
-
-  -- one step more
-  pub did_made : {step : Step} {p q : Trace} {r : ℕ} → Did step p q r → made_of is q ≡ made_of is p + one_if (is step)
-  did_made {step} {p} {q} d =
-      let who : ℕ = p.who in
-      (λ i. made_in is (d.same.3 i) (d.seen i))
-      ∙ both who (p.seen ++ d.rest) (event_of who step ∷ [])
-      ∙ (λ i. both who p.seen d.rest i + own_one who step i)
-      ∙ (λ i. (made_of is p + none_of_others who d.rest d.none i) + one_if (is step))
-      ∙ ap (λ (n : ℕ). n + one_if (is step)) (plus_none (made_of is p))
-
-  same_made : {step : Step} {p q : Trace} {r : ℕ} → Did step p q r → is step ≡ false → made_of is q ≡ made_of is p
-  same_made {step} {p} d e = did_made d ∙ ap (λ (b : Bool). made_of is p + one_if b) e ∙ plus_none (made_of is p)
 
 pub did_advances : {step : Step} {p q : Trace} {r : ℕ} → Did step p q r →
     advances q ≡ advances p + one_if (is_advance step)
@@ -106,7 +66,8 @@ pub free_on : (p q r : PassView) → HasFree p q → HasFree q r → HasFree p r
 free_on p q r a b s h = b s (h.0, λ m. a s (m, h.1))
 
 pub keeps_refl : (p : PassView) → KeepsSlots p p
-keeps_refl p = record { free = λ s h. h.1 h.0; stamped = λ s u. u; turn = λ all turn. turn }
+keeps_refl p =
+    record { free = λ s h. h.1 h.0; stamped = λ s u. u; turn = λ all turn. turn; aside = aside_refl p }
 
 pub slots_kept_on : (p q r : PassView) → KeepsSlots p q → KeepsSlots q r → KeepsSlots p r
 slots_kept_on p q r a b =
@@ -114,6 +75,7 @@ slots_kept_on p q r a b =
       free = free_on p q r a.free b.free;
       stamped = λ s u. a.stamped s (b.stamped s u);
       turn = λ all turn. b.turn (λ s u. all s (a.stamped s u)) (a.turn all turn);
+      aside = aside_on p q r a.aside b.aside;
     }
 
 -- what doesn't give the pass a slot that it may give birth in leaves it what it could take
@@ -125,12 +87,14 @@ free_pool p q pool may s h =
 
 -- and so does what teaches nothing of slots
 pub keeps_known : (p q : PassView) → KeepsPool p q → GoesInTurn p.trace q.trace →
-    ((s : ℕ) → (knows q.trace).own s ≡ (knows p.trace).own s) → KeepsSlots p q
-keeps_known p q pool turn same =
+    ((s : ℕ) → (knows q.trace).own s ≡ (knows p.trace).own s) →
+    ((s : ℕ) → births_in s q.trace ≡ births_in s p.trace) → KeepsSlots p q
+keeps_known p q pool turn same births =
     record {
       free = free_pool p q pool (λ s m. subst MayBear (same s) m);
       stamped = λ s u. subst IsUnlinked (same s) u;
       turn = turn;
+      aside = λ s a. record { known = same s; outside = pool_aside p q pool s a.1; births = births s };
     }
 
 -- ---- the own pool, and the shared one
@@ -195,10 +159,10 @@ none_on {p} {q} {r} a b = record {
 
 pub none_known : {p q : PassView} → advances q.trace ≡ advances p.trace → flags_raised q.trace ≡ flags_raised p.trace →
     TriesNoFlag p q → WinsNoFlag p.trace q.trace → KeepsPool p q → GoesInTurn p.trace q.trace →
-    knows q.trace ≡ knows p.trace → TakesNoSlot p q
-none_known {p} {q} same flags tries wins pool turn known = record {
+    knows q.trace ≡ knows p.trace → ((s : ℕ) → births_in s q.trace ≡ births_in s p.trace) → TakesNoSlot p q
+none_known {p} {q} same flags tries wins pool turn known births = record {
   count = same;
-  kept = keeps_known p q pool turn (λ s. ap (λ (k : Know). k.own s) known);
+  kept = keeps_known p q pool turn (λ s. ap (λ (k : Know). k.own s) known) births;
   grows = grows_same p q pool.0;
   shared = inl flags;
   tries = tries;
@@ -324,27 +288,29 @@ no_unlink _ e = refl
 
 -- one such step, where the pool stays and has what the pass could take, or the hand has it
 pub did_free : {step : Step} {p q : PassView} {r : ℕ} → Did step p.trace q.trace r → advances_or_gives step ≡ false →
-    q.pool ≡ p.pool → HasFree p q → TakesNoSlot p q
-did_free {step} {p} {q} d e pool free = record {
+    q.pool ≡ p.pool → HasFree p q → KeepsAside p q → TakesNoSlot p q
+did_free {step} {p} {q} d e pool free aside = record {
   count = same_advances d (no_advance step e);
-  kept = record { free = free; stamped = did_stamps d (no_unlink step e); turn = did_turn d };
+  kept = record { free = free; stamped = did_stamps d (no_unlink step e); turn = did_turn d; aside = aside };
   grows = grows_same p q pool;
   shared = inl (same_flags d (no_raise step e));
   tries = same_tries d (no_try step e);
   wins = wins_none d (no_try step e) (no_raise step e);
 }
 
--- and where the hand stays too
+-- and where the hand stays too, and the step handles no slot that is put aside
 pub did_none : {step : Step} {p q : PassView} {r : ℕ} → Did step p.trace q.trace r → advances_or_gives step ≡ false →
-    KeepsPool p q → TakesNoSlot p q
-did_none {step} {p} {q} {r} d e pool =
+    HasHandled p (handled step) → KeepsPool p q → TakesNoSlot p q
+did_none {step} {p} {q} {r} d e has pool =
     did_free d e pool.0
     (free_pool p q pool
     (λ s m. may_before step r _ (knows p.trace) s e (subst (λ (k : Know). MayBear (k.own s)) d.know m)))
+    (keeps_aside d has (pool_aside p q pool))
 
 -- a step that gives the pass a slot, which is then kept in its pool
 module _ {step : Step} {p q r : PassView} {slot n : ℕ} (d : Did step p.trace q.trace n)
     (still : is_advance step ≡ false) (dark : is_raise step ≡ false) (left : is_unlink step ≡ false)
+    (is_handled : handled step ≡ Some slot) (new : ¬ (IsInHand ((knows p.trace).own slot)))
     (others : (s : ℕ) → s ≢ slot → MayBear ((knows q.trace).own s) → MayBear ((knows p.trace).own s))
     (stays : KeepsPool p q) (same : r.trace ≡ q.trace) (pool : r.pool ≡ q.pool ++ slot ∷ [])
     (hand : r.hand ≡ hand_without slot q.hand) where
@@ -356,6 +322,22 @@ module _ {step : Step} {p q r : PassView} {slot n : ℕ} (d : Did step p.trace q
       inl (subst (λ (l : List ℕ). Contains l s) (sym now_pool) (Contains-append_left p.pool (slot ∷ []) s c))
   stays_here s other (inr h) =
       inr (hand ∙ ap (hand_without slot) (stays.1 ∙ h) ∙ ap (λ (b : Bool). cond b None (Some s)) (ne_eqb s slot other))
+
+  -- a slot that is put aside is another one, and stays outside
+  aside_other : (s : ℕ) → IsInHand ((knows p.trace).own s) → s ≢ slot
+  aside_other s held is = new (subst (λ (t : ℕ). IsInHand ((knows p.trace).own t)) is held)
+
+  was_here : (s : ℕ) → s ≢ slot → HasSlot r s → HasSlot p s
+  was_here s other (inl c) =
+      ⊎_elim (λ before. inl before) (λ (is : slot ≡ s). absurd (other (sym is)))
+      (Contains-push_cases p.pool slot s (subst (λ (l : List ℕ). Contains l s) now_pool c))
+  was_here s other (inr h) = inr (sym stays.1 ∙ hand_was slot s q.hand (sym hand ∙ h))
+
+  given_aside : KeepsAside p r
+  given_aside s a =
+      let other = aside_other s a.0 in
+      stays_seen p (record r { trace = q.trace }) r same refl refl
+      (did_aside d s a.0 (λ e. other (sym (same_slot (sym is_handled ∙ e)))) (λ has. a.1 (was_here s other has)))
 
   pub given_count : advances r.trace ≡ advances p.trace
   given_count = ap (λ (t : Trace). advances t) same ∙ same_advances d still
@@ -371,6 +353,7 @@ module _ {step : Step} {p q r : PassView} {slot n : ℕ} (d : Did step p.trace q
         (cases_eq s slot);
     stamped = λ s u. did_stamps d left s (subst (λ (t : Trace). IsUnlinked ((knows t).own s)) same u);
     turn = subst (λ (t : Trace). GoesInTurn p.trace t) (sym same) (did_turn d);
+    aside = given_aside;
   }
 
   pub given_grows : PoolGrows p r

@@ -1,4 +1,5 @@
 -- A load that answers an operation makes the call, or another link stood where one is held.
+use Rattle.std.proofs.Common.{None}
 use Rattle.std.proofs.Common.{◌≡◌, ◌≢◌, ℕ, false, ◌++◌, refl, sym, ap, subst}
 use Rattle.vbr_machine.specs.Start.{IsStart}
 use Rattle.vbr_words.specs.declared.place.At.{At}
@@ -30,6 +31,7 @@ use Rattle.vbr_at_table.proofs.KeptKnowledge.{keeps_refl}
 use Rattle.vbr_at_table.proofs.MadeCalls.{absent_adds, absent_adds_none, absent_failed, absent_made, present_adds}
 use Rattle.vbr_at_table.proofs.MadeCalls.{present_adds_none, present_failed, present_made}
 use Rattle.vbr_at_table.proofs.Moments.{unanswered}
+use Rattle.vbr_at_table.proofs.SlotsAside.{HasHandled, handled}
 
 known_keeps : {know later : Know} → later ≡ know → Keeps know later
 known_keeps {know} {later} is = rw is (keeps_refl know)
@@ -37,12 +39,13 @@ known_keeps {know} {later} is = rw is (keeps_refl know)
 -- ---- what it leaves
 
 keeps_by_load : {step : Step} {p q : PassView} {r : ℕ} → Did step p.trace q.trace r → IsLoad step →
-    advances_or_gives step ≡ false → KeepsPool p q → knows q.trace ≡ knows p.trace → KeepsByLoad p q
-keeps_by_load d load no_gift pool same = record {
+    advances_or_gives step ≡ false → handled step ≡ None → KeepsPool p q → knows q.trace ≡ knows p.trace →
+    KeepsByLoad p q
+keeps_by_load {p = p} d load no_gift no_slot pool same = record {
   keeps = record {
     took = did_took d;
     own = record { pool = pool.0; hand = pool.1; in_hand = λ s is. ap (λ (k : Know). k.own s) same };
-    takes_no_slot = did_none d no_gift pool;
+    takes_no_slot = did_none d no_gift (subst (HasHandled p) (sym no_slot) tt) pool;
     keeps = known_keeps same;
   };
   only_loads = did_loads d load;
@@ -50,11 +53,11 @@ keeps_by_load d load no_gift pool same = record {
 
 pub present_keeps : {op : Op} {s expected r : ℕ} {p q : PassView} →
     Did (ConfirmPresent op s expected) p.trace q.trace r → KeepsPool p q → KeepsByLoad p q
-present_keeps d pool = keeps_by_load d (λ know. refl) refl pool d.know
+present_keeps d pool = keeps_by_load d (λ know. refl) refl refl pool d.know
 
 pub absent_keeps : {op : Op} {key expected r : ℕ} {place : At} {p q : PassView} →
     Did (ConfirmAbsent op key place expected) p.trace q.trace r → KeepsPool p q → KeepsByLoad p q
-absent_keeps d pool = keeps_by_load d (λ know. refl) refl pool d.know
+absent_keeps d pool = keeps_by_load d (λ know. refl) refl refl pool d.know
 
 -- ---- the call
 

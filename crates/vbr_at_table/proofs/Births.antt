@@ -22,7 +22,8 @@ use Rattle.vbr_at_table.proofs.InTurn.{did_turn}
 use Rattle.vbr_at_table.proofs.Advancing.{did_stamps, nobody, same_advances, same_flags, same_tries}
 use Rattle.vbr_at_table.proofs.Counting.{counts_none, counts_one}
 use Rattle.vbr_at_table.proofs.FlagsInNeed.{wins_none}
-use Rattle.vbr_at_table.proofs.PoolLists.{stays_in, without_one, without_shorter}
+use Rattle.vbr_at_table.proofs.SlotsAside.{keeps_aside, same_slot}
+use Rattle.vbr_at_table.proofs.PoolLists.{left_in, stays_in, without_one, without_shorter}
 
 module _ (p q : PassView) (slot : ℕ)
     (d : Did (StoreBirth slot (knows p.trace).epoch) p.trace q.trace (knows p.trace).epoch) where
@@ -58,6 +59,13 @@ module _ (p q : PassView) (slot : ℕ)
       stays other (inl c) = inl (subst (λ (l : List ℕ). Contains l s) (sym pool) (stays_in slot p.pool s other c))
       stays other (inr e) = nobody p.hand s empty e
 
+  outside_born : Contains p.pool slot → q.pool ≡ without slot p.pool → q.hand ≡ Some slot → (s : ℕ) →
+      ¬ (HasSlot p s) → ¬ (HasSlot q s)
+  outside_born there pool in_hand s none (inl c) =
+      none (inl (left_in slot p.pool s (subst (λ (l : List ℕ). Contains l s) pool c)))
+  outside_born there pool in_hand s none (inr h) =
+      none (inl (subst (Contains p.pool) (same_slot (sym in_hand ∙ h)) there))
+
   pub is_born : (budget used : ℕ) (hand : HandView) → p.hand ≡ None →
       IsStampedBelow p (knows p.trace).epoch (Some slot) → used + PIECE ≤ budget → length p.pool ≤ 64 →
       AllPairs ◌≢◌ p.pool → q.pool ≡ without slot p.pool → q.hand ≡ Some slot →
@@ -86,7 +94,12 @@ module _ (p q : PassView) (slot : ℕ)
         };
         leaves = record {
           quiet = did_quiet d (λ know. refl);
-          kept = record { free = free_born empty pool in_hand; stamped = did_stamps d refl; turn = did_turn d };
+          kept = record {
+            free = free_born empty pool in_hand;
+            stamped = did_stamps d refl;
+            turn = did_turn d;
+            aside = keeps_aside d (inl below.0) (outside_born below.0 pool in_hand);
+          };
           one = (let few = without_one slot p.pool apart in let e = ap length pool in omega arith);
           flags = same_flags d refl;
           tries = same_tries d refl;

@@ -25,6 +25,8 @@ use Rattle.vbr_at_table.specs.declared.budget.TheConstants.{PIECE}
 use Rattle.vbr_at_table.specs.declared.refusal.Refusal.{Refusal}
 use Rattle.vbr_at_table.specs.declared.refusal.Refusal.TheVariants.{OutOfSteps, EpochSpent}
 use Rattle.vbr_at_table.proofs.InTurn.{did_turn}
+use Rattle.vbr_at_table.proofs.StepCounts.{same_made}
+use Rattle.vbr_at_table.specs.StepKinds.{bears_in}
 use Rattle.vbr_at_table.proofs.Advancing.{same_advances, same_flags, same_tries, nobody, slots_kept_on, keeps_refl}
 use Rattle.vbr_at_table.proofs.Advancing.{keeps_known, shared_on, none_on, did_none, once, once_after, once_before}
 use Rattle.vbr_at_table.proofs.Counting.{counts_none, counts_one, counts_on, uses_on, uses_more}
@@ -40,14 +42,16 @@ some_slot (x ∷ xs) some = omega arith
 -- no slot is lost where the epoch is read and the pool is looked through
 none_read : {p q r : PassView} {e : ℕ} → Did ReadEpoch p.trace q.trace e → KeepsPool p q → TakesNoSlot q r →
     TakesNoSlot p r
-none_read read pool looked = none_on (did_none read refl pool) looked
+none_read read pool looked = none_on (did_none read refl tt pool) looked
 
 -- and where the epoch is advanced and read
 kept_raised : (p q r : PassView) {e n f : ℕ} → Did (Advance e) p.trace q.trace n → Did ReadEpoch q.trace r.trace f →
     KeepsPool p q → KeepsPool q r → KeepsSlots p r
 kept_raised p q r advance again keeps still =
-    slots_kept_on p q r (keeps_known p q keeps (did_turn advance) (λ s. ap (λ (k : Know). k.own s) advance.know))
-    (let none : TakesNoSlot q r = did_none again refl still in none.kept)
+    slots_kept_on p q r
+    (keeps_known p q keeps (did_turn advance) (λ s. ap (λ (k : Know). k.own s) advance.know)
+    (λ s. same_made (bears_in s) advance refl))
+    (let none : TakesNoSlot q r = did_none again refl tt still in none.kept)
 
 shared_raised : (p q r : PassView) {e n f : ℕ} → Did (Advance e) p.trace q.trace n → Did ReadEpoch q.trace r.trace f →
     SharesWhereFull 1 p r

@@ -137,7 +137,10 @@ module _ {p q r : PassView} {n : ℕ} (pred : Held) (gone : Marked) (named : Lin
       let held = held_kept pred read.keeps unmarked.held in
       let still_marked = marked_kept gone read.keeps is_marked in
       record {
-        unlinks = unlinks_on p q r reads.takes_no_slot (won_unlinks d pool);
+        unlinks = unlinks_on p q r reads.takes_no_slot
+            (won_unlinks law.start
+            (accepted q law pred gone named birth held still_marked is_named read.birth unmarked.unmarked names) d
+            pool);
         keeps = keeps_on read.keeps (unlink_keeps d);
         slot = same;
         owned = owned;

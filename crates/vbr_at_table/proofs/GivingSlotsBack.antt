@@ -1,6 +1,7 @@
 -- The own pool goes into the shared one, slot by slot.
 use Rattle.std.proofs.Common.{◌≡◌, ◌≢◌, ℕ, zero, suc, ◌+◌, ◌<◌, ◌≤◌, ◌==◌, Bool, true, false, not, cond, List, []}
-use Rattle.std.proofs.Common.{◌∷◌, ◌++◌, length, get_or, Option, Some, None, refl, sym, ap, ◌∙◌, subst, append-nil, inl, inr}
+use Rattle.std.proofs.Common.{◌∷◌, ◌++◌, length, get_or, Option, Some, None, refl, sym, ap, ◌∙◌, subst, append-nil, inl}
+use Rattle.std.proofs.Common.{inr}
 use Rattle.std.proofs.Common.{⊎_elim, eq-eqb, arith}
 use Rattle.std.specs.Prelude.{All, AllPairs, Contains, filter, ◌⊎◌}
 use Rattle.std.proofs.lemmas.Bool.{ne_eqb}
@@ -26,7 +27,10 @@ use Rattle.vbr_at_table.specs.FlagsInNeed.{times_beyond}
 use Rattle.vbr_at_table.specs.StepKinds.{ChangesNone, advances, flags_raised, is_raise}
 use Rattle.vbr_at_table.specs.GivingSlotsBack.{GivesSlotsBack, WasRaised}
 use Rattle.vbr_at_table.specs.KeptSlots.{HasFree, HasSlot, KeepsSlots}
-use Rattle.vbr_at_table.proofs.Advancing.{did_made, did_stamps, keeps_refl, same_advances, slots_kept_on}
+use Rattle.vbr_at_table.proofs.StepCounts.{did_made}
+use Rattle.vbr_at_table.proofs.SlotsAside.{keeps_aside}
+use Rattle.vbr_at_table.proofs.PoolLists.{left_in}
+use Rattle.vbr_at_table.proofs.Advancing.{did_stamps, keeps_refl, same_advances, slots_kept_on}
 use Rattle.vbr_at_table.proofs.FlagsInNeed.{raised_beyond, raised_of_two}
 use Rattle.vbr_at_table.proofs.InTurn.{did_turn}
 use Rattle.vbr_at_table.proofs.Unchanged.{raise_unchanged, unchanged_on}
@@ -183,6 +187,10 @@ module _ {p q : PassView} {slot n : ℕ} (law : PassLaw p) (there : Contains p.p
       ∙ put_here (knows p.trace).own slot None) could.0))
       (λ (other : s ≢ slot). has_still s other (could.1 (subst MayBear (other_own s other) could.0)))
 
+  outside : (s : ℕ) → ¬ (HasSlot p s) → ¬ (HasSlot q s)
+  outside s none (inl c) = none (inl (left_in slot p.pool s (subst (λ xs. Contains xs s) pool c)))
+  outside s none (inr h) = none (inr (sym hand ∙ h))
+
   counted : length q.pool + 1 ≡ length p.pool
   counted = ap (λ (xs : List ℕ). length xs + 1) pool ∙ one_fewer slot p.pool law.own.apart there
 
@@ -200,7 +208,12 @@ module _ {p q : PassView} {slot n : ℕ} (law : PassLaw p) (there : Contains p.p
         (λ other. inl (there_still s other has));
     hand = hand;
     quiet = did_quiet d (λ know. refl);
-    kept = record { free = free; stamped = did_stamps d refl; turn = did_turn d };
+    kept = record {
+      free = free;
+      stamped = did_stamps d refl;
+      turn = did_turn d;
+      aside = keeps_aside d (inl there) outside;
+    };
     advances = same_advances d refl;
     unchanged = raise_unchanged d;
     needed = in_need;

@@ -1,9 +1,9 @@
 -- The slots that a pass has, in its pool or in its hand, from piece to piece of a call.
 use Rattle.std.proofs.Common.{◌≡◌, ◌≢◌, ℕ, List, [], ◌∷◌, ◌++◌, Bool, true, false, cond, Some, None, refl, sym, ap, ◌∙◌}
-use Rattle.std.proofs.Common.{subst, eq-eqb, inl, inr, arith}
+use Rattle.std.proofs.Common.{subst, eq-eqb, inl, inr, ⊎_elim, arith}
 use Rattle.std.specs.Prelude.{◌⊎◌, Contains, Result, Ok, Err}
 use Rattle.std.proofs.lemmas.Bool.{cases_eq}
-use Rattle.std.proofs.lemmas.List.Elements.{Contains-append_left, Contains-append_right}
+use Rattle.std.proofs.lemmas.List.Elements.{Contains-append_left, Contains-append_right, Contains-push_cases}
 use Rattle.vbr_machine.specs.Acceptance.{MayBear, IsUnlinked}
 use Rattle.vbr_slots.specs.Pools.{hand_without}
 use Rattle.vbr_slots.specs.Views.{PassView, Trace, knows}
@@ -12,6 +12,7 @@ use Rattle.vbr_at_table.specs.Hands.{HandView}
 use Rattle.vbr_at_table.specs.KeptSlots.{HasSlot, HasStill, HasAllButOne, HasUnpublished, PoolGrows, UnlinkedInTurn}
 use Rattle.vbr_at_table.specs.Taking.{IsTaken}
 use Rattle.vbr_at_table.proofs.PoolLists.{stays_in}
+use Rattle.vbr_at_table.proofs.SlotsAside.{aside_seen, hand_was}
 
 pub had_on : (p q r : PassView) → HasStill p q → HasStill q r → HasStill p r
 had_on p q r first then slot has = then slot (first slot has)
@@ -53,8 +54,15 @@ put_back p q slot hand same back left = record {
         had_back p q slot hand back s (could.1 (subst (λ (t : Trace). MayBear ((knows t).own s)) same could.0));
     stamped = λ s u. subst (λ (t : Trace). IsUnlinked ((knows t).own s)) same u;
     turn = λ all turn. subst (λ (t : Trace). UnlinkedInTurn t) (sym same) turn;
+    aside = aside_seen p q same outside;
   };
 }
+  where
+    outside : (s : ℕ) → ¬ (HasSlot p s) → ¬ (HasSlot q s)
+    outside s none (inl c) =
+        ⊎_elim (λ before. none (inl before)) (λ (is : slot ≡ s). none (inr (hand ∙ ap Some is)))
+        (Contains-push_cases p.pool slot s (subst (λ (l : List ℕ). Contains l s) back c))
+    outside s none (inr h) = none (inr (hand_was slot s p.hand (sym left ∙ h)))
 
 -- the slot in hand is published
 pub had_spent : (p q : PassView) (spent : ℕ) → p.hand ≡ Some spent → q.pool ≡ p.pool → HasAllButOne p q

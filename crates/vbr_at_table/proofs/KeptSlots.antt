@@ -14,6 +14,7 @@ use Rattle.vbr_at_table.specs.Exchanges.{StoresIn}
 use Rattle.vbr_at_table.specs.KeptSlots.{HasSlot, HasFree, TakesNoSlot}
 use Rattle.vbr_at_table.proofs.Advancing.{did_free}
 use Rattle.vbr_at_table.proofs.WonExchanges.{publish_keeps, publish_learned}
+use Rattle.vbr_at_table.proofs.SlotsAside.{keeps_aside, spent_aside}
 use Rattle.vbr_at_table.proofs.Storing.{stores_last}
 
 -- where the slot in hand goes out of it, the others stay
@@ -32,12 +33,15 @@ spent_kept p q slot own hand pool s h =
 
 -- so it is of the slot that is published
 publish_none : (p q : PassView) {pred : At} {expected slot : ℕ} →
-    Did (Publish pred expected slot) p.trace q.trace expected → p.hand ≡ Some slot → q.pool ≡ p.pool → TakesNoSlot p q
-publish_none p q {slot = slot} d hand pool =
+    Did (Publish pred expected slot) p.trace q.trace expected → p.hand ≡ Some slot → q.pool ≡ p.pool →
+    q.hand ≡ None → TakesNoSlot p q
+publish_none p q {slot = slot} d hand pool spent =
     did_free d refl pool (spent_kept p q slot (λ s. ap (λ (k : Know). k.own s) (publish_learned d)) hand pool)
+    (keeps_aside d (inr hand) (spent_aside p q pool spent))
 
 -- and a call that stores ends with it
 pub publish_stores : {p q r : PassView} {m expected slot : ℕ} {pred : At} → StoresIn p q m →
     Publishes pred expected slot q r → q.hand ≡ Some slot → StoresIn p r (m + 1)
 publish_stores {q = q} {r = r} stores found hand =
-    stores_last stores found.did (publish_keeps found.did) found.pool (publish_none q r found.did hand found.pool)
+    stores_last stores found.did (publish_keeps found.did) found.pool
+    (publish_none q r found.did hand found.pool found.hand)

@@ -38,3 +38,6 @@ pub use Rattle.vbr_at_table.proofs.Unchanged.{unchanged_by_none}
 pub use Rattle.vbr_at_table.proofs.Replacements.{key_on, replaced_since, two_before, two_on, value_on}
 -- What a call tells at a table whose nodes have no values.
 pub use Rattle.vbr_at_table.proofs.OfKeys.{key_asked, key_inserted, key_present, key_removed, key_stored, key_valued}
+-- A slot that a pass puts aside, and that stays so.
+pub use Rattle.vbr_at_table.proofs.PuttingAside.{kept_aside, puts_aside}
+pub use Rattle.vbr_at_table.proofs.SlotsAside.{aside_seen, hand_was, pool_aside}

@@ -7,6 +7,9 @@ mod Retirement
 mod Counting
 mod InTurn
 mod FlagsInNeed
+mod StepCounts
+mod SlotsAside
+mod PuttingAside
 mod Advancing
 mod Needing
 mod Scanning

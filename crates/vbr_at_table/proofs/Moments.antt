@@ -20,14 +20,14 @@ use Rattle.vbr_machine.specs.declared.event.Event.{Event}
 use Rattle.vbr_machine.specs.declared.event.Effect.TheVariants.{Value, Won, Lost, Answered}
 use Rattle.vbr_machine.specs.declared.event.Step.{Step}
 use Rattle.vbr_machine.specs.declared.knowledge.Read.TheVariants.{KeyOf, ValueOf}
-use Rattle.vbr_machine.specs.declared.event.Step.TheVariants.{ReadEpoch, LoadLink, Publish, Unlink}
+use Rattle.vbr_machine.specs.declared.event.Step.TheVariants.{ReadEpoch, LoadLink, Publish, Unlink, PeekBirth}
 use Rattle.vbr_machine.proofs.Lemmas.{absent_at_load, absent_at_moments, begins_trans, is_run_before, link_loaded}
 use Rattle.vbr_machine.proofs.Lemmas.{others_leave_know, present_at_load, value_at_load}
 use Rattle.vbr_slots.specs.Calls.{IsSame, Quiet}
 use Rattle.vbr_slots.specs.Views.{Trace, Did, knows, event_of}
 use Rattle.vbr_slots.proofs.Lemmas.{did_moment, moment_after, moment_before}
-use Rattle.vbr_at_table.proofs.Shown.{epoch_stood}
-use Rattle.vbr_at_table.specs.Moments.{IsEpochRead, Stood, IsRead, WasEntry, WasFound, WasSo}
+use Rattle.vbr_at_table.proofs.Shown.{birth_stood, epoch_stood}
+use Rattle.vbr_at_table.specs.Moments.{ShowsBirth, IsEpochRead, Stood, IsRead, WasEntry, WasFound, WasSo}
 use Rattle.vbr_at_table.specs.declared.held.Held.{Held}
 
 -- ---- what a step found
@@ -91,6 +91,15 @@ epoch_read {p} {q} d = record {
   within = did_moment d;
   was = epoch_stood d;
   read = ([], d.seen ∙ sym (append-nil ((p.seen ++ d.rest) ++ event_of p.who ReadEpoch ∷ [])));
+}
+
+-- ---- what a slot showed
+
+pub birth_shown : {p q : Trace} {slot birth : ℕ} → Did (PeekBirth slot) p q birth → ShowsBirth p q slot birth
+birth_shown {p} {q} d = record {
+  moment = p.seen ++ d.rest;
+  within = did_moment d;
+  was = birth_stood d;
 }
 
 -- ---- where a link stood

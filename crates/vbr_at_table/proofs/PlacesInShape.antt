@@ -25,7 +25,8 @@ use Rattle.vbr_machine.specs.Sound.{Sound}
 use Rattle.vbr_machine.specs.Incarnations.{State, Incarnations, IsLate}
 use Rattle.vbr_machine.specs.declared.event.Event.{Event}
 use Rattle.vbr_machine.specs.declared.event.Step.{Step}
-use Rattle.vbr_machine.specs.declared.event.Step.TheVariants.{ReadEpoch, Advance, LoadStamp, StoreStamp, Raise}
+use Rattle.vbr_machine.specs.declared.event.Step.TheVariants.{ReadEpoch, Advance, LoadStamp, PeekBirth, StoreStamp}
+use Rattle.vbr_machine.specs.declared.event.Step.TheVariants.{Raise}
 use Rattle.vbr_machine.specs.declared.event.Step.TheVariants.{TakeFlag, StoreBirth, StoreKey, StoreValue, StoreLink}
 use Rattle.vbr_machine.specs.declared.event.Step.TheVariants.{LoadLink, LoadBirth, LoadKey, LoadValue, Publish, Mark}
 use Rattle.vbr_machine.specs.declared.event.Step.TheVariants.{Replace, Unlink, ConfirmPresent, ConfirmAbsent}
@@ -105,6 +106,7 @@ reads_learned : (start : Start) (know : Know) (step : Step) (found stamp : ℕ) 
 reads_learned start know ReadEpoch found stamp r ok = epoch_read start know found r
 reads_learned start know (Advance from) found stamp r ok = r
 reads_learned start know (LoadStamp s) found stamp r ok = r
+reads_learned start know (PeekBirth s) found stamp r ok = r
 reads_learned start know (StoreStamp s new) found stamp r ok = own_in r
 reads_learned start know (Raise s) found stamp r ok = own_in r
 reads_learned start know (TakeFlag s) found stamp r ok = either_in start (has_flag found s) _ know (own_in r) r

@@ -3,6 +3,7 @@ use Rattle.std.proofs.Common.{◌≡◌, ◌≢◌, ℕ, zero, suc, ◌<◌, ◌
 use Rattle.std.proofs.Common.{cond, refl, sym, ap, ◌∙◌, subst, eq-eqb, inl, inr, arith}
 use Rattle.std.specs.Prelude.{◌⊎◌, AllPairs, Contains}
 use Rattle.std.proofs.lemmas.Bool.{cases_eq, ne_eqb}
+use Rattle.std.proofs.lemmas.List.Elements.{All-contains, All-contains_itself, All-filter}
 use Rattle.std.proofs.lemmas.List.Sums.{length-filter, count_by-le-length}
 use Rattle.vbr_slots.specs.Pools.{without}
 
@@ -62,3 +63,9 @@ stays_in slot (x ∷ xs) s other (suc k, low, is) = either (x == slot) (stays_in
         Contains (cond (not b) (x ∷ without slot xs) (without slot xs)) s
     either true c = c
     either false c = (suc c.0, (let l = c.1 in omega arith), c.2)
+
+-- and has no others
+pub left_in : (slot : ℕ) (pool : List ℕ) (s : ℕ) → Contains (without slot pool) s → Contains pool s
+left_in slot pool s c =
+    All-contains (Contains pool) (without slot pool) s
+    (All-filter (λ (x : ℕ). not (x == slot)) (Contains pool) pool (All-contains_itself pool)) c

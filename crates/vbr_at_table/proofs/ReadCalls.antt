@@ -8,14 +8,14 @@ use Rattle.vbr_machine.specs.Acceptance.{IsInHand}
 use Rattle.vbr_machine.specs.Accounts.{happens}
 use Rattle.vbr_machine.specs.Incarnations.{Incarnations}
 use Rattle.vbr_machine.specs.Knowledge.{Know}
-use Rattle.vbr_machine.specs.Learning.{call_of, reread}
+use Rattle.vbr_machine.specs.Learning.{call_of}
 use Rattle.vbr_machine.specs.Loads.{IsLoad}
 use Rattle.vbr_machine.specs.Machine.{World}
 use Rattle.vbr_machine.specs.declared.event.Step.{Step}
 use Rattle.vbr_machine.specs.declared.event.Step.TheVariants.{ReadEpoch, LoadBirth, LoadLink, LoadKey, LoadValue}
+use Rattle.vbr_machine.specs.declared.event.Step.TheVariants.{PeekBirth}
 use Rattle.vbr_machine.specs.declared.knowledge.Holding.{Holding}
 use Rattle.vbr_machine.specs.declared.knowledge.Read.{Read}
-use Rattle.vbr_machine.specs.declared.knowledge.Holding.TheVariants.{Free, InHand, Unlinked}
 use Rattle.vbr_slots.specs.PassLaw.{PassLaw}
 use Rattle.vbr_slots.specs.Pools.{HandFits}
 use Rattle.vbr_slots.specs.Reads.{Reads, ReadsNode}
@@ -40,6 +40,7 @@ use Rattle.vbr_at_table.proofs.EpochReads.{own_read}
 use Rattle.vbr_at_table.proofs.KeptKnowledge.{keeps_on}
 use Rattle.vbr_at_table.proofs.ReadSteps.{Loads, learned, loaded_keeps, loads_birth, loads_key, loads_link, loads_value}
 use Rattle.vbr_at_table.proofs.ReadSteps.{moved, shape_on}
+use Rattle.vbr_at_table.proofs.SlotsAside.{HasHandled, handled, still_in_hand}
 
 -- ---- what a read needs of its pass, which a read keeps
 
@@ -104,37 +105,36 @@ module _ {step : Step} {p q : PassView} {r : ℕ} (f : IsFit p) (d : Did step p.
     (pool : KeepsPool p q) where
   one : IsLoad step → ((know : Know) → call_of p.trace.start p.trace.who know step ≡ None) →
       ((w : World) (a : Incarnations) → happens p.trace.start w a p.trace.who step ≡ []) →
-      advances_or_gives step ≡ false → ((s : ℕ) → p.hand ≡ Some s → (knows q.trace).own s ≡ (knows p.trace).own s) →
+      advances_or_gives step ≡ false → handled step ≡ None →
+      ((s : ℕ) → p.hand ≡ Some s → (knows q.trace).own s ≡ (knows p.trace).own s) →
       ReadsIn p q 1
-  one load no_call nothing no_gift kept =
+  one load no_call nothing no_gift no_slot kept =
       let P : Start → Type 0 = IsStart in
       record {
         took = did_took d;
         quiet = did_quiet d no_call;
         own = record { pool = pool.0; hand = pool.1; in_hand = kept };
-        takes_no_slot = did_none d no_gift pool;
+        takes_no_slot = did_none d no_gift (subst (HasHandled p) (sym no_slot) tt) pool;
         adds_none = did_adds_none d nothing;
         only_loads = did_loads d load;
         looks = λ alone. looks d alone nothing;
       }
 
-still_in_hand : (holding : Option Holding) → IsInHand holding → reread holding ≡ holding
-still_in_hand None is = refl
-still_in_hand (Some (Free stamp)) is = refl
-still_in_hand (Some (Unlinked seen)) is = absurd is
-still_in_hand (Some (InHand known)) is = refl
-
 module _ {p q : PassView} {r : ℕ} where
   pub epoch_in_one : IsFit p → Did ReadEpoch p.trace q.trace r → KeepsPool p q → ReadsIn p q 1
-  epoch_in_one f d pool = one f d pool (λ know. refl) (λ know. refl) (λ w a. refl) refl
+  epoch_in_one f d pool = one f d pool (λ know. refl) (λ know. refl) (λ w a. refl) refl refl
       (λ s is. ap (λ (k : Know). k.own s) d.know ∙ own_read (knows p.trace) r s
       ∙ still_in_hand ((knows p.trace).own s) (f.hand s is))
+
+  pub peek_in_one : {s : ℕ} → IsFit p → Did (PeekBirth s) p.trace q.trace r → KeepsPool p q → ReadsIn p q 1
+  peek_in_one f d pool = one f d pool (λ know. refl) (λ know. refl) (λ w a. refl) refl refl
+      (λ s is. ap (λ (k : Know). k.own s) d.know)
 
   pub load_in_one : {step : Step} {read : Read} → Loads step r read → IsFit p → Did step p.trace q.trace r →
       KeepsPool p q → ReadsIn p q 1
   load_in_one loads f d pool =
       one f d pool loads.is_load (loads.no_call p.trace.start p.trace.who) (loads.no_entry p.trace.start p.trace.who)
-      loads.no_gift (λ s is. ap (λ (k : Know). k.own s) (learned loads d))
+      loads.no_gift loads.no_slot (λ s is. ap (λ (k : Know). k.own s) (learned loads d))
 
 -- ---- loads and a read of the epoch
 

@@ -22,6 +22,7 @@ use Rattle.vbr_machine.specs.declared.knowledge.Read.TheVariants.{LinkAt, BirthO
 use Rattle.vbr_slots.specs.Views.{Trace, Did, knows}
 use Rattle.vbr_at_table.specs.StepKinds.{advances_or_gives}
 use Rattle.vbr_at_table.specs.KeptKnowledge.{Keeps}
+use Rattle.vbr_at_table.proofs.SlotsAside.{handled}
 
 pub only : {X : Type 0} (x : X) → Contains (x ∷ []) x
 only x = (0, omega arith, refl)
@@ -50,6 +51,7 @@ pub record Loads (step : Step) (found : ℕ) (read : Read) : Type 0 where
   pub no_call : (start : Start) (who : ℕ) (know : Know) → call_of start who know step ≡ None
   pub no_entry : (start : Start) (who : ℕ) (w : World) (a : Incarnations) → happens start w a who step ≡ []
   pub no_gift : advances_or_gives step ≡ false
+  pub no_slot : handled step ≡ None
   pub teaches : (know : Know) (stamp : ℕ) → learn step found stamp know ≡ with_pending know read
 
 -- the loads of a link, of a birth, of a key and of a value

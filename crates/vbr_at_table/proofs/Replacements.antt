@@ -1,5 +1,7 @@
 -- A node that is replaced by the one in hand.
-use Rattle.std.proofs.Common.{◌≡◌, ◌≢◌, ℕ, ◌+◌, ◌<◌, true, false, List, [], ◌∷◌, ◌++◌, Option, Some, None, refl, sym, ap}
+use Rattle.std.proofs.Common.{inr}
+use Rattle.std.proofs.Common.{◌≡◌, ◌≢◌, ℕ, ◌+◌, ◌<◌, true, false, List, [], ◌∷◌, ◌++◌, Option, Some, None, refl, sym}
+use Rattle.std.proofs.Common.{ap}
 use Rattle.std.proofs.Common.{◌∙◌, subst, cond, option_to_list, append_assoc, eq-eqb, arith}
 use Rattle.std.specs.Prelude.{unwrap_or}
 use Rattle.std.specs.List.{Contains}
@@ -60,6 +62,7 @@ use Rattle.vbr_at_table.proofs.NoValues.{kept_same, value_asked}
 use Rattle.vbr_at_table.proofs.Unchanged.{unchanged_by_none, unchanged_on}
 use Rattle.vbr_at_table.proofs.Storing.{stores_last}
 use Rattle.vbr_at_table.proofs.WonExchanges.{lost_test, more_keeps, more_new, won_test}
+use Rattle.vbr_at_table.proofs.SlotsAside.{keeps_aside, spent_aside}
 
 -- ---- the step is accepted
 
@@ -240,15 +243,17 @@ module _ {p q : Trace} {s expected t : ℕ} (d : Did (Replace s expected t) p q 
 
 -- the slot that takes the place goes out of the hand, and the others stay
 replace_none : (p q : PassView) {s expected slot : ℕ} → Did (Replace s expected slot) p.trace q.trace expected →
-    p.hand ≡ Some slot → q.pool ≡ p.pool → TakesNoSlot p q
-replace_none p q {slot = slot} d hand pool =
+    p.hand ≡ Some slot → q.pool ≡ p.pool → q.hand ≡ None → TakesNoSlot p q
+replace_none p q {slot = slot} d hand pool spent =
     did_free d refl pool (spent_kept p q slot (λ i. ap (λ (k : Know). k.own i) (replace_learned d)) hand pool)
+    (keeps_aside d (inr hand) (spent_aside p q pool spent))
 
 -- so a call that stores ends with it
 pub replace_stores : {p q r : PassView} {m s expected slot : ℕ} → StoresIn p q m → ReplacesNode s expected slot q r →
     q.hand ≡ Some slot → StoresIn p r (m + 1)
 replace_stores {q = q} {r = r} stores found hand =
-    stores_last stores found.did (replace_keeps found.did) found.pool (replace_none q r found.did hand found.pool)
+    stores_last stores found.did (replace_keeps found.did) found.pool
+    (replace_none q r found.did hand found.pool found.hand)
 
 -- ---- a lost one
 

@@ -8,7 +8,7 @@ use Rattle.std.proofs.lemmas.List.Elements.{Contains-append_left, Contains-push,
 use mathlib.Core.Logic.{dite}
 use native.Mathlib.Decide.{ℕ_discrete}
 use Rattle.vbr_words.specs.Flags.{flag_words, has_flag, word_of_flag}
-use Rattle.vbr_machine.specs.Acceptance.{IsFree, MayBear}
+use Rattle.vbr_machine.specs.Acceptance.{IsFree, IsInHand, MayBear}
 use Rattle.vbr_machine.specs.Knowledge.{Know}
 use Rattle.vbr_machine.specs.Machine.{found}
 use Rattle.vbr_machine.specs.Runs.{Begins, world_after}
@@ -20,14 +20,16 @@ use Rattle.vbr_slots.specs.Calls.{Quiet, Took}
 use Rattle.vbr_slots.specs.Pools.{OwnPool, hand_without}
 use Rattle.vbr_slots.specs.Views.{Did, KeepsPool, PassView, Trace, event_of, knows}
 use Rattle.vbr_slots.proofs.Lemmas.{did_moment, did_quiet, did_took, hand_alone, hand_stays, moment_after}
-use Rattle.vbr_slots.proofs.Lemmas.{moment_before, quiet_on, quiet_refl, took_none, took_on}
+use Rattle.vbr_slots.proofs.Lemmas.{moment_before, quiet_on, quiet_refl, taken_new, took_none, took_on}
 use Rattle.vbr_at_table.specs.FlagsInNeed.{flags_won, times_beyond}
-use Rattle.vbr_at_table.specs.StepKinds.{advances, flags_raised, flags_tried, is_try}
-use Rattle.vbr_at_table.specs.KeptSlots.{GoesInTurn, HasFree, HasSlot, StampsUnlinked}
+use Rattle.vbr_at_table.specs.StepKinds.{advances, bears_in, flags_raised, flags_tried, is_try}
+use Rattle.vbr_at_table.specs.KeptSlots.{GoesInTurn, HasFree, HasSlot, KeepsAside, StampsUnlinked}
 use Rattle.vbr_at_table.specs.Reserving.{IsNextToTry, IsMissed, Reserves, ReservesFrom, TakesFlags, WasTaken}
 use Rattle.vbr_at_table.specs.Reserving.{may_be_set, most_kept}
 use Rattle.vbr_at_table.specs.SharedPool.{WasOutside}
-use Rattle.vbr_at_table.proofs.Advancing.{did_made, did_stamps, grows_on, grows_same, keeps_known, keeps_refl, longer}
+use Rattle.vbr_at_table.proofs.StepCounts.{did_made, same_made}
+use Rattle.vbr_at_table.proofs.SlotsAside.{did_aside, same_slot, stays_seen}
+use Rattle.vbr_at_table.proofs.Advancing.{did_stamps, grows_on, grows_same, keeps_known, keeps_refl, longer}
 use Rattle.vbr_at_table.proofs.Advancing.{same_advances, same_flags, slots_kept_on}
 use Rattle.vbr_at_table.proofs.FlagsInNeed.{lost_wins_none, won_beyond, won_one}
 use Rattle.vbr_at_table.proofs.Gained.{gained_sum}
@@ -99,7 +101,8 @@ takes_lost {p} {q} {slot} {n} d lost keeps =
       each = λ s there. inl (subst (λ xs. Contains xs s) keeps.0 there);
       hand = keeps.1;
       quiet = did_quiet d (λ know. refl);
-      kept = keeps_known p q keeps (did_turn d) (λ s. ap (λ (k : Know). k.own s) know);
+      kept = keeps_known p q keeps (did_turn d) (λ s. ap (λ (k : Know). k.own s) know)
+          (λ s. same_made (bears_in s) d refl);
       raised = same_flags d refl;
       won = (let none = lost_wins_none d lost in
           let w = none.won in
@@ -124,8 +127,8 @@ won_apart {start} p {q} {slot} {n} d won own =
 
 -- a flag was won, and the slot is kept
 module _ {p q r : PassView} {slot n : ℕ} (d : Did (TakeFlag slot) p.trace q.trace n) (won : has_flag n slot ≡ true)
-    (keeps : KeepsPool p q) (same : r.trace ≡ q.trace) (pool : r.pool ≡ q.pool ++ slot ∷ [])
-    (hand : r.hand ≡ q.hand) where
+    (is : IsStart p.trace.start) (keeps : KeepsPool p q) (same : r.trace ≡ q.trace)
+    (pool : r.pool ≡ q.pool ++ slot ∷ []) (hand : r.hand ≡ q.hand) where
   pool_is : r.pool ≡ p.pool ++ slot ∷ []
   pool_is = pool ∙ ap (λ xs. xs ++ slot ∷ []) keeps.0
 
@@ -164,6 +167,21 @@ module _ {p q r : PassView} {slot n : ℕ} (d : Did (TakeFlag slot) p.trace q.tr
   at_trace : (P : Trace → Type 0) → P q.trace → P r.trace
   at_trace P x = subst P (sym same) x
 
+  -- a slot that is put aside is another one, since this one was in no hand
+  aside_won : KeepsAside p r
+  aside_won s a =
+      let other : s ≢ slot =
+      (λ e. subst IsInHand (taken_new p.trace q.trace slot n is d won)
+      (subst (λ (t : ℕ). IsInHand ((knows p.trace).own t)) e a.0)) in
+      stays_seen p (record r { trace = q.trace }) r same refl refl
+      (did_aside d s a.0 (λ e. other (sym (same_slot e))) (λ has. a.1 (was_there s other has)))
+    where
+      was_there : (s : ℕ) → s ≢ slot → HasSlot r s → HasSlot p s
+      was_there s other (inl c) =
+          ⊎_elim (λ before. inl before) (λ (e : slot ≡ s). absurd (other (sym e)))
+          (Contains-push_cases p.pool slot s (subst (λ xs. Contains xs s) pool_is c))
+      was_there s other (inr h) = inr (sym keeps.1 ∙ sym hand ∙ h)
+
   pub takes_won : TakesFlags p r 1
   takes_won = record {
     took = at_trace (λ t. Took p.trace t 1) (did_took d);
@@ -180,6 +198,7 @@ module _ {p q r : PassView} {slot n : ℕ} (d : Did (TakeFlag slot) p.trace q.tr
       free = free;
       stamped = at_trace (λ t. StampsUnlinked p.trace t) (did_stamps d refl);
       turn = at_trace (λ t. GoesInTurn p.trace t) (did_turn d);
+      aside = aside_won;
     };
     raised = at_trace (λ t. flags_raised t ≡ flags_raised p.trace) (same_flags d refl);
     won =

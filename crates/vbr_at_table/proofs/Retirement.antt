@@ -13,9 +13,9 @@ use Rattle.vbr_machine.specs.Incarnations.{Incarnations}
 use Rattle.vbr_machine.specs.Sound.{SlotsSound}
 use Rattle.vbr_machine.specs.Runs.{IsRun, know_after}
 use Rattle.vbr_machine.proofs.Lemmas.{begins_trans, put_here, put_other, run_agrees}
-use Rattle.vbr_machine.specs.Acceptance.{MayBear, IsUnlinked}
+use Rattle.vbr_machine.specs.Acceptance.{IsInHand, MayBear, IsUnlinked}
 use Rattle.vbr_machine.specs.Knowledge.{Know}
-use Rattle.vbr_machine.specs.Learning.{read_epoch, with_own}
+use Rattle.vbr_machine.specs.Learning.{read_epoch, reread, with_own}
 use Rattle.vbr_machine.specs.Put.{put}
 use Rattle.vbr_machine.specs.declared.knowledge.Holding.{Holding}
 use Rattle.vbr_machine.specs.declared.knowledge.Holding.TheVariants.{Free, Unlinked, InHand}
@@ -28,10 +28,12 @@ use Rattle.vbr_slots.specs.PassLaw.{PassLaw}
 use Rattle.vbr_slots.specs.Views.{Trace, PassView, TableView, KeepsPool, Did, IsOf, knows, event_of}
 use Rattle.vbr_slots.proofs.Lemmas.{did_moment, did_quiet, did_took, hand_alone, hand_stays, moment_before, quiet_on}
 use Rattle.vbr_slots.proofs.Lemmas.{took_on}
-use Rattle.vbr_at_table.specs.KeptSlots.{TakesNoSlot}
+use Rattle.vbr_at_table.specs.KeptSlots.{IsAside, StaysAside, TakesNoSlot}
 use Rattle.vbr_at_table.specs.Retiring.{Retires, StampsFreshly, is_kept, know_retired}
 use Rattle.vbr_at_table.proofs.FlagsInNeed.{raised_after_stamp}
 use Rattle.vbr_at_table.proofs.InTurn.{did_stay_turn}
+use Rattle.vbr_at_table.proofs.EpochReads.{own_read}
+use Rattle.vbr_at_table.proofs.SlotsAside.{did_aside, pool_aside, same_slot, stays_on, still_aside}
 use Rattle.vbr_at_table.proofs.Advancing.{same_advances, same_tries, did_stamps, free_pool, grows_same, none_on}
 use Rattle.vbr_at_table.proofs.Advancing.{did_none, none_given}
 use Rattle.vbr_at_table.proofs.AloneRetirement.{retired_leaves, retired_fresh, raised_leaves, raised_fresh}
@@ -88,9 +90,21 @@ stamped_before {p} {q} {r} a b = record {
 
 -- ---- what the pass could take
 
+in_no_hand : (holding : Option Holding) → IsUnlinked holding → ¬ (IsInHand (reread holding))
+in_no_hand None is held = held
+in_no_hand (Some (Free stamp)) is held = held
+in_no_hand (Some (Unlinked seen)) is held = held
+in_no_hand (Some (InHand known)) is held = is
+
 module _ {p q r : PassView} {slot e n : ℕ} (read : Did ReadEpoch p.trace q.trace e)
     (stamp : Did (StoreStamp slot (knows q.trace).epoch) q.trace r.trace n) (stays : KeepsPool p q)
-    (still : KeepsPool q r) where
+    (still : KeepsPool q r) (unlinked : IsUnlinked ((knows p.trace).own slot)) where
+  -- the slot is in no hand
+  not_held : ¬ (IsInHand ((knows q.trace).own slot))
+  not_held held =
+      in_no_hand ((knows p.trace).own slot) unlinked
+      (subst IsInHand (ap (λ (k : Know). k.own slot) read.know ∙ own_read (knows p.trace) e slot) held)
+
   others : (s : ℕ) → s ≢ slot → MayBear ((knows r.trace).own s) → MayBear ((knows q.trace).own s)
   others s other m = subst MayBear (ap (λ (k : Know). k.own s) stamp.know ∙ put_other (knows q.trace).own _ _ s other) m
 
@@ -98,13 +112,14 @@ module _ {p q r : PassView} {slot e n : ℕ} (read : Did ReadEpoch p.trace q.tra
   kept_none : {t : PassView} → t.trace ≡ r.trace → t.pool ≡ r.pool ++ slot ∷ [] → t.hand ≡ hand_without slot r.hand →
       TakesNoSlot p t
   kept_none same pool hand =
-      none_on (did_none read refl stays) (none_given stamp refl refl refl others still same pool hand refl)
+      none_on (did_none read refl tt stays)
+      (none_given stamp refl refl refl refl not_held others still same pool hand refl)
 
   -- and one that isn't is no more the pass's own
   raised_none : {t : PassView} {m : ℕ} → Did (Raise slot) r.trace t.trace m → t.pool ≡ p.pool → t.hand ≡ r.hand →
       POOL - 1 ≤ length p.pool → OwnPool p.trace.start (knows p.trace) p.pool p.hand → TakesNoSlot p t
   raised_none {t} raise pool hand full own =
-      none_on {p = p} {q = q} {r = t} (did_none read refl stays) (record {
+      none_on {p = p} {q = q} {r = t} (did_none read refl tt stays) (record {
         count = same_advances raise refl ∙ same_advances stamp refl;
         kept = record {
           free = free_pool q t (pool ∙ sym stays.0, hand ∙ still.1)
@@ -115,6 +130,7 @@ module _ {p q r : PassView} {slot e n : ℕ} (read : Did ReadEpoch p.trace q.tra
               (cases_eq s slot));
           stamped = λ s u. did_stamps stamp refl s (did_stamps raise refl s u);
           turn = λ all turn. did_stay_turn raise refl (did_stay_turn stamp refl turn);
+          aside = λ s a. aside_raised s a;
         };
         grows = grows_same q t (pool ∙ sym stays.0);
         shared = inr (let e = ap length pool in omega arith);
@@ -122,6 +138,15 @@ module _ {p q r : PassView} {slot e n : ℕ} (read : Did ReadEpoch p.trace q.tra
         wins = raised_after_stamp p q r read stamp own (omega (arith, full)) raise;
       })
     where
+      aside_raised : (s : ℕ) → IsAside q s → StaysAside q t s
+      aside_raised s a =
+          let other : Some slot ≡ Some s → ⊥ =
+          (λ x. not_held (subst (λ (i : ℕ). IsInHand ((knows q.trace).own i)) (sym (same_slot x)) a.0)) in
+          let stamped = did_aside {p = q} {q = r} stamp s a.0 other (pool_aside q r still s a.1) in
+          stays_on stamped
+          (did_aside {p = r} {q = t} raise s (still_aside a stamped).0 other
+          (pool_aside q t (pool ∙ sym stays.0, hand ∙ still.1) s a.1))
+
       gone : (s : ℕ) → s ≡ slot → MayBear ((knows t.trace).own s) → MayBear ((knows q.trace).own s)
       gone s is m =
           absurd (subst MayBear
@@ -202,6 +227,9 @@ module _ {p q r : PassView} {slot gone e n : ℕ} (is : IsStart p.trace.start) (
     (stamp : Did (StoreStamp slot (knows q.trace).epoch) q.trace r.trace n) (stays : KeepsPool p q)
     (still : KeepsPool q r) (same : slot ≡ gone) (own : OwnPool p.trace.start (knows p.trace) p.pool p.hand)
     (unlinked : IsUnlinked ((knows p.trace).own gone)) where
+  unlinked_here : IsUnlinked ((knows p.trace).own slot)
+  unlinked_here = subst (λ (s : ℕ). IsUnlinked ((knows p.trace).own s)) (sym same) unlinked
+
   took : Took p.trace r.trace 2
   took = took_on 1 1 (did_took read) (did_took stamp)
 
@@ -214,7 +242,7 @@ module _ {p q r : PassView} {slot gone e n : ℕ} (is : IsStart p.trace.start) (
         took = took;
         count = sym (ap (λ (b : Bool). cond b 2 3) kept);
         quiet = retired_quiet read stamp;
-        takes_no_slot = kept_none read stamp stays still refl pool hand;
+        takes_no_slot = kept_none read stamp stays still unlinked_here refl pool hand;
         turn = λ turn. did_stay_turn stamp refl (did_stay_turn read refl turn);
         stamped = stamped read stamp;
         known = known_stamped read stamp ∙ ap (know_retired (knows p.trace) (knows r.trace).epoch slot) (sym kept);
@@ -238,7 +266,7 @@ module _ {p q r : PassView} {slot gone e n : ℕ} (is : IsStart p.trace.start) (
     took = took_on 2 1 took (did_took raise);
     count = sym (ap (λ (b : Bool). cond b 2 3) left);
     quiet = quiet_all;
-    takes_no_slot = raised_none read stamp stays still raise pool_stays last.1 full own;
+    takes_no_slot = raised_none read stamp stays still unlinked_here raise pool_stays last.1 full own;
     turn = λ turn. did_stay_turn raise refl (did_stay_turn stamp refl (did_stay_turn read refl turn));
     stamped = subst (λ (epoch : ℕ). StampsFreshly p.trace t.trace slot epoch) (sym (epoch_told raise))
         (stamped_before (stamped read stamp) (did_quiet raise (λ know. refl)));

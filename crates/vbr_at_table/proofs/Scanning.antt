@@ -68,7 +68,7 @@ module _ {p q r : PassView} {epoch budget before looked used n : ℕ}
   pub scans_found : Scans p r
   scans_found = record {
     quiet = quiet_on scanned.quiet (did_quiet d (λ know. refl));
-    takes_no_slot = none_on scanned.none (did_none d refl stays);
+    takes_no_slot = none_on scanned.none (did_none d refl tt stays);
     pool = (stays.0 ∙ scanned.pool.0, stays.1 ∙ scanned.pool.1);
     known = d.know ∙ scanned.known;
   }

@@ -8,7 +8,7 @@ use Rattle.vbr_machine.specs.Making.{taken}
 use Rattle.vbr_machine.specs.Runs.{world_after, Begins}
 use Rattle.vbr_machine.specs.declared.event.Effect.TheVariants.{Value}
 use Rattle.vbr_machine.specs.declared.event.Step.{Step}
-use Rattle.vbr_machine.specs.declared.event.Step.TheVariants.{ReadEpoch, TakeFlag}
+use Rattle.vbr_machine.specs.declared.event.Step.TheVariants.{ReadEpoch, TakeFlag, PeekBirth}
 use Rattle.vbr_machine.specs.declared.knowledge.SlotPlace.{SlotPlace}
 use Rattle.vbr_machine.specs.declared.knowledge.SlotPlace.TheVariants.{Shared, Own, Hand, Listed}
 use Rattle.vbr_machine.proofs.Lemmas.{begins_trans, flag_shared, flag_won, unflagged, word_told}
@@ -28,6 +28,12 @@ epoch_told {step} {p} {q} {r} d = ap (λ (k : Know). k.epoch) d.know
 pub epoch_stood : {p q : Trace} {r : ℕ} (d : Did ReadEpoch p q r) → (world_after p.start (p.seen ++ d.rest)).epoch ≡ r
 epoch_stood {p} {q} {r} d =
     let e : Value r ≡ Value (world_after p.start (p.seen ++ d.rest)).epoch = d.shows.answers in cc
+
+-- the birth that was loaded stood in its slot
+pub birth_stood : {p q : Trace} {s r : ℕ} (d : Did (PeekBirth s) p q r) →
+    (world_after p.start (p.seen ++ d.rest)).birth s ≡ r
+birth_stood {p} {q} {s} {r} d =
+    let e : Value r ≡ Value ((world_after p.start (p.seen ++ d.rest)).birth s) = d.shows.answers in cc
 
 -- ---- flags
 

@@ -10,6 +10,7 @@ use Rattle.vbr_at_table.specs.KeptSlots.{TakesNoSlot}
 use Rattle.vbr_at_table.specs.StepKinds.{advances_or_gives}
 use Rattle.vbr_at_table.proofs.Advancing.{did_none, none_on}
 use Rattle.vbr_at_table.proofs.KeptKnowledge.{keeps_on}
+use Rattle.vbr_at_table.proofs.SlotsAside.{HasHandled, handled}
 
 pub stores_one : {p q : PassView} {step : Step} {r : ℕ} → Did step p.trace q.trace r →
     Keeps (knows p.trace) (knows q.trace) → q.pool ≡ p.pool → TakesNoSlot p q → StoresIn p q 1
@@ -31,6 +32,6 @@ stores_last {m = m} x d keeps pool none = stores_on m 1 x (stores_one d keeps po
 
 -- or one that is lost
 pub stores_lost : {p q r : PassView} {m expected found : ℕ} {step : Step} → StoresIn p q m →
-    FindsOther step q r expected found → advances_or_gives step ≡ false → Keeps (knows q.trace) (knows r.trace) →
-    StoresIn p r (m + 1)
-stores_lost x other e keeps = stores_last x other.did keeps other.keeps.0 (did_none other.did e other.keeps)
+    FindsOther step q r expected found → advances_or_gives step ≡ false → HasHandled q (handled step) →
+    Keeps (knows q.trace) (knows r.trace) → StoresIn p r (m + 1)
+stores_lost x other e has keeps = stores_last x other.did keeps other.keeps.0 (did_none other.did e has other.keeps)

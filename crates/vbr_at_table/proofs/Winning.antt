@@ -4,7 +4,7 @@ use Rattle.std.proofs.Common.{length, None, refl, sym, ap, ◌∙◌, subst, ◌
 use Rattle.std.proofs.lemmas.Bool.{cases_lt, eqb-true}
 use Rattle.vbr_machine.specs.Start.{Start, IsStart}
 use Rattle.vbr_words.specs.Flags.{word_of_flag, flag_words, has_flag, IsNextFlag}
-use Rattle.vbr_machine.specs.Acceptance.{MayBear}
+use Rattle.vbr_machine.specs.Acceptance.{IsInHand, MayBear}
 use Rattle.vbr_machine.specs.Knowledge.{Know}
 use Rattle.vbr_machine.specs.declared.event.Step.TheVariants.{TakeFlag}
 use Rattle.vbr_machine.proofs.Lemmas.{put_other}
@@ -12,9 +12,9 @@ use Rattle.vbr_slots.specs.Calls.{Quiet}
 use Rattle.vbr_slots.specs.Pools.{hand_without}
 use Rattle.vbr_slots.specs.Tried.{last_tried}
 use Rattle.vbr_slots.specs.Views.{Trace, PassView, KeepsPool, Did, knows}
-use Rattle.vbr_slots.proofs.Lemmas.{did_quiet, did_seen, quiet_on}
+use Rattle.vbr_slots.proofs.Lemmas.{did_quiet, did_seen, quiet_on, taken_new}
 use Rattle.vbr_at_table.specs.Gained.{gained, gained_by_now}
-use Rattle.vbr_at_table.specs.StepKinds.{advances}
+use Rattle.vbr_at_table.specs.StepKinds.{advances, bears_in}
 use Rattle.vbr_at_table.specs.FlagsInNeed.{WinsNoFlag}
 use Rattle.vbr_at_table.specs.KeptSlots.{KeepsSlots, PoolGrows, SharesWhereFull, WinsInNeed}
 use Rattle.vbr_at_table.specs.Pieces.{HasSlots, LooksForSlot, Uses, WinsNone}
@@ -25,6 +25,7 @@ use Rattle.vbr_at_table.specs.declared.refusal.Refusal.TheVariants.{OutOfSteps, 
 use Rattle.vbr_at_table.proofs.Gained.{gained_on, gained_same}
 use Rattle.vbr_at_table.proofs.Probing.{Probed, probed_lost, probed_next, probed_few}
 use Rattle.vbr_at_table.proofs.InTurn.{did_turn}
+use Rattle.vbr_at_table.proofs.StepCounts.{same_made}
 use Rattle.vbr_at_table.proofs.Advancing.{given_count, given_grows, given_kept, given_shared, grows_on, grows_same}
 use Rattle.vbr_at_table.proofs.Advancing.{keeps_known, longer, same_advances, same_flags, shared_on, slots_kept_on}
 use Rattle.vbr_at_table.proofs.Counting.{counts_one, counts_on, took_all}
@@ -96,7 +97,8 @@ module _ {p q r : PassView} {budget used start slot n : ℕ} (tried : Tried p q 
   probes_lost : LooksForSlot p r
   probes_lost =
       probes_on tried.probes tried.empty quiet_lost (same_advances d refl)
-      (keeps_known q r stays (did_turn d) (λ s. ap (λ (k : Know). k.own s) (d.know ∙ lost_flag _ (knows q.trace))))
+      (keeps_known q r stays (did_turn d) (λ s. ap (λ (k : Know). k.own s) (d.know ∙ lost_flag _ (knows q.trace)))
+      (λ s. same_made (bears_in s) d refl))
       (grows_same q r stays.0) (inl (same_flags d refl)) (none_in_need p r wins_none_then)
 
   pub win_tried : Tried p r budget (used + 1) start
@@ -289,14 +291,22 @@ pub win_probes : {p q r t : PassView} {budget used start slot end n : ℕ} → W
     t.trace ≡ r.trace → t.pool ≡ r.pool ++ slot ∷ [] → t.hand ≡ hand_without slot r.hand → LooksForSlot p t
 win_probes {p} {q} {r} {t} {slot = slot} {n = n} winning no_hand d set stays same pool hand =
     probes_on winning.tried.probes winning.tried.empty (subst (Quiet q.trace) (sym same) (did_quiet d (λ know. refl)))
-    (given_count d refl refl refl others stays same pool hand) (given_kept d refl refl refl others stays same pool hand)
-    (given_grows d refl refl refl others stays same pool hand)
-    (given_shared d refl refl refl others stays same pool hand)
+    (given_count d refl refl refl refl new others stays same pool hand)
+    (given_kept d refl refl refl refl new others stays same pool hand)
+    (given_grows d refl refl refl refl new others stays same pool hand)
+    (given_shared d refl refl refl refl new others stays same pool hand)
     (in_need_after p q t winning.tried.none winning.tried.probes.kept.free
     (wins_one q t d set (winning.tried.pool.0 ∙ winning.tried.empty) (winning.tried.pool.1 ∙ no_hand) same))
   where
     won_flag : (a b : Know) → cond (has_flag n slot) a b ≡ a
     won_flag a b = ap (λ (t : Bool). cond t a b) set
+
+    -- a slot in the shared pool was in no hand
+    new : ¬ (IsInHand ((knows q.trace).own slot))
+    new held = subst IsInHand
+        (taken_new q.trace r.trace slot n (subst IsStart (sym winning.tried.quiet.same.start) winning.tried.opens) d
+        set)
+        held
 
     others : (s : ℕ) → s ≢ slot → MayBear ((knows r.trace).own s) → MayBear ((knows q.trace).own s)
     others s other m =

@@ -1,12 +1,12 @@
 -- What a call keeps of the slots of its pass.
 use Rattle.std.specs.Prelude.{◌≡◌, ◌≢◌, ℕ, ◌+◌, ◌≤◌, Bool, true, List, ◌++◌, [], length, Result, Ok, Some, Contains, ◌⊎◌}
-use Rattle.vbr_machine.specs.Acceptance.{IsUnlinked, MayBear}
+use Rattle.vbr_machine.specs.Acceptance.{IsInHand, IsUnlinked, MayBear}
 use Rattle.vbr_machine.specs.Knowledge.{Know}
 use Rattle.vbr_machine.specs.Whereabouts.{UnlinksInTurn}
 use Rattle.vbr_slots.specs.declared.pass.TheConstants.{POOL}
 use Rattle.vbr_slots.specs.Views.{Trace, PassView, knows}
 use Rattle.vbr_at_table.specs.FlagsInNeed.{WinsNoFlag, flags_won, times_beyond}
-use Rattle.vbr_at_table.specs.StepKinds.{advances, flags_raised, flags_tried}
+use Rattle.vbr_at_table.specs.StepKinds.{advances, births_in, flags_raised, flags_tried}
 
 -- a slot in the own pool of the pass, or in its hand
 abbrev pub HasSlot : PassView → ℕ → Type 0
@@ -33,6 +33,20 @@ CouldTake p know slot = MayBear (know.own slot) × (MayBear ((knows p.trace).own
 abbrev pub HasFree : PassView → PassView → Type 0
 HasFree p q = (slot : ℕ) → CouldTake p (knows q.trace) slot → HasSlot q slot
 
+-- a slot that the pass has put aside: in hand by what it knows, and neither in its own pool nor the one in its hand
+abbrev pub IsAside : PassView → ℕ → Type 0
+IsAside p slot = IsInHand ((knows p.trace).own slot) × ¬ (HasSlot p slot)
+
+-- the slot is aside as it was: the pass knows the same of it, and gave no birth there meanwhile
+pub record StaysAside (p q : PassView) (slot : ℕ) : Type 0 where
+  pub known : (knows q.trace).own slot ≡ (knows p.trace).own slot
+  pub outside : ¬ (HasSlot q slot)
+  pub births : births_in slot q.trace ≡ births_in slot p.trace
+
+-- each slot that the pass had put aside stays so
+abbrev pub KeepsAside : PassView → PassView → Type 0
+KeepsAside p q = (slot : ℕ) → IsAside p slot → StaysAside p q slot
+
 -- whatever the pass unlinked since, it has stamped: each slot that it has unlinked and not stamped then, it had so before
 abbrev pub StampsUnlinked : Trace → Trace → Type 0
 StampsUnlinked p q = (slot : ℕ) → IsUnlinked ((knows q).own slot) → IsUnlinked ((knows p).own slot)
@@ -53,11 +67,12 @@ StaysInTurn p q = UnlinkedInTurn p → UnlinkedInTurn q
 abbrev pub GoesInTurn : Trace → Trace → Type 0
 GoesInTurn p q = HasStampedAll p → StaysInTurn p q
 
--- no slot of the pass is lost: what it unlinked since it has stamped, one slot before it unlinked the next, and each slot that it could take then is in its own pool or in its hand
+-- no slot of the pass is lost: what it unlinked since it has stamped, one slot before it unlinked the next, each slot that it could take then is in its own pool or in its hand, and each that it had put aside is aside still
 pub record KeepsSlots (p q : PassView) : Type 0 where
   pub free : HasFree p q
   pub stamped : StampsUnlinked p.trace q.trace
   pub turn : GoesInTurn p.trace q.trace
+  pub aside : KeepsAside p q
 
 -- the own pool has what it had, and perhaps more behind
 abbrev pub PoolGrows : PassView → PassView → Type 0

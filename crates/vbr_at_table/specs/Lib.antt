@@ -7,6 +7,7 @@ pub mod StepKinds
 pub mod Gained
 pub mod FlagsInNeed
 pub mod KeptSlots
+pub mod Aside
 pub mod Advances
 pub mod Budgets
 pub mod Taking

@@ -40,6 +40,12 @@ pub record IsEpochRead (p q : Trace) (epoch : ℕ) : Type 0 where
   pub was : (world_after p.start moment).epoch ≡ epoch
   pub read : Begins (moment ++ event_of p.who ReadEpoch ∷ []) q.seen
 
+-- at a moment of what the pass did, the slot showed this birth
+pub record ShowsBirth (p q : Trace) (slot birth : ℕ) : Type 0 where
+  pub moment : List Event
+  pub within : Moment p q moment
+  pub was : (world_after p.start moment).birth slot ≡ birth
+
 -- at a moment of what the pass did, this link word stood at the place
 pub record WasFound (p q : Trace) (place : At) (word : ℕ) : Type 0 where
   pub moment : List Event

@@ -16,6 +16,7 @@
 //! `vbr_access` have the same calls by a pass, where each counts its own.
 #![tactic(auto)]
 
+pub mod aside;
 pub mod budget;
 pub mod confirming;
 pub mod giving_back;
@@ -35,13 +36,14 @@ pub mod unlinked;
 pub mod unlinking;
 pub mod updating;
 
+pub use aside::Aside;
 pub use confirming::{confirm_absent, confirm_look_up, confirm_present};
 pub use giving_back::give_back;
 pub use giving_slots_back::give_slots_back;
 pub use hand::Hand;
 pub use held::{Checkpoint, Held, Marked};
 pub use marking::mark;
-pub use reading::{birth_after, checkpoint, first, key_of, next, value_of};
+pub use reading::{birth_after, birth_shown, checkpoint, first, key_of, next, value_of};
 pub use refusal::Refusal;
 pub use replacing::replace;
 pub use reserving::{reserve, top_up};

@@ -4,6 +4,7 @@ ghost use Rattle.vbr_slots.specs.AtTables.{IsSameTable, trace_of, pass_of};
 ghost use Rattle.vbr_slots.specs.Views.{knows};
 ghost use Rattle.vbr_at_table.specs.Answering.{KeepsIn, IsPresent};
 ghost use Rattle.vbr_at_table.specs.Exchanges.{LosesExchange};
+ghost use Rattle.vbr_at_table.specs.Records.{MarksHeld};
 ghost use Rattle.vbr_at_table.specs.Values.{IsValued, MarksEntry};
 
 use crate::held::{Held, Marked};
@@ -21,6 +22,7 @@ pub fn mark<N: Nodes>(at: &mut AtTable<'_, N>, held: &Held) -> Result<Marked, Ro
     ensures table { IsSameTable at.old at.new }
     ensures keeps { KeepsIn (pass_of at.old) (pass_of at.new) 1 }
     ensures removed { IfOk result (MarksEntry (trace_of at.old) (trace_of at.new) held.now) }
+    ensures there { IfOk result (λ _. MarksHeld (trace_of at.old) (trace_of at.new) held.now) }
     ensures lost { IfErr result (LosesExchange (trace_of at.old) (trace_of at.new) held.now) }
 {
     at.law();

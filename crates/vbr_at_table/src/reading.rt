@@ -4,6 +4,7 @@ ghost use Rattle.vbr_slots.specs.AtTables.{IsSameTable, pass_of, trace_of};
 ghost use Rattle.vbr_slots.specs.Views.{knows};
 ghost use Rattle.vbr_at_table.specs.StepCosts.{steps_to_birth};
 ghost use Rattle.vbr_at_table.specs.Held.{IsSlot, IsHeld};
+ghost use Rattle.vbr_at_table.specs.Moments.{ShowsBirth};
 ghost use Rattle.vbr_at_table.specs.Reading.{IsCheckpoint, IsHeadRead, IsKeyRead, IsNextRead};
 ghost use Rattle.vbr_at_table.specs.Reading.{BirthMoved, IsBirthRead, ReadsIn, RollsBack, steps_to_next};
 ghost use Rattle.vbr_at_table.specs.Values.{IsValueRead};
@@ -24,6 +25,19 @@ pub fn checkpoint<N: Nodes>(at: &mut AtTable<'_, N>) -> Checkpoint
     Checkpoint {
         epoch: at.read_epoch(),
     }
+}
+
+/// Loads the birth that a slot shows, whoever has the slot, in one step. It can't fail, and the pass learns
+/// nothing by it.
+#[inline]
+pub fn birth_shown<N: Nodes>(at: &mut AtTable<'_, N>, slot: u32) -> u64
+    requires slot { slot < at.old.slots.now.start.shape.slots }
+    ensures table { IsSameTable at.old at.new }
+    ensures reads { ReadsIn (pass_of at.old) (pass_of at.new) 1 }
+    ensures shown { ShowsBirth (trace_of at.old) (trace_of at.new) slot result }
+{
+    at.law();
+    at.peek_birth(slot)
 }
 
 /// Reads the head of a bucket, in two steps.

@@ -28,9 +28,10 @@ ghost use Rattle.std.specs.Prelude.{◌≡◌, ◌+◌, ◌*◌};
 
 pub mod map;
 pub mod own_slots;
+pub mod records;
 pub mod set;
 
-pub use vbr_handles::{Entry, Found, ReportNumbers};
+pub use vbr_handles::{Entry, Found, Incarnation, ReportNumbers};
 
 // 0.3.0
 const VERSION: u32 = 3_000;

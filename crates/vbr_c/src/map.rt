@@ -12,7 +12,7 @@ ghost use Rattle.vbr_handles.specs.Opening.{AreEmpty, entries_start};
 ghost use Rattle.vbr_handles.specs.OpeningCodes.{TellsMapOpeningMany, TellsMapOpeningWith};
 ghost use Rattle.vbr_handles.specs.AllHandles.{KeepMapSteps, map_members_in};
 ghost use Rattle.vbr_handles.specs.Renewals.{TellsMapRenewal};
-ghost use Rattle.vbr_handles.specs.Reports.{TellsMapCloseAll, TellsMapReport};
+ghost use Rattle.vbr_handles.specs.Reports.{TellsMapCloseAll, TellsMapReport, TellsMapReportSlots};
 ghost use Rattle.vbr_set.specs.AllMembers.{AreOfOneSet};
 ghost use Rattle.vbr_handles.specs.Shown.{IsSeedOf, balance_shown, buckets_of, epoch_of_handle, last_epoch_of, slots_of};
 
@@ -152,8 +152,8 @@ pub extern "C" fn vbr_map_get_within(
 /// enough for an insert is enough.
 ///
 /// Refusals, after which no call was made and the handle can go on: -1, the steps leave no room in the budget;
-/// -2, the handle found no slot; -3, the last epoch is spent; -4, the handle is empty. With any answer but 1
-/// nothing is written.
+/// -2, the handle found no slot; -3, the last epoch is spent; -4, the handle is empty; -14, the handle holds a slot
+/// ([`crate::records`]). With any answer but 1 nothing is written.
 ///
 /// ```c file=bindings/c/map_calls.c
 /// if (vbr_map_replace(&map[0], 5, 72, &found) == VBR_YES) changed++; // 5 had the value found, and has 72
@@ -454,6 +454,31 @@ pub extern "C" fn vbr_map_report_all(
     ensures steps { KeepMapSteps handles.old handles.new }
 {
     numbers::report_all::<Entries, Entry, MapHandle>(alloc, handles, entries, report)
+}
+
+/// Tells what is in a map as [`vbr_map_report_all`] does, and the slot of each entry, as
+/// [`crate::set::vbr_report_slots`] tells that of each key of a set.
+///
+/// ```c file=bindings/c/slot_calls.c
+/// vbr_answer told = vbr_map_report_slots(map, 2, entries, slots, 8, &report); // VBR_YES: entries[i] stands in slots[i]
+/// ```
+#[unsafe(no_mangle)]
+pub extern "C" fn vbr_map_report_slots(
+    alloc: Global,
+    handles: &mut [MapHandle],
+    entries: &mut [Entry],
+    slots: &mut [u32],
+    report: &mut ReportNumbers,
+) -> i32
+    requires one_set { AreOfOneSet (map_members_in handles.old) }
+    requires room { length slots.old ≡ length entries.old }
+    ensures reports { TellsMapReportSlots handles.old handles.new entries.old entries.new
+        slots.old slots.new report.old report.new result }
+    ensures steps { KeepMapSteps handles.old handles.new }
+{
+    numbers::report_all_with_slots::<Entries, Entry, MapHandle>(
+        alloc, handles, entries, slots, report,
+    )
 }
 
 /// Lets all handles of a map go on over a fresh one of these numbers, as [`crate::set::vbr_renew_all_seeded`]

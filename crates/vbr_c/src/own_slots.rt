@@ -61,8 +61,8 @@ pub extern "C" fn vbr_map_reserve(handle: &mut MapHandle, wanted: u32) -> u32
     reserving::reserve(handle.owned.owner_mut(), wanted)
 }
 
-/// Gives up the slots that the handle keeps to itself, for good: nobody has them any more until its set is closed or
-/// renewed. It makes no step. It is for a handle whose process ended in the middle of a call.
+/// Gives up the slots that the handle keeps to itself, and the one that it holds, for good: nobody has them any more
+/// until its set is closed or renewed. It makes no step. It is for a handle whose process ended in the middle of a call.
 #[unsafe(no_mangle)]
 pub extern "C" fn vbr_forsake(handle: &mut Handle)
     ensures forsaken { HasForsaken handle.old.owned.member handle.new.owned.member }

@@ -9,7 +9,7 @@ ghost use Rattle.vbr_handles.specs.Opening.{AreEmpty, spread_start};
 ghost use Rattle.vbr_handles.specs.OpeningCodes.{TellsOpeningMany, TellsOpeningWith};
 ghost use Rattle.vbr_handles.specs.AllHandles.{KeepSteps, members_in};
 ghost use Rattle.vbr_handles.specs.Renewals.{TellsRenewal};
-ghost use Rattle.vbr_handles.specs.Reports.{TellsCloseAll, TellsReport};
+ghost use Rattle.vbr_handles.specs.Reports.{TellsCloseAll, TellsReport, TellsReportSlots};
 ghost use Rattle.vbr_set.specs.AllMembers.{AreOfOneSet};
 ghost use Rattle.vbr_handles.specs.Shown.{IsSeedOf, balance_shown, buckets_of, epoch_of_handle, last_epoch_of, slots_of};
 
@@ -97,7 +97,7 @@ pub extern "C" fn vbr_open_many_seeded(
 ///
 /// Refusals, after which no call was made and the handle can go on: -1, the steps leave no room in the
 /// budget; -2, the key was absent and the handle found no slot; -3, the key was absent and the last
-/// epoch is spent; -4, the handle is empty.
+/// epoch is spent; -4, the handle is empty; -14, the handle holds a slot ([`crate::records`]).
 ///
 /// ```c file=bindings/c/example.c
 /// vbr_answer added = vbr_insert(&handle[0], 5);       /* VBR_YES: 5 was absent */
@@ -253,8 +253,8 @@ pub extern "C" fn vbr_balance(handle: &mut Handle) -> i64
     shown::balance(handle.owned.owner_mut())
 }
 
-/// Gives the slots that the handle keeps to itself back, as `vbr_spare` does, and then its pass, and leaves the
-/// handle empty. 0 while other handles of the set are full. The
+/// Lets go of the slot that the handle holds, gives those that it keeps to itself back, as `vbr_spare` does, and then
+/// its pass, and leaves the handle empty. 0 while other handles of the set are full. The
 /// last one ends the set: 1, and it writes what the set held and its keys, ascending, in front of `keys`.
 /// It has no budget, and makes no call of the set.
 ///
@@ -331,6 +331,33 @@ pub extern "C" fn vbr_report_all(
     ensures steps { KeepSteps handles.old handles.new }
 {
     numbers::report_all::<Keys, u64, Handle>(alloc, handles, keys, report)
+}
+
+/// Tells what is in a set as [`vbr_report_all`] does, and the slot of each key: with 1, `keys[i]` stands in
+/// `slots[i]`. They have as much room as each other. A program that keeps a record beside each slot finds by it
+/// the record of each key.
+///
+/// Refusals are those of [`vbr_report_all`], with what they write; no slot is written with them. In C the room is given
+/// once, after `slots`: `bindings/null_pointers.c` has the export of that form.
+///
+/// ```c file=bindings/c/slot_calls.c
+/// vbr_answer told = vbr_report_slots(handle, 2, keys, slots, 8, &report); // VBR_YES: keys[i] stands in slots[i]
+/// ```
+#[unsafe(no_mangle)]
+pub extern "C" fn vbr_report_slots(
+    alloc: Global,
+    handles: &mut [Handle],
+    keys: &mut [u64],
+    slots: &mut [u32],
+    report: &mut ReportNumbers,
+) -> i32
+    requires one_set { AreOfOneSet (members_in handles.old) }
+    requires room { length slots.old ≡ length keys.old }
+    ensures reports { TellsReportSlots handles.old handles.new keys.old keys.new
+        slots.old slots.new report.old report.new result }
+    ensures steps { KeepSteps handles.old handles.new }
+{
+    numbers::report_all_with_slots::<Keys, u64, Handle>(alloc, handles, keys, slots, report)
 }
 
 /// Lets all handles of a set, in any order, go on over a fresh set of these numbers, with the keys that were

@@ -6,8 +6,9 @@ use vbr_words::At;
 /// An event and the effect that it has.
 pub type Row = (u32, Step, Effect);
 
-/// A slot is unlinked, retired and born again while pass 1 stands in it, whose exchange is then lost.
-pub const REBORN_SLOT: [Row; 44] = rows![bare:
+/// A slot is unlinked, retired and born again while pass 1 stands in it, whose exchange is then lost; and
+/// it sees the new birth.
+pub const REBORN_SLOT: [Row; 45] = rows![bare:
     0 ReadEpoch => Value(1);
     0 TakeFlag { slot: 0 } => Won;
     0 LoadStamp { slot: 0 } => Value(0);
@@ -36,6 +37,7 @@ pub const REBORN_SLOT: [Row; 44] = rows![bare:
     0 visits { slot: 0, at: At::Head(0), link: 33_554_433, epoch: 2, key: 30, birth: 1 };
     0 links { slot: 1, next: Some(0), pred: At::Head(0), expected: 33_554_433 };
     1 Publish { pred: At::Slot(1), expected: 33_554_433, slot: 2 } => Lost(67_108_865);
+    1 PeekBirth { slot: 1 } => Value(2);
 ];
 
 /// A head shows a word, another, and the first again, for the same nodes; the exchange on it is won.

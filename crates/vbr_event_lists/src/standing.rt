@@ -33,17 +33,18 @@ macro_rules! standing {
             1 StoreStamp { slot: 0, stamp: 1 } => Done;
             1 Raise { slot: 0 } => Done;
             1 Advance { from: 1 } => Won;
+            1 PeekBirth { slot: 1 } => Value(1);
         ]
     };
 }
 
 /// Pass 0 inserts 7. Then pass 1 takes a slot, reads the node of 7, inserts 8 behind it, removes 7,
 /// gives the slot of 7 to the shared pool, and advances the epoch.
-pub const STANDING: [Row; 29] = standing!(bare);
+pub const STANDING: [Row; 30] = standing!(bare);
 
 /// The same list on nodes that have values: each store of a key is followed by that of its value, 100
 /// more than the key, and pass 1 loads the value of 7 before it removes 7.
-pub const STANDING_WITH_VALUES: [Row; 32] = standing!(valued);
+pub const STANDING_WITH_VALUES: [Row; 33] = standing!(valued);
 
 /// The link words that the callers of the steps of either list name.
 pub const STANDING_WORDS: [u64; 5] = [33_554_432, 33_554_433, 33_554_432, 33_554_434, 33_554_434];

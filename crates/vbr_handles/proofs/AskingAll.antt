@@ -1,9 +1,10 @@
 -- Members that were asked come back to their handles.
 use Rattle.std.proofs.Common.{◌≡◌, ℕ, zero, suc, ◌+◌, ◌<◌, ◌≤◌, ◌≢◌, false, List, [], ◌∷◌, ◌++◌, length, map, drop}
 use Rattle.std.proofs.Common.{refl, sym, ap, ◌∙◌, subst, arith}
-use Rattle.std.specs.Prelude.{Bool, Ok, IfSome, IsSome, Option, None, Some, slice_index_or, slice_set}
+use Rattle.std.specs.Prelude.{Bool, Result, Ok, Err, IfOk, IfSome, IsSome, Option, None, Some}
+use Rattle.std.specs.Prelude.{slice_index_or, slice_set}
 use Rattle.std.specs.Prelude.{pos, ◌<ℤ◌}
-use Rattle.std.proofs.Common.{inr}
+use Rattle.std.proofs.Common.{◌⊎◌, inl, inr}
 use Rattle.std.proofs.lemmas.Bool.{false≢true}
 use Rattle.std.proofs.lemmas.List.{length-map}
 use Rattle.std.proofs.lemmas.List.Elements.{All-head, All-rest, All-same, All-tail, length_all_zip}
@@ -11,19 +12,22 @@ use Rattle.vbr_words.specs.Dimensions.{Dimensions, IsShape}
 use Rattle.vbr_machine.specs.Start.{start_with}
 use Rattle.vbr_slots.specs.Views.{PassView, TableView, new_passes}
 use Rattle.vbr_set.specs.Kinds.{KindOf}
-use Rattle.vbr_set.specs.Members.{MemberView as Member, new_members}
-use Rattle.vbr_set.specs.AllMembers.{AreTooFew}
+use Rattle.vbr_set.specs.Members.{MemberView as Member, as_member, new_members}
+use Rattle.vbr_set.specs.AllMembers.{AreTooFew, ReportsAllBy}
 use Rattle.vbr_set.specs.BalanceSums.{added_balances}
+use Rattle.vbr_set.specs.EntrySlots.{ClosesWithSlots, HasEntry}
 use Rattle.vbr_set.specs.RenewingAll.{AreNotAll}
-use Rattle.vbr_handles.specs.AllHandles.{AreFull, StaySo, joined, members_by}
+use Rattle.vbr_set.specs.declared.report_with_slots.ReportWithSlots.{ReportWithSlots}
+use Rattle.vbr_handles.specs.AllHandles.{AreFull, ReportsAllOf, StaySo, joined, members_by}
 use Rattle.vbr_handles.specs.AskingAll.{AsksAllOf, Lack, RenewsWithReserves}
 use Rattle.vbr_handles.specs.declared.asking_all.Answer.TheVariants as answering
 use Rattle.vbr_handles.specs.declared.asking_all.Question.{Question}
 use Rattle.vbr_handles.specs.declared.asking_all.Question.TheVariants as question
-use Rattle.vbr_handles.specs.Listings.{Listing}
+use Rattle.vbr_handles.specs.Listings.{Listing, with_slots}
 use Rattle.vbr_handles.specs.Opening.{spread_shape}
 use Rattle.vbr_handles.specs.OpeningReserves.{StartWithReserves, StartsWithReserve}
 use Rattle.vbr_handles.specs.RenewingAll.{RenewsTo}
+use Rattle.vbr_handles.specs.declared.closing_all.CloseAllRefusal.{CloseAllRefusal}
 use Rattle.vbr_handles.specs.declared.opening.ShapeNumbers.{ShapeNumbers}
 use Rattle.vbr_handles.proofs.AllHandles.{moved}
 use Rattle.vbr_handles.proofs.Opened.{new_count}
@@ -70,6 +74,43 @@ module _ {H : Type 0} (member : H → Option Member) where
       All-head (λ (h : H). IsSome (member h)) (slice_index_or handles i d) (drop (suc i) handles)
       (All-same (λ (h : H). IsSome (member h)) _ (drop i handles) (sym (from_here handles i d within)) full)
 
+-- what lacks for a report, with slots or without
+module _ (asked : Question) (members : List Member) where
+  pub lacks_few : (asked ≡ question.Report) ⊎ (asked ≡ question.ReportSlots) → AreTooFew members → Lack asked members
+  lacks_few (inl is) few = subst (λ (q : Question). Lack q members) (sym is) few
+  lacks_few (inr is) few = subst (λ (q : Question). Lack q members) (sym is) few
+
+  pub few_lack : (asked ≡ question.Report) ⊎ (asked ≡ question.ReportSlots) → Lack asked members → AreTooFew members
+  few_lack (inl is) lack = subst (λ (q : Question). Lack q members) is lack
+  few_lack (inr is) lack = subst (λ (q : Question). Lack q members) is lack
+
+-- a report has as many slots as it lists keys or entries
+pub as_many_slots : {Item R I : Type 0} (kind : KindOf Item R) (L : Listing R I) (members : List Member)
+    (told : ReportWithSlots R) (key : I → ℕ) →
+    L.keys (L.items told.report) ≡ kind.keys (kind.contents told.report).listed.items →
+    L.keys (L.items told.report) ≡ map key (L.items told.report) → ReportsAllBy (ClosesWithSlots kind) members told →
+    length told.slots.items ≡ length (L.items told.report)
+as_many_slots kind L members told key same keys all =
+    let by = all.closes in
+    length_all_zip (HasEntry all.set.start by.closes.run) told.slots.items
+    (kind.keys (kind.contents told.report).listed.items) by.slots
+    ∙ ap (λ (ks : List ℕ). length ks) (sym same ∙ keys)
+    ∙ length-map (L.items told.report) key
+
+-- so its slots have room where what it lists has
+pub slots_fit : {Item R I H : Type 0} (kind : KindOf Item R) (L : Listing R I) (member : H → Option Member)
+    (before after : List H) (room n : ℕ) (answer : Result (ReportWithSlots R) (CloseAllRefusal (ReportWithSlots R)))
+    (key : I → ℕ) →
+    ((report : R) → L.keys (L.items report) ≡ kind.keys (kind.contents report).listed.items) →
+    ((items : List I) → L.keys items ≡ map key items) → n ≡ room →
+    ReportsAllOf member (ClosesWithSlots kind) (with_slots L) before after room answer →
+    IfOk answer (λ told. length told.slots.items ≤ n)
+slots_fit kind L member before after room n (Ok told) key same keys wide (stay, enough, all, fits) =
+    let many : length told.slots.items ≡ length (L.items told.report) =
+    as_many_slots kind L (members_by member before) told key (same told.report) (keys (L.items told.report)) all in
+    omega (arith, many, fits, wide)
+slots_fit kind L member before after room n (Err refusal) key same keys wide told = tt
+
 -- as many members come back renewed
 pub as_many_renewed : {Item R : Type 0} (kind : KindOf Item R) (members back : List Member) (shape : Dimensions) →
     RenewsWithReserves kind members shape back → length back ≡ length members
@@ -77,7 +118,7 @@ as_many_renewed kind members back shape r =
     let new = r.renews.new in
     sym (length_all_zip StartsWithReserve r.fresh back r.reserves)
     ∙ ap (λ (ms : List Member). length ms) new.are
-    ∙ length-map (new_passes new.set 0 (length members)) (λ (pass : PassView). record { set = new.set; pass = pass })
+    ∙ length-map (new_passes new.set 0 (length members)) (λ (pass : PassView). as_member new.set pass)
     ∙ new_count new.set 0 (length members)
 
 -- numbers of which a shape was made are those of one, and it has as many slots

@@ -8,6 +8,7 @@ mod AskingAll
 mod HandleBalances
 mod EntryKeys
 mod InTurn
+mod HeldCalls
 mod ToppingUp
 mod HandleProgress
 mod OpeningReserves

@@ -6,7 +6,7 @@ use Rattle.std.proofs.lemmas.List.{length-map, map-append}
 use Rattle.std.proofs.lemmas.List.Elements.{length_all_zip}
 use Rattle.vbr_machine.specs.Start.{Start}
 use Rattle.vbr_slots.specs.Views.{PassView, TableView, new_passes}
-use Rattle.vbr_set.specs.Members.{AreNew, MemberView, new_members}
+use Rattle.vbr_set.specs.Members.{AreNew, MemberView, as_member, new_members}
 use Rattle.vbr_handles.specs.Opening.{AreOpened}
 use Rattle.vbr_handles.specs.OpeningReserves.{StartWithReserves, StartsWithReserve}
 use Rattle.vbr_handles.specs.declared.owner.Owner.{Owner}
@@ -19,7 +19,7 @@ pub as_many : (start : Start) (count : ℕ) (members came : List MemberView) (op
     AreNew start count members → StartWithReserves members came → map (λ h. h.member) opened ≡ map Some came →
     length opened ≡ count
 as_many start count members came opened new reserves same =
-    let mk : PassView → MemberView = λ p. record { set = new.set; pass = p } in
+    let mk : PassView → MemberView = λ p. as_member new.set p in
     sym (length-map opened (λ (h : Owner MemberView). h.member))
     ∙ ap (λ (ms : List (Option MemberView)). length ms) same
     ∙ length-map came Some

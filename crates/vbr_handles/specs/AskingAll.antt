@@ -3,6 +3,7 @@ use Rattle.std.specs.Prelude.{◌≡◌, List, map, Option, Some, Result, Ok, Er
 use Rattle.vbr_words.specs.Dimensions.{Dimensions}
 use Rattle.vbr_set.specs.AllMembers.{AreTooFew, ReportsAllBy}
 use Rattle.vbr_set.specs.Closing.{ClosesBy}
+use Rattle.vbr_set.specs.EntrySlots.{ClosesWithSlots}
 use Rattle.vbr_set.specs.Kinds.{KindOf}
 use Rattle.vbr_set.specs.Members.{MemberView as Member}
 use Rattle.vbr_set.specs.RenewingAll.{AreNotAll, HasNoRoom, HasRoom, RenewsAllBy}
@@ -18,6 +19,7 @@ use Rattle.vbr_handles.specs.declared.asking_all.Answer.TheVariants as answering
 -- there are fewer members than a report wants, or not as many as a renewal does
 abbrev pub Lack : Question → List Member → Type 0
 Lack question.Report members = AreTooFew members
+Lack question.ReportSlots members = AreTooFew members
 Lack (question.Renew shape) members = AreNotAll members
 
 module _ {Item R : Type 0} (kind : KindOf Item R) where
@@ -30,6 +32,7 @@ module _ {Item R : Type 0} (kind : KindOf Item R) where
   -- there is room for what they have, where they are to be renewed
   abbrev pub LacksNoRoom : Question → List Member → Type 0
   LacksNoRoom question.Report members = Unit {0}
+  LacksNoRoom question.ReportSlots members = Unit {0}
   LacksNoRoom (question.Renew shape) members = HasRoom kind members shape.slots
 
   -- members that are asked for their report come back as they were, with it or with why there is none; those that are to be renewed are, or come back as they were with why not
@@ -37,6 +40,9 @@ module _ {Item R : Type 0} (kind : KindOf Item R) where
   AnswersQuestion question.Report members back (answering.Report report) = (back ≡ members) × ReportsAllBy (ClosesBy kind) members report
   AnswersQuestion question.Report members back answering.Memory = back ≡ members
   AnswersQuestion question.Report members back _ = ⊥
+  AnswersQuestion question.ReportSlots members back (answering.ReportSlots told) = (back ≡ members) × ReportsAllBy (ClosesWithSlots kind) members told
+  AnswersQuestion question.ReportSlots members back answering.Memory = back ≡ members
+  AnswersQuestion question.ReportSlots members back _ = ⊥
   AnswersQuestion (question.Renew shape) members back answering.Renewed = RenewsWithReserves members shape back
   AnswersQuestion (question.Renew shape) members back answering.Room = (back ≡ members) × HasNoRoom kind members shape.slots
   AnswersQuestion (question.Renew shape) members back answering.Memory = (back ≡ members) × HasRoom kind members shape.slots

@@ -2,19 +2,30 @@
 use Rattle.std.specs.Prelude.{◌≡◌, ℕ, ℤ, Bool, Option, None, Some, Result}
 use Rattle.vbr_machine.specs.declared.history.Op.{Op}
 use Rattle.vbr_machine.specs.declared.history.Op.TheVariants.{Insert}
+use Rattle.vbr_at_table.specs.declared.aside.Aside.{Aside}
 use Rattle.vbr_at_table.specs.declared.refusal.Refusal.{Refusal}
 use Rattle.vbr_set.specs.MapCalls.{InsertsEntry}
 use Rattle.vbr_set.specs.Members.{Called}
 use Rattle.vbr_set.specs.Members.{MemberView as Member}
-use Rattle.vbr_handles.specs.Codes.{call_code, empty_code}
+use Rattle.vbr_handles.specs.Codes.{call_code, empty_code, held_code}
 use Rattle.vbr_handles.specs.ToppingUp.{CallsAndTopsUp, has_added}
 
+-- of a call that would take a slot: the one where a slot is held, and else the other
+abbrev pub UnlessHeld : Option Aside → Type 0 → Type 0 → Type 0
+UnlessHeld None told else_told = else_told
+UnlessHeld (Some aside) told else_told = told
+
+-- while a slot is held nothing is done, and the code says so
+abbrev pub RefusesHeld : Member → Member → ℤ → Type 0
+RefusesHeld m n code = (n ≡ m) × (code ≡ held_code)
+
 module _ (Calls : Member → Member → Result Bool Refusal → Type 0) where
-  -- the member made the call, and the code is that of the answer
+  -- the member made the call, the code is that of the answer, and a slot that it holds it holds still
   pub record TellsAnswer (m n : Member) (code : ℤ) : Type 0 where
     pub answer : Result Bool Refusal
     pub is : code ≡ call_code answer
     pub called : Calls m n answer
+    pub aside : n.aside ≡ m.aside
 
   -- an empty handle stays so, and has a code of its own; a full one stays full, and its member made the call
   abbrev pub TellsBy : Option Member → Option Member → ℤ → Type 0
@@ -23,14 +34,21 @@ module _ (Calls : Member → Member → Result Bool Refusal → Type 0) where
   TellsBy (Some m) None code = ⊥
   TellsBy (Some m) (Some n) code = TellsAnswer m n code
 
+  -- so it is of a call that would take a slot, unless the member holds one
+  abbrev pub TellsUnlessHeld : Option Member → Option Member → ℤ → Type 0
+  TellsUnlessHeld None None code = code ≡ empty_code
+  TellsUnlessHeld None (Some n) code = ⊥
+  TellsUnlessHeld (Some m) None code = ⊥
+  TellsUnlessHeld (Some m) (Some n) code = UnlessHeld m.aside (RefusesHeld m n code) (TellsAnswer m n code)
+
 -- so it is of a remove of a set, and of a look-up of either
 abbrev pub TellsCall : Op → Option Member → Option Member → ℕ → ℕ → ℤ → Type 0
 TellsCall op m n key budget code = TellsBy (λ m n answer. Called op m n key budget answer) m n code
 
--- and so of an insert of a key, after which a full handle keeps its reserve
+-- of an insert of a key, which is refused while a slot is held, and after which a full handle keeps its reserve
 abbrev pub TellsInsert : Option Member → Option Member → ℕ → ℕ → ℤ → Type 0
-TellsInsert m n key budget code = TellsBy (CallsAndTopsUp (λ m n answer. Called Insert m n key budget answer) has_added budget) m n code
+TellsInsert m n key budget code = TellsUnlessHeld (CallsAndTopsUp (λ m n answer. Called Insert m n key budget answer) has_added budget) m n code
 
 -- and of one of an entry
 abbrev pub TellsInsertEntry : Option Member → Option Member → ℕ → ℕ → ℕ → ℤ → Type 0
-TellsInsertEntry m n key value budget code = TellsBy (CallsAndTopsUp (λ m n answer. InsertsEntry m n key value budget answer) has_added budget) m n code
+TellsInsertEntry m n key value budget code = TellsUnlessHeld (CallsAndTopsUp (λ m n answer. InsertsEntry m n key value budget answer) has_added budget) m n code

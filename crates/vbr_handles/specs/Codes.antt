@@ -2,6 +2,10 @@
 use Rattle.std.specs.Prelude.{ℕ, ◌==◌, if◌then◌else◌, ℤ, pos, negsuc, Bool, true, false, Option, None, Some, Result, Ok, Err}
 use Rattle.vbr_at_table.specs.declared.refusal.Refusal.{Refusal}
 use Rattle.vbr_at_table.specs.declared.refusal.Refusal.TheVariants.{OutOfSteps, NoSlot, EpochSpent}
+use Rattle.vbr_set.specs.declared.record_refusals.HeldRefusal.{HeldRefusal}
+use Rattle.vbr_set.specs.declared.record_refusals.HeldRefusal.TheVariants as held
+use Rattle.vbr_set.specs.declared.record_refusals.HoldRefusal.{HoldRefusal}
+use Rattle.vbr_set.specs.declared.record_refusals.HoldRefusal.TheVariants as holding
 use Rattle.vbr_handles.specs.declared.closing.CloseRefusal.{CloseRefusal}
 use Rattle.vbr_handles.specs.declared.closing.CloseRefusal.TheVariants as closing
 use Rattle.vbr_handles.specs.declared.closing_all.CloseAllRefusal.{CloseAllRefusal}
@@ -28,6 +32,29 @@ exchange_code expected (Err refusal) = call_code (Err refusal)
 -- of an empty handle: -4
 abbrev pub empty_code : ℤ
 empty_code = negsuc 3
+
+-- of a slot in hand: -14 one is held and the call would take another, or none is and the call asks for one
+abbrev pub held_code : ℤ
+held_code = negsuc 13
+
+-- of a hold: 1 a slot is held; else one was held before, or the refusal is that of a call
+abbrev pub hold_code : Result ℕ HoldRefusal → ℤ
+hold_code (Ok slot) = pos 1
+hold_code (Err holding.Held) = held_code
+hold_code (Err (holding.Refused refusal)) = call_code (Err refusal)
+
+-- of letting go, by whether a slot was held: 1 put back; else none was held
+abbrev pub let_go_code : Bool → ℤ
+let_go_code true = pos 1
+let_go_code false = held_code
+
+-- of a call by a slot that is held: 1 yes, 0 no, -1 out of steps; else none is held, or the own pool is full
+abbrev pub held_call_code : Result Bool HeldRefusal → ℤ
+held_call_code (Ok true) = pos 1
+held_call_code (Ok false) = pos 0
+held_call_code (Err (held.OutOfSteps used)) = negsuc 0
+held_call_code (Err held.NotHeld) = held_code
+held_call_code (Err held.Full) = held_code
 
 -- of an opening: 0 done, -5 a handle is in use, -6 a bad shape, -7 a bad count, -8 no memory, -10 bad keys
 abbrev pub open_code : Result (Unit {0}) OpenRefusal → ℤ

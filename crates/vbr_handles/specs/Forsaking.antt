@@ -8,4 +8,4 @@ abbrev pub HasForsaken : Option Member → Option Member → Type 0
 HasForsaken None None = Unit {0}
 HasForsaken None (Some n) = ⊥
 HasForsaken (Some m) None = ⊥
-HasForsaken (Some m) (Some n) = (n.set ≡ m.set) × Forsakes m.pass n.pass
+HasForsaken (Some m) (Some n) = (n.set ≡ m.set) × (n.aside ≡ None) × Forsakes m.pass n.pass

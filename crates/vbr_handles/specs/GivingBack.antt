@@ -4,6 +4,7 @@ use Rattle.vbr_slots.specs.Views.{PassView, TableView}
 use Rattle.vbr_at_table.specs.GivingSlotsBack.{GivesSlotsBack}
 use Rattle.vbr_set.specs.Closing.{Closes, MapCloses}
 use Rattle.vbr_set.specs.Members.{MemberView as Member}
+use Rattle.vbr_handles.specs.HeldSlots.{TellsLetGo}
 use Rattle.vbr_handles.specs.Listings.{Listing, as_entries, as_keys}
 use Rattle.vbr_handles.specs.Reports.{TellsCloseBy}
 use Rattle.vbr_handles.specs.declared.entry.Entry.{Entry}
@@ -14,14 +15,17 @@ abbrev pub TellsGivenBack : Option Member → Option Member → ℕ → Type 0
 TellsGivenBack None None count = count ≡ 0
 TellsGivenBack None (Some n) count = ⊥
 TellsGivenBack (Some m) None count = ⊥
-TellsGivenBack (Some m) (Some n) count = (n.set ≡ m.set) × GivesSlotsBack m.pass n.pass count
+TellsGivenBack (Some m) (Some n) count = (n.set ≡ m.set) × (n.aside ≡ m.aside) × GivesSlotsBack m.pass n.pass count
 
 module _ {R I : Type 0} (L : Listing R I) (tells : TableView → List PassView → R → Type 0) where
-  -- the pass gave its slots back, and then the handle was closed
+  -- the member let go of the slot that it held, its pass gave its slots back, and then the handle was closed
   pub record ClosesWithoutSlots (before after : Option Member) (items written : List I) (was told : ReportNumbers) (code : ℤ) : Type 0 where
+    pub first : Option Member
+    pub held : ℤ
+    pub lets_go : TellsLetGo before first held
     pub between : Option Member
     pub count : ℕ
-    pub gives : TellsGivenBack before between count
+    pub gives : TellsGivenBack first between count
     pub closes : TellsCloseBy L tells between after items written was told code
 
 -- so it is of a set, whose report lists keys

@@ -21,6 +21,8 @@ pub mod Batches
 pub mod Shown
 pub mod Reports
 pub mod Renewals
+pub mod HeldSlots
+pub mod Incarnations
 pub mod GivingBack
 pub mod Forsaking
 pub mod Reserving

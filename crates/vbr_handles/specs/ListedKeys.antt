@@ -1,4 +1,4 @@
--- What is true of either kind of items: the keys that are listed are those of the items, one by one; and what a report lists opens a set or a map of what was reported.
+-- What is true of either kind of items: the keys that are listed are those of the items, one by one; those that a report lists are those of what it tells; and what a report lists opens a set or a map of what was reported.
 use Rattle.std.proofs.Common.{◌≡◌, ℕ, List, [], ◌∷◌, length, map, refl, sym, ap}
 use Rattle.std.proofs.lemmas.List.{length-map}
 use Rattle.vbr_words.specs.Dimensions.{Dimensions}
@@ -33,3 +33,9 @@ pairs_again (pair ∷ pairs) = ap (λ (ps : List (ℕ × ℕ)). pair ∷ ps) (pa
 
 pub entries_restart : (shape : Dimensions) (report : MapReport) → as_map.start shape (as_map.contents report).listed.items ≡ start_with (record shape { values = as_entries.values }) (as_entries.keys (as_entries.items report)) (as_entries.payloads (as_entries.items report))
 entries_restart shape report = λ i. start_with (record shape { values = as_entries.values }) (keys_listed (sym (pairs_again report.entries.items) i)) (values_listed (sym (pairs_again report.entries.items) i))
+
+pub same_keys_listed : (report : Report) → as_keys.keys (as_keys.items report) ≡ as_set.keys (as_set.contents report).listed.items
+same_keys_listed report = refl
+
+pub same_keys_of_entries : (report : MapReport) → as_entries.keys (as_entries.items report) ≡ as_map.keys (as_map.contents report).listed.items
+same_keys_of_entries report = ap keys_listed (pairs_again report.entries.items)

@@ -3,6 +3,7 @@ use Rattle.std.specs.Prelude.{ℕ, Bool, true, false, List, [], map}
 use Rattle.vbr_machine.specs.Maps.{keys_listed, values_listed}
 use Rattle.vbr_set.specs.declared.report.MapReport.{MapReport}
 use Rattle.vbr_set.specs.declared.report.Report.{Report}
+use Rattle.vbr_set.specs.declared.report_with_slots.ReportWithSlots.{ReportWithSlots}
 use Rattle.vbr_handles.specs.declared.entry.Entry.{Entry}
 use Rattle.vbr_handles.specs.declared.report_numbers.ReportNumbers.{ReportNumbers}
 
@@ -13,6 +14,16 @@ pub record Listing (R I : Type 0) : Type 0 where
   pub payloads : List I → List ℕ
   pub numbers : R → ReportNumbers
   pub items : R → List I
+
+-- so it is of a report with slots
+abbrev pub with_slots : {R I : Type 0} → Listing R I → Listing (ReportWithSlots R) I
+with_slots listing = record {
+  values = listing.values;
+  keys = listing.keys;
+  payloads = listing.payloads;
+  numbers = λ told. listing.numbers told.report;
+  items = λ told. listing.items told.report;
+}
 
 -- the entry of a pair, and the pair of an entry
 abbrev pub as_entry : ℕ × ℕ → Entry

@@ -15,6 +15,7 @@ is_small set = nat_lt (set.start.shape.slots / set.passes) SHARE
 -- the member topped its own pool up to its reserve, in as many tries
 pub record TakesReserve (m n : Member) : Type 0 where
   pub set : n.set ≡ m.set
+  pub aside : n.aside ≡ m.aside
   pub taken : ℕ
   pub steps : ℕ
   pub tops_up : TopsUp m.pass n.pass (reserve_of m.set) (reserve_of m.set) taken steps

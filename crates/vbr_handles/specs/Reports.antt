@@ -2,10 +2,13 @@
 use Rattle.std.specs.Prelude.{◌≡◌, ℤ, ℕ, List, ◌++◌, length, drop, Option, None, Some, Result, Ok, Err}
 use Rattle.vbr_slots.specs.Views.{PassView, TableView}
 use Rattle.vbr_set.specs.Closing.{Closes, MapCloses}
+use Rattle.vbr_set.specs.EntrySlots.{ClosesWithSlots}
+use Rattle.vbr_set.specs.Kinds.{KindOf, as_map, as_set}
 use Rattle.vbr_set.specs.Members.{MemberView as Member}
+use Rattle.vbr_set.specs.declared.report_with_slots.ReportWithSlots.{ReportWithSlots}
 use Rattle.vbr_handles.specs.AllHandles.{ClosesAll, ReportsAllOf}
 use Rattle.vbr_handles.specs.Closing.{ClosesAs}
-use Rattle.vbr_handles.specs.Listings.{Listing, as_entries, as_keys}
+use Rattle.vbr_handles.specs.Listings.{Listing, as_entries, as_keys, with_slots}
 use Rattle.vbr_handles.specs.declared.handle.Handle.{Handle}
 use Rattle.vbr_handles.specs.declared.handle.MapHandle.{MapHandle}
 use Rattle.vbr_handles.specs.declared.closing.CloseRefusal.{CloseRefusal}
@@ -62,6 +65,16 @@ module _ {R I : Type 0} (L : Listing R I) where
       pub reports : ReportsAllOf member tells L handles left (length before) answer
       pub writes : WritesAll answer before after old new
 
+-- the slots of a report are written in front; and without one, or where it has no room, nothing is written
+abbrev pub WritesSlots : {R : Type 0} → Result (ReportWithSlots R) (CloseAllRefusal (ReportWithSlots R)) → List ℕ → List ℕ → Type 0
+WritesSlots (Ok told) before after = after ≡ told.slots.items ++ drop (length told.slots.items) before
+WritesSlots (Err refusal) before after = after ≡ before
+
+-- a report is told as one without slots is, and the slot of each key or entry is written at its place
+pub record TellsReportSlotsBy {Item R I H : Type 0} (L : Listing R I) (kind : KindOf Item R) (member : H → Option Member) (handles left : List H) (before after : List I) (at at' : List ℕ) (old new : ReportNumbers) (code : ℤ) : Type 0 where
+  pub told : TellsReportBy (with_slots L) (ClosesWithSlots kind) member handles left before after old new code
+  pub slots : WritesSlots told.answer at at'
+
 -- so it is of a set, whose report lists keys
 abbrev pub TellsClose : Option Member → Option Member → List ℕ → List ℕ → ReportNumbers → ReportNumbers → ℤ → Type 0
 TellsClose = TellsCloseBy as_keys Closes
@@ -72,6 +85,9 @@ TellsCloseAll = TellsCloseAllBy as_keys Closes (λ (handle : Handle). handle.own
 abbrev pub TellsReport : List Handle → List Handle → List ℕ → List ℕ → ReportNumbers → ReportNumbers → ℤ → Type 0
 TellsReport = TellsReportBy as_keys Closes (λ (handle : Handle). handle.owned.member)
 
+abbrev pub TellsReportSlots : List Handle → List Handle → List ℕ → List ℕ → List ℕ → List ℕ → ReportNumbers → ReportNumbers → ℤ → Type 0
+TellsReportSlots = TellsReportSlotsBy as_keys as_set (λ (handle : Handle). handle.owned.member)
+
 -- and so of a map, whose report lists entries
 abbrev pub TellsMapClose : Option Member → Option Member → List Entry → List Entry → ReportNumbers → ReportNumbers → ℤ → Type 0
 TellsMapClose = TellsCloseBy as_entries MapCloses
@@ -81,3 +97,6 @@ TellsMapCloseAll = TellsCloseAllBy as_entries MapCloses (λ (handle : MapHandle)
 
 abbrev pub TellsMapReport : List MapHandle → List MapHandle → List Entry → List Entry → ReportNumbers → ReportNumbers → ℤ → Type 0
 TellsMapReport = TellsReportBy as_entries MapCloses (λ (handle : MapHandle). handle.owned.member)
+
+abbrev pub TellsMapReportSlots : List MapHandle → List MapHandle → List Entry → List Entry → List ℕ → List ℕ → ReportNumbers → ReportNumbers → ℤ → Type 0
+TellsMapReportSlots = TellsReportSlotsBy as_entries as_map (λ (handle : MapHandle). handle.owned.member)

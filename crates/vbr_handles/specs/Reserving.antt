@@ -8,4 +8,4 @@ abbrev pub TellsReserve : Option Member → Option Member → ℕ → ℕ → Ty
 TellsReserve None None wanted taken = taken ≡ 0
 TellsReserve None (Some n) wanted taken = ⊥
 TellsReserve (Some m) None wanted taken = ⊥
-TellsReserve (Some m) (Some n) wanted taken = (n.set ≡ m.set) × (steps : ℕ) × Reserves m.pass n.pass wanted taken steps
+TellsReserve (Some m) (Some n) wanted taken = (n.set ≡ m.set) × (n.aside ≡ m.aside) × (steps : ℕ) × Reserves m.pass n.pass wanted taken steps

@@ -31,6 +31,7 @@ steps_left budget p q = left_of budget (counted_steps (steps_of p)) (counted_ste
 -- since a call that began at p the member topped its own pool up to its reserve: in so many tries, or as many as the call left steps for, where these are fewer
 pub record TopsUpReserve (budget : ℕ) (p : Trace) (m n : Member) : Type 0 where
   pub set : n.set ≡ m.set
+  pub aside : n.aside ≡ m.aside
   pub taken : ℕ
   pub steps : ℕ
   pub tops_up : TopsUp m.pass n.pass (reserve_of m.set) (min (steps_left budget p m.pass.trace) (tries_of m.set)) taken steps

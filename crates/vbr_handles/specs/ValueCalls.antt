@@ -5,20 +5,22 @@ use Rattle.vbr_at_table.specs.declared.refusal.Refusal.{Refusal}
 use Rattle.vbr_set.specs.MapCalls.{ExchangesEntry, GetsEntry, GetsOrInsertsEntry, PutsEntry, RemovesEntry, RemovesIf, ReplacesEntry}
 use Rattle.vbr_set.specs.Members.{MemberView as Member}
 use Rattle.vbr_handles.specs.Codes.{call_code, empty_code, exchange_code}
+use Rattle.vbr_handles.specs.Calls.{RefusesHeld, UnlessHeld}
 use Rattle.vbr_handles.specs.ToppingUp.{CallsAndTopsUp, has_stored_new}
 
 -- what is given is written where the answer is yes, and else nothing is written
-abbrev pub WritesGiven : {A : Type 0} → Result (Option A) Refusal → A → A → Type 0
+abbrev pub WritesGiven : {A E : Type 0} → Result (Option A) E → A → A → Type 0
 WritesGiven (Ok (Some given)) old new = new ≡ given
 WritesGiven (Ok None) old new = new ≡ old
 WritesGiven (Err refusal) old new = new ≡ old
 
 module _ {A : Type 0} (Calls : Member → Member → Result (Option A) Refusal → Type 0) (coded : Result (Option A) Refusal → ℤ) where
-  -- the member made the call, the code is that of the answer, and what it gives is written
+  -- the member made the call, the code is that of the answer, what it gives is written, and a slot that it holds it holds still
   pub record GivesAnswer (m n : Member) (old new : A) (code : ℤ) : Type 0 where
     pub answer : Result (Option A) Refusal
     pub is : code ≡ coded answer
     pub called : Calls m n answer
+    pub aside : n.aside ≡ m.aside
     pub writes : WritesGiven answer old new
 
   -- an empty handle stays so, has a code of its own, and nothing is written; a full one stays full, and its member made the call
@@ -27,6 +29,13 @@ module _ {A : Type 0} (Calls : Member → Member → Result (Option A) Refusal �
   GivesAs None (Some n) old new code = ⊥
   GivesAs (Some m) None old new code = ⊥
   GivesAs (Some m) (Some n) old new code = GivesAnswer m n old new code
+
+  -- so it is of a call that would take a slot, unless the member holds one; then nothing is written either
+  abbrev pub GivesUnlessHeld : Option Member → Option Member → A → A → ℤ → Type 0
+  GivesUnlessHeld None None old new code = (code ≡ empty_code) × (new ≡ old)
+  GivesUnlessHeld None (Some n) old new code = ⊥
+  GivesUnlessHeld (Some m) None old new code = ⊥
+  GivesUnlessHeld (Some m) (Some n) old new code = UnlessHeld m.aside (RefusesHeld m n code × (new ≡ old)) (GivesAnswer m n old new code)
 
 -- so it is where the code says whether something is given
 abbrev pub GivesBy : {A : Type 0} → (Member → Member → Result (Option A) Refusal → Type 0) → Option Member → Option Member → A → A → ℤ → Type 0
@@ -42,20 +51,24 @@ TellsGetEntry m n key budget old new code = GivesBy (λ m n answer. GetsEntry m 
 
 -- ---- stores
 
+-- so it is of a store, which is refused while a slot is held
+abbrev pub StoresBy : {A : Type 0} → (Member → Member → Result (Option A) Refusal → Type 0) → Option Member → Option Member → A → A → ℤ → Type 0
+StoresBy Calls m n old new code = GivesUnlessHeld Calls (λ answer. call_code (is_yes answer)) m n old new code
+
 -- of a replacement: what was there is given
 abbrev pub TellsReplace : Option Member → Option Member → ℕ → ℕ → ℕ → ℕ → ℕ → ℤ → Type 0
-TellsReplace m n key value budget old new code = GivesBy (λ m n answer. ReplacesEntry m n key value budget answer) m n old new code
+TellsReplace m n key value budget old new code = StoresBy (λ m n answer. ReplacesEntry m n key value budget answer) m n old new code
 
 -- so it is of a put and of a get that inserts, after which a full handle keeps its reserve
 abbrev pub TellsPut : Option Member → Option Member → ℕ → ℕ → ℕ → ℕ → ℕ → ℤ → Type 0
-TellsPut m n key value budget old new code = GivesBy (CallsAndTopsUp (λ m n answer. PutsEntry m n key value budget answer) has_stored_new budget) m n old new code
+TellsPut m n key value budget old new code = StoresBy (CallsAndTopsUp (λ m n answer. PutsEntry m n key value budget answer) has_stored_new budget) m n old new code
 
 abbrev pub TellsGetOrInsert : Option Member → Option Member → ℕ → ℕ → ℕ → ℕ → ℕ → ℤ → Type 0
-TellsGetOrInsert m n key value budget old new code = GivesBy (CallsAndTopsUp (λ m n answer. GetsOrInsertsEntry m n key value budget answer) has_stored_new budget) m n old new code
+TellsGetOrInsert m n key value budget old new code = StoresBy (CallsAndTopsUp (λ m n answer. GetsOrInsertsEntry m n key value budget answer) has_stored_new budget) m n old new code
 
 -- and of an exchange and a remove that go by the value that is expected, whose code tells whether it was there
 abbrev pub TellsExchange : Option Member → Option Member → ℕ → ℕ → ℕ → ℕ → ℕ → ℕ → ℤ → Type 0
-TellsExchange m n key expected value budget old new code = GivesAs (λ m n answer. ExchangesEntry m n key expected value budget answer) (exchange_code expected) m n old new code
+TellsExchange m n key expected value budget old new code = GivesUnlessHeld (λ m n answer. ExchangesEntry m n key expected value budget answer) (exchange_code expected) m n old new code
 
 abbrev pub TellsRemoveIf : Option Member → Option Member → ℕ → ℕ → ℕ → ℕ → ℕ → ℤ → Type 0
 TellsRemoveIf m n key expected budget old new code = GivesAs (λ m n answer. RemovesIf m n key expected budget answer) (exchange_code expected) m n old new code

@@ -12,7 +12,7 @@ use crate::reserves::with_reserves;
 use std::alloc::Global;
 use std_alloc::room::Vacant;
 use vbr_set::member::Member;
-use vbr_set::{CloseAllError, Kind, RenewAllError, Shape};
+use vbr_set::{CloseAllError, Kind, RenewAllError, ReportWithSlots, Shape};
 use vbr_words::Nodes;
 
 /// Why the members of handles were asked nothing.
@@ -35,6 +35,8 @@ pub enum AskRefusal {
 pub(crate) enum Question {
     /// For the report of their set; they come back as they were.
     Report,
+    /// For the report of their set with the slot of each key; they come back as they were.
+    ReportSlots,
     /// To go on over a fresh set of this shape, of which others come in their place, with their reserves.
     Renew(Shape),
 }
@@ -44,6 +46,8 @@ pub(crate) enum Question {
 pub(crate) enum Answer<R> {
     /// The report.
     Report(R),
+    /// The report with the slots.
+    ReportSlots(ReportWithSlots<R>),
     /// That they were renewed.
     Renewed,
     /// That there are more keys than slots of the shape.
@@ -95,7 +99,7 @@ fn without_memory<N: Kind, H: HandleOf<N>>(
     ensures asks { AsksAllOf N.kind H.member question.now handles.old handles.new result }
 {
     match question {
-        Question::Report => Err(AskRefusal::Memory),
+        Question::Report | Question::ReportSlots => Err(AskRefusal::Memory),
         Question::Renew(shape) => {
             if added_balances::<N, H>(handles) > i64::from(shape.slots()) {
                 Ok(Answer::Room)
@@ -204,6 +208,11 @@ fn ask<N: Kind>(
             Err(CloseAllError::Missing(_)) => unreachable!(),
             Err(CloseAllError::Memory(members)) => (Answer::Memory, members),
         },
+        Question::ReportSlots => match Member::<N>::report_all_with_slots(alloc, members) {
+            Ok((told, members)) => (Answer::ReportSlots(told), members),
+            Err(CloseAllError::Missing(_)) => unreachable!(),
+            Err(CloseAllError::Memory(members)) => (Answer::Memory, members),
+        },
         Question::Renew(shape) => match Member::<N>::renew_all(alloc, members, shape) {
             Ok(fresh) => (Answer::Renewed, with_reserves(fresh)),
             Err(RenewAllError::Missing(_)) => unreachable!(),
@@ -240,7 +249,7 @@ fn lack<N: Nodes, H: HandleOf<N>>(handles: &mut [H], question: &Question) -> boo
     let count = handles.len();
     let passes = handles[0].passes() as usize;
     match question {
-        Question::Report => count < passes,
+        Question::Report | Question::ReportSlots => count < passes,
         Question::Renew(_) => count != passes,
     }
 }

@@ -3,6 +3,8 @@ ghost use Rattle.std.specs.Prelude.{◌≡◌, None, map};
 ghost use Rattle.vbr_set.specs.AllMembers.{AreOfOneSet};
 ghost use Rattle.vbr_set.specs.Closing.{ClosesBy};
 ghost use Rattle.vbr_handles.specs.AllHandles.{ClosesAll, ReportsAllOf, members_by};
+ghost use Rattle.vbr_set.specs.EntrySlots.{ClosesWithSlots};
+ghost use Rattle.vbr_handles.specs.Listings.{with_slots};
 ghost use Rattle.vbr_handles.specs.Opening.{AreEmpty};
 
 use crate::asking_all::{Answer, AskRefusal, Question, ask_all};
@@ -11,7 +13,7 @@ use crate::listed::Listed;
 use crate::owner::Owner;
 use std::alloc::Global;
 use vbr_set::member::Member;
-use vbr_set::{Kind, Report};
+use vbr_set::{Kind, Report, ReportWithSlots};
 use vbr_words::Nodes;
 
 /// Why all handles of a set got no report; `R` is the report, that of a set by itself. The tests are made in this order,
@@ -47,7 +49,7 @@ pub fn report_all<N: Kind, I: Listed<N>, H: HandleOf<N>>(
     let report = match ask_all::<N, H>(alloc, handles, Question::Report) {
         Ok(Answer::Report(report)) => report,
         Ok(Answer::Memory) => return Err(CloseAllRefusal::Memory),
-        Ok(Answer::Renewed | Answer::Room) => unreachable!(),
+        Ok(Answer::ReportSlots(_) | Answer::Renewed | Answer::Room) => unreachable!(),
         Err(AskRefusal::Empty) => return Err(CloseAllRefusal::Empty),
         Err(AskRefusal::Missing) => return Err(CloseAllRefusal::Missing),
         Err(AskRefusal::Mixed) => return Err(CloseAllRefusal::Mixed),
@@ -57,6 +59,33 @@ pub fn report_all<N: Kind, I: Listed<N>, H: HandleOf<N>>(
         return Err(CloseAllRefusal::Room(report));
     }
     Ok(report)
+}
+
+/// Tells what is in a set by all its handles at once, as [`report_all`] does, and the slot of each key, where
+/// there is room for so many keys: number i is the slot of what the report lists at i. So it is of a map.
+pub fn report_all_with_slots<N: Kind, I: Listed<N>, H: HandleOf<N>>(
+    alloc: Global,
+    handles: &mut [H],
+    room: usize,
+) -> Result<ReportWithSlots<N::Report>, CloseAllRefusal<ReportWithSlots<N::Report>>>
+    requires { AreOfOneSet (members_by H.member handles.old) }
+    ensures reports { ReportsAllOf H.member (ClosesWithSlots N.kind) (with_slots I.listing)
+        handles.old handles.new room result }
+    ensures steps { map H.steps handles.new ≡ map H.steps handles.old }
+{
+    let told = match ask_all::<N, H>(alloc, handles, Question::ReportSlots) {
+        Ok(Answer::ReportSlots(told)) => told,
+        Ok(Answer::Memory) => return Err(CloseAllRefusal::Memory),
+        Ok(Answer::Report(_) | Answer::Renewed | Answer::Room) => unreachable!(),
+        Err(AskRefusal::Empty) => return Err(CloseAllRefusal::Empty),
+        Err(AskRefusal::Missing) => return Err(CloseAllRefusal::Missing),
+        Err(AskRefusal::Mixed) => return Err(CloseAllRefusal::Mixed),
+        Err(AskRefusal::Memory) => return Err(CloseAllRefusal::Memory),
+    };
+    if I::count(&told.report) > room {
+        return Err(CloseAllRefusal::Room(told));
+    }
+    Ok(told)
 }
 
 /// Closes a set by all its handles at once, in any order, and leaves them empty: what is in the set, where

@@ -1,7 +1,7 @@
 //! A map lists entries.
 ghost use Rattle.std.specs.Prelude.{◌≡◌, map, IfOk};
 ghost use Rattle.vbr_handles.specs.Listings.{as_entries, as_pair};
-ghost use Rattle.vbr_handles.specs.ListedKeys.{as_many_entries, each_key_of_entries, entries_restart};
+ghost use Rattle.vbr_handles.specs.ListedKeys.{as_many_entries, each_key_of_entries, entries_restart, same_keys_of_entries};
 
 use crate::entry::Entry;
 use crate::listed::Listed;
@@ -49,6 +49,8 @@ impl Listed<Entries> for Entry {
     ghost restarts = { entries_restart };
 
     ghost as_many = { as_many_entries };
+
+    ghost same_keys = { same_keys_of_entries };
 
     ghost keys = { each_key_of_entries };
 }

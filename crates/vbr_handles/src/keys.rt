@@ -1,6 +1,6 @@
 //! A set lists keys.
 ghost use Rattle.vbr_handles.specs.Listings.{as_keys};
-ghost use Rattle.vbr_handles.specs.ListedKeys.{as_many_listed, each_key, keys_restart};
+ghost use Rattle.vbr_handles.specs.ListedKeys.{as_many_listed, each_key, keys_restart, same_keys_listed};
 
 use crate::listed::Listed;
 use crate::report_numbers::ReportNumbers;
@@ -41,6 +41,8 @@ impl Listed<Keys> for u64 {
     ghost restarts = { keys_restart };
 
     ghost as_many = { as_many_listed };
+
+    ghost same_keys = { same_keys_listed };
 
     ghost keys = { each_key };
 }

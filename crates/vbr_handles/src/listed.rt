@@ -70,6 +70,9 @@ pub trait Listed<N: Kind>: Copy {
     ghost as_many: { (report : N.Report) →
         length (listing.items report) ≡ length (N.kind.contents report).listed.items };
 
+    ghost same_keys: { (report : N.Report) →
+        listing.keys (listing.items report) ≡ N.kind.keys (N.kind.contents report).listed.items };
+
     ghost keys: { (items : List Self) → listing.keys items ≡ map key items };
 }
 

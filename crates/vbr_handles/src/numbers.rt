@@ -1,6 +1,6 @@
 //! The calls of handles with their answers as numbers, as they go to C: 1 is yes, 0 is no or done, 2 is that
 //! another value than the expected one was there, and each refusal has a number below 0.
-ghost use Rattle.std.specs.Prelude.{◌≡◌, ◌≤◌, length, map, IfOk};
+ghost use Rattle.std.specs.Prelude.{◌≡◌, ◌≤◌, ◌++◌, drop, is_some, length, map, IfOk};
 ghost use Rattle.vbr_machine.specs.declared.history.Op.TheVariants.{Remove, Has};
 ghost use Rattle.vbr_slots.specs.declared.opening.TheConstants.{MAX_MANY_PASSES, MAX_PASSES};
 ghost use Rattle.vbr_set.specs.AllMembers.{AreOfOneSet};
@@ -8,16 +8,19 @@ ghost use Rattle.vbr_set.specs.Closing.{ClosesBy};
 ghost use Rattle.vbr_handles.specs.AllHandles.{members_by};
 ghost use Rattle.vbr_handles.specs.Codes.{call_code, close_all_code, close_code, open_code, renew_all_code};
 ghost use Rattle.vbr_handles.specs.Calls.{TellsCall, TellsInsert};
+ghost use Rattle.vbr_handles.specs.Listings.{with_slots};
 ghost use Rattle.vbr_handles.specs.Opening.{listed_start};
 ghost use Rattle.vbr_handles.specs.OpeningCodes.{TellsOpeningBy};
 ghost use Rattle.vbr_handles.specs.Renewals.{TellsRenewalBy};
-ghost use Rattle.vbr_handles.specs.Reports.{TellsCloseAllBy, TellsCloseBy, TellsReportBy, WritesAll};
+ghost use Rattle.vbr_handles.specs.Reports.{TellsCloseAllBy, TellsCloseBy, TellsReportBy, TellsReportSlotsBy, WritesAll, WritesSlots};
 
 pub mod batches;
 pub mod entries;
+pub mod entry_records;
 pub mod forsaking;
 pub mod giving_back;
 pub mod iterating;
+pub mod records;
 pub mod reserving;
 pub mod topping_up;
 
@@ -32,7 +35,7 @@ use crate::renewing_all::RenewAllRefusal;
 use crate::report_numbers::ReportNumbers;
 use std::alloc::Global;
 use vbr_set::member::Member;
-use vbr_set::{Kind, Refusal};
+use vbr_set::{Kind, Refusal, ReportWithSlots};
 use vbr_words::{Keys, Nodes};
 
 const NO: i32 = 0;
@@ -67,6 +70,8 @@ const MISSING: i32 = -12;
 
 const MIXED: i32 = -13;
 
+const HELD: i32 = -14;
+
 /// Opens a set of these keys for handles, or a map of these entries, as [`crate::open_with`] does.
 pub fn open_with<N: Kind, I: Listed<N>, H: HandleOf<N>>(
     alloc: Global,
@@ -95,7 +100,8 @@ pub fn open_many<N: Kind, I: Listed<N>, H: HandleOf<N>>(
     open_code(crate::opening::open_many::<N, I, H>(alloc, handles, numbers, items))
 }
 
-/// Adds a key by the member of a handle, and then keeps the reserve of the handle ([`topping_up`]).
+/// Adds a key by the member of a handle, and then keeps the reserve of the handle ([`topping_up`]). While the member
+/// holds a slot it does nothing.
 pub fn insert(owner: &mut Owner<Member<Keys>>, key: u64, budget: u32) -> i32
     ensures { TellsInsert owner.old.member owner.new.member key budget result }
 {
@@ -103,6 +109,9 @@ pub fn insert(owner: &mut Owner<Member<Keys>>, key: u64, budget: u32) -> i32
         return EMPTY;
     }
     let member = owner.member_mut();
+    if holds_slot(member) {
+        return HELD;
+    }
     let before = member.pass().steps();
     let answer = member.insert(key, budget);
     top_up_after(member, has_added(&answer), budget, before);
@@ -188,6 +197,28 @@ pub fn report_all<N: Kind, I: Listed<N>, H: HandleOf<N>>(
     close_all_code(&answer)
 }
 
+/// Tells what is in a set or a map by all its handles at once, as [`report_all`] does, and writes the slot of each
+/// key, or of each entry, in front of `slots`, at the place that it has in `items`. Where the report isn't written
+/// whole, no slot is.
+pub fn report_all_with_slots<N: Kind, I: Listed<N>, H: HandleOf<N>>(
+    alloc: Global,
+    handles: &mut [H],
+    items: &mut [I],
+    slots: &mut [u32],
+    told: &mut ReportNumbers,
+) -> i32
+    requires one_set { AreOfOneSet (members_by H.member handles.old) }
+    requires room { length slots.old ≡ length items.old }
+    ensures reports { TellsReportSlotsBy I.listing N.kind H.member handles.old handles.new
+        items.old items.new slots.old slots.new told.old told.new result }
+    ensures steps { map H.steps handles.new ≡ map H.steps handles.old }
+{
+    let room = items.len();
+    let answer = crate::closing_all::report_all_with_slots::<N, I, H>(alloc, handles, room);
+    write_with_slots::<N, I>(&answer, items, slots, told);
+    close_all_code(&answer)
+}
+
 /// Lets all handles of a set or of a map go on over a fresh one, as [`crate::renew_all`] does.
 pub fn renew_all<N: Kind, I: Listed<N>, H: HandleOf<N>>(
     alloc: Global,
@@ -219,6 +250,47 @@ fn write_all<N: Kind, I: Listed<N>>(
         Err(CloseAllRefusal::Room(report)) => *told = I::numbers(report),
         _ => {}
     }
+}
+
+// Writes a report with its slots, or its numbers alone where it has no room.
+fn write_with_slots<N: Kind, I: Listed<N>>(
+    answer: &Result<ReportWithSlots<N::Report>, CloseAllRefusal<ReportWithSlots<N::Report>>>,
+    items: &mut [I],
+    slots: &mut [u32],
+    told: &mut ReportNumbers,
+)
+    requires items { IfOk answer.now (λ found.
+        length (I.listing.items found.report) ≤ length items.old) }
+    requires slots { IfOk answer.now (λ found. length found.slots.items ≤ length slots.old) }
+    ensures report { WritesAll (with_slots I.listing) answer.now
+        items.old items.new told.old told.new }
+    ensures slots { WritesSlots answer.now slots.old slots.new }
+{
+    match answer {
+        Ok(found) => {
+            I::write(&found.report, items);
+            write_slots(&found.slots, slots);
+            *told = I::numbers(&found.report);
+        }
+        Err(CloseAllRefusal::Room(found)) => *told = I::numbers(&found.report),
+        _ => {}
+    }
+}
+
+// Writes slots in front of what was there.
+fn write_slots(found: &[u32], slots: &mut [u32])
+    requires { length found.now ≤ length slots.old }
+    ensures { slots.new ≡ found.now ++ drop (length found.now) slots.old }
+{
+    slots[..found.len()].copy_from_slice(found);
+}
+
+// Whether a member holds a slot.
+#[inline(always)]
+fn holds_slot<N: Nodes>(member: &Member<N>) -> bool
+    ensures { result ≡ is_some member.now.aside }
+{
+    member.held().is_some()
 }
 
 fn open_code(answer: Result<(), OpenRefusal>) -> i32

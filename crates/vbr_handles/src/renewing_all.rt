@@ -51,7 +51,7 @@ pub fn renew_all<N: Kind, I: Listed<N>, H: HandleOf<N>>(
         Ok(Answer::Renewed) => Ok(()),
         Ok(Answer::Room) => Err(RenewAllRefusal::Room),
         Ok(Answer::Memory) => Err(RenewAllRefusal::Memory),
-        Ok(Answer::Report(_)) => unreachable!(),
+        Ok(Answer::Report(_) | Answer::ReportSlots(_)) => unreachable!(),
         Err(AskRefusal::Empty) => Err(RenewAllRefusal::Empty),
         Err(AskRefusal::Missing) => Err(RenewAllRefusal::Missing),
         Err(AskRefusal::Mixed) => Err(RenewAllRefusal::Mixed),

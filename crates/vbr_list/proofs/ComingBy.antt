@@ -4,18 +4,20 @@ use Rattle.vbr_list.proofs.Names.{Result, Ok, Err, IfErr, IfOk, refl, sym, ap, �
 use Rattle.vbr_list.proofs.Names.{advances, bucket_of, IsAlone, IsRun, OutOfSteps, PassLaw, PassView, PIECE, Quiet}
 use Rattle.vbr_list.proofs.Names.{quiet_on, Refusal, Start, took_all, TookWithin, Trace}
 use Rattle.vbr_list.specs.Budgets.{nodes_listed_in, steps_to_value_of}
-use Rattle.vbr_list.specs.Cursors.{GivesNextWhere, HasStayedOrMoved, IsBehindKey, IsPastKey, IteratesWhere, PassesBy}
+use Rattle.vbr_list.specs.Cursors.{HasStayedOrMoved, IsBehindKey, IsPastKey, PassesBy}
 use Rattle.vbr_list.specs.Cursors.{SeesMore, StopsShort, costs_over, costs_over_among, enough_to_come_among}
 use Rattle.vbr_list.specs.Cursors.{entered_by, going_costs, next_bucket}
 use Rattle.vbr_list.specs.Disturbed.{disturbed_in, enough_among, seek_costs_among}
 use Rattle.vbr_list.specs.Next.{HasNoNext, enough_to_seek}
 use Rattle.vbr_list.specs.Pieces.{Goes, Observes}
-use Rattle.vbr_list.specs.Seeking.{Sought, steps_besides}
+use Rattle.vbr_list.specs.Seeking.{GivesNextNode, IteratesNodes, Sought, steps_besides}
 use Rattle.vbr_list.specs.Walking.{SearchesIn}
 use Rattle.vbr_list.specs.declared.cursor.Cursor.{Cursor}
 use Rattle.vbr_list.specs.declared.seeking.NextNode.{NextNode}
 use Rattle.vbr_list.proofs.Cursors.{entry_since, passes_bucket, passes_key, passes_last, passes_on, passes_still}
 use Rattle.vbr_list.proofs.Disturbing.{enough_among_more, grows_disturbed, run_at, seek_costs_more, undisturbed_in}
+use Rattle.vbr_list.proofs.EntryAnswers.{there_since}
+use Rattle.vbr_list.proofs.SeenEntries.{full_since}
 use Rattle.vbr_list.proofs.GoingOver.{going_more, going_no_less}
 use Rattle.vbr_list.proofs.Going.{goes_on, goes_refl, within_of}
 use Rattle.vbr_list.proofs.Observing.{observes_on, observes_refl}
@@ -105,7 +107,7 @@ known_alone p q (Err refusal) from count took = tt
 
 -- it has come to the end
 pub come_to_end : {p q : PassView} (c d : Cursor) (used budget : ℕ) → HasComeBy p q c d used budget →
-    p.trace.start.shape.buckets ≤ d.bucket → IteratesWhere p q c d budget (Ok None)
+    p.trace.start.shape.buckets ≤ d.bucket → IteratesNodes p q c d budget (Ok None)
 come_to_end {p} {q} c d used budget x end = record {
   gives = (x.passes, end);
   refused = tt;
@@ -120,7 +122,7 @@ come_to_end {p} {q} c d used budget x end = record {
   going = within_of used _ (few_all d.from) x.goes.counts;
 }
   where
-    gone : Result (Option (ℕ × ℕ)) Refusal
+    gone : Result (Option NextNode) Refusal
     gone = Ok None
 
     few : (from : ℕ) → used
@@ -215,14 +217,14 @@ module _ {p q : PassView} (r : PassView) (law : PassLaw p) (c d : Cursor) (used 
   }
 
   -- what it gave, or how it was refused, is all that its ends have apart
-  comes : {e : Cursor} {found : Option (Option NextNode)} {answer : Result (Option (ℕ × ℕ)) Refusal}
-      (y : Sought q r d.bucket d.from used since budget found) → IfOk answer (GivesNextWhere p.trace r.trace c e) →
+  comes : {e : Cursor} {found : Option (Option NextNode)} {answer : Result (Option NextNode) Refusal}
+      (y : Sought q r d.bucket d.from used since budget found) → IfOk answer (GivesNextNode p.trace r.trace c e) →
       IfErr answer (StopsShort p r c e budget) →
       IfOk answer (λ given.
       TookWithin p.trace r.trace (costs_to (entered_by e.bucket e.from))) →
       IfOk answer (λ given.
       TookWithin p.trace r.trace (going_costs p.trace r.trace c.bucket (entered_by e.bucket e.from - c.bucket))) →
-      IteratesWhere p r c e budget answer
+      IteratesNodes p r c e budget answer
   comes {e} {answer = answer} y gives refused costs going =
       let all = goes_on x.goes y.peeks.tries.goes in
       let seen = observes_on x.observes y.peeks.observes in
@@ -243,20 +245,28 @@ module _ {p q : PassView} (r : PassView) (law : PassLaw p) (c d : Cursor) (used 
   -- to a node
   pub come_to : (e : Cursor) (next : NextNode) → Sought q r d.bucket d.from used since budget (Some (Some next)) →
       (next.is_last ≡ true → e ≡ next_bucket d) → (next.is_last ≡ false → IsBehindKey d.bucket next.key e) →
-      IteratesWhere p r c e budget (Ok (Some (next.key, next.value)))
+      IteratesNodes p r c e budget (Ok (Some next))
   come_to e next y last more =
       let tells = y.next.tells.0 in
       let of_bucket : bucket_of p.trace.start.shape next.key ≡ d.bucket =
       ap (λ (s : Start). bucket_of s.shape next.key) (sym x.goes.quiet.same.start) ∙ tells.0.of_bucket in
       let P : ℕ → Type 0 = λ b. IsPastKey b next.key e in
       let past = is_past next.is_last last more in
+      let valued : p.trace.start.shape.values ≡ true → q.trace.start.shape.values ≡ true =
+      λ values. ap (λ (s : Start). s.shape.values) x.goes.quiet.same.start ∙ values in
       comes y (
         (
-          passes_on to_here (from_here y.peeks.tries.goes.quiet) x.passes
-              (passes next.is_last last more y.next.tells.1),
-          subst P (sym of_bucket) past,
+          (
+            passes_on to_here (from_here y.peeks.tries.goes.quiet) x.passes
+                (passes next.is_last last more y.next.tells.1),
+            subst P (sym of_bucket) past,
+          ),
+          λ values. entry_since to_here (tells.1 (valued values)),
         ),
-        λ values. entry_since to_here (tells.1 (ap (λ (s : Start). s.shape.values) x.goes.quiet.same.start ∙ values)),
+        (
+          there_since r.trace next.key x.goes.quiet (Some next.entry) y.next.tells.2.0,
+          λ values. full_since x.goes.quiet (y.next.tells.2.1 (valued values)),
+        ),
       ) tt
       (within_of since (costs_to (entered_by e.bucket e.from))
       (let P : ℕ → Type 0 = λ n. since ≤ costs_to n in
@@ -288,7 +298,7 @@ module _ {p q : PassView} (r : PassView) (law : PassLaw p) (c d : Cursor) (used 
 
   -- no further, for want of steps
   pub come_short : d.bucket < p.trace.start.shape.buckets → Sought q r d.bucket d.from used since budget None →
-      IteratesWhere p r c d budget (Err (OutOfSteps since))
+      IteratesNodes p r c d budget (Err (OutOfSteps since))
   come_short here y =
       comes y tt (record {
         tired = record {

@@ -1,6 +1,6 @@
 -- A walk of loads alone goes on from place to place, past the keys that a seek tells of.
 use Rattle.vbr_list.proofs.Names.{◌≡◌, ℕ, ◌+◌, ◌<◌, ◌≤◌, Bool, true, false, Option, Some, None, sym, ap, ◌∙◌, subst}
-use Rattle.vbr_list.proofs.Names.{arith, is_none, is_some}
+use Rattle.vbr_list.proofs.Names.{arith, is_none, is_some, refl}
 use Rattle.vbr_list.proofs.Names.{At, behind_kept, bucket_of, Held, held_in_kept, held_in_next, held_kept, held_of}
 use Rattle.vbr_list.proofs.Names.{IsRead, IsRun, IsSame, IsStart, itself, Keeps, keeps_on, KeyAt, knows, link_of}
 use Rattle.vbr_list.proofs.Names.{Marked, moment_after, onward, PassLaw, PassView, PIECE, Quiet, quiet_on, quiet_refl}
@@ -14,7 +14,12 @@ use Rattle.vbr_list.specs.Seeking.{TellsNode, steps_besides}
 use Rattle.vbr_list.specs.Valuing.{ReadsValue}
 use Rattle.vbr_list.specs.Visiting.{IsVisit, MeetsBehind, StartsAt}
 use Rattle.vbr_list.specs.Walking.{IsDisturbed, MovesEpoch, WalksOnce}
+use Rattle.vbr_machine.specs.Membership.{Knows}
+use Rattle.vbr_machine.specs.declared.knowledge.Read.TheVariants.{ValueOf}
+use Rattle.vbr_list.specs.Entries.{entry_of}
+use Rattle.vbr_list.specs.declared.entries.Entry.{Entry}
 use Rattle.vbr_list.specs.declared.seeking.NextNode.{NextNode}
+use Rattle.vbr_list.proofs.SeenEntries.{entry_at_slot, named_same, was_full, was_there}
 use Rattle.vbr_list.specs.declared.visiting.Visited.{Visited}
 use Rattle.vbr_list.specs.declared.visiting.Visited.TheVariants.{Beyond, Marked as MarkedNode, Smaller}
 use Rattle.vbr_list.proofs.Disturbing.{grows_disturbed, met_until, run_at}
@@ -199,50 +204,65 @@ tells_none {q = q} start x none =
     }
 
 -- the next node, and the value that was read after it
-pub tells_next : {p q r : PassView} (s : PassView) {bucket from a b c budget : ℕ} {pred here : Held} (next : NextNode)
-    (node : Held) → IsStart p.trace.start → Follows p q bucket from a b budget pred here → Quiet q.trace r.trace →
-    MeetsBehind q.trace r.trace b c here from (Beyond node next.key) → Quiet r.trace s.trace →
-    ReadsValue r s node.at next.value → next.is_last ≡ is_none (link_of node.word).slot →
-    TellsNode p.trace s.trace bucket from (Some next)
-tells_next {p} {q} {r} s {bucket} {from} {a} {b} {c} {budget} {pred} {here} next node start x visit m then v is_last =
+pub tells_next : {p q r : PassView} (s : PassView) {bucket from a b c budget : ℕ} {pred here : Held} (key value : ℕ)
+    (entry : Entry) (is_last : Bool) (node : Held) → IsStart p.trace.start →
+    Follows p q bucket from a b budget pred here → Quiet q.trace r.trace →
+    MeetsBehind q.trace r.trace b c here from (Beyond node key) → Quiet r.trace s.trace →
+    ReadsValue r s node.at value → is_last ≡ is_none (link_of node.word).slot →
+    entry_of node (Some value) ≡ Some entry →
+    TellsNode p.trace s.trace bucket from (Some (record { key = key; entry = entry; is_last = is_last }))
+tells_next {p} {q} {r} s {bucket} {from} {a} {b} {c} {budget} {pred} {here} key value entry is_last node start x visit m
+    then v last_is entry_is =
     let quiet = quiet_on visit then in
     let keeps = keeps_on m.keeps v.keeps in
     let first = x.peeks.tries.goes.quiet in
     let whole = quiet_on first quiet in
     let n = m.reads in
     let k = m.visits.0 in
-    let P : At → Type 0 = λ place. KeyAt (knows s.trace) place next.key in
-    let Q : At → Type 0 = λ place. ValueAt (knows s.trace) place next.value in
-    let there = key_kept node.at next.key v.keeps k.keyed in
-    let keyed : KeyAt (knows s.trace) (Slot n.slot) next.key = subst P n.place there in
-    let of_bucket : bucket_of p.trace.start.shape next.key ≡ bucket =
-    ap (λ (t : Start). bucket_of t.shape next.key) (sym (quiet_on first visit).same.start)
+    let P : At → Type 0 = λ place. KeyAt (knows s.trace) place key in
+    let Q : At → Type 0 = λ place. ValueAt (knows s.trace) place value in
+    let there = key_kept node.at key v.keeps k.keyed in
+    let keyed : KeyAt (knows s.trace) (Slot n.slot) key = subst P n.place there in
+    let of_bucket : bucket_of p.trace.start.shape key ≡ bucket =
+    ap (λ (t : Start). bucket_of t.shape key) (sym (quiet_on first visit).same.start)
     ∙ k.of_bucket bucket x.inside.inside in
     let read : IsRead p.trace s.trace node =
-    record { known = held_kept node v.keeps k.held; stood = stood_before (stood_since first n.stood) then } in (
+    record { known = held_kept node v.keeps k.held; stood = stood_before (stood_since first n.stood) then } in
+    let valued : p.trace.start.shape.values ≡ true → Knows (knows s.trace) (ValueOf n.slot value) =
+    λ values. subst Q n.place (v.value (ap (λ (t : Start). t.shape.values) (quiet_on first visit).same.start ∙ values))
+    in
+    let mine : Entry = record { slot = n.slot; birth = node.birth; value = value } in
+    let same : mine ≡ entry =
+    (let z : Some mine ≡ Some entry = sym (entry_at_slot node n.slot value n.place) ∙ entry_is in cc) in
+    let T : Entry → Type 0 =
+    λ e. TellsNode p.trace s.trace bucket from (Some (record { key = key; entry = e; is_last = is_last })) in
+    subst T same (
       (
         record {
           high = m.visits.1;
           of_bucket = of_bucket;
-          was = was_present node start whole.same read k.unmarked next.key there;
+          was = was_present node start whole.same read k.unmarked key there;
           between = λ other is high low.
-              passed_by s start x quiet keeps other is high (rw n.named (next.key, keyed, low));
+              passed_by s start x quiet keeps other is high (rw n.named (key, keyed, low));
         },
-        λ values. was_entry node start whole.same read k.unmarked n.slot next.key next.value n.place keyed
-            (subst Q n.place (v.value (ap (λ (t : Start). t.shape.values) (quiet_on first visit).same.start ∙ values)))
-            values,
+        λ values. was_entry node start whole.same read k.unmarked n.slot key value n.place keyed
+            (valued values) values,
       ),
       λ last. record {
         behind = λ other is high.
-            let same_bucket : bucket_of p.trace.start.shape other ≡ bucket_of p.trace.start.shape next.key =
+            let same_bucket : bucket_of p.trace.start.shape other ≡ bucket_of p.trace.start.shape key =
             is ∙ sym of_bucket in
-            let S : Start → Type 0 = λ t. bucket_of t.shape other ≡ bucket_of t.shape next.key in
+            let S : Start → Type 0 = λ t. bucket_of t.shape other ≡ bucket_of t.shape key in
             let now = subst S (sym whole.same.start) same_bucket in
-            let none = no_slot (link_of node.word).slot (sym is_last ∙ last) in
+            let none = no_slot (link_of node.word).slot (sym last_is ∙ last) in
             was_absent node start whole.same read k.unmarked other
-            (behind_node s.trace.start (knows s.trace) node.at n.slot next.key other n.place there now
+            (behind_node s.trace.start (knows s.trace) node.at n.slot key other n.place there now
             (omega (arith, high))) (rw none tt);
       },
+      (
+        was_there node start whole.same read k.unmarked n.slot key n.place keyed value,
+        λ values. was_full node start whole.same read k.unmarked n.slot key n.place keyed value (valued values) values,
+      ),
     )
 
 -- ---- again
@@ -275,4 +295,16 @@ tells_since {p} {q} r bucket from told a x =
             record { moment = e.moment; within = moment_after a.seen e.within; was = e.was; stored = e.stored },
       ),
       λ last. none (next.key + 1) (y.1 last),
+      (
+        let e = y.2.0 in
+            record { moment = e.moment; within = moment_after a.seen e.within; named = named_same refl e.named },
+        λ values. let e = y.2.1 values in
+            record {
+              moment = e.moment;
+              within = moment_after a.seen e.within;
+              was = e.was;
+              stored = e.stored;
+              named = named_same refl e.named;
+            },
+      ),
     )

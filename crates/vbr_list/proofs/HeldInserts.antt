@@ -1,20 +1,38 @@
 -- An insert by a slot in hand: what it tells of a slot that is published, or stays in hand.
-use Rattle.vbr_list.proofs.Names.{◌≡◌, ℕ, ◌+◌, ◌<◌, ◌≤◌, Bool, true, false, None, refl, sym, subst, arith}
-use Rattle.vbr_list.proofs.Names.{Ghosts, HandView, none_on, PassLaw, PIECE, Quiet, steps_to_update, TakesNoSlot, Trace}
+use Rattle.vbr_list.proofs.Names.{◌≡◌, ℕ, ◌+◌, ◌<◌, ◌≤◌, Bool, true, false, None, subst, arith}
+use Rattle.vbr_list.proofs.Names.{Ghosts, HandView, none_on, PassLaw, PIECE, steps_to_update, TakesNoSlot}
 use Rattle.vbr_machine.proofs.Lemmas.{begins_trans}
 use Rattle.vbr_at_table.specs.Records.{PublishesSlot}
-use Rattle.vbr_list.specs.Holding.{KeepsHeld, LinksHeld}
-use Rattle.vbr_list.specs.Inserting.{CountsWithin, HasHandAndRoom}
+use Rattle.vbr_list.specs.Holding.{AnswersHeld, KeepsHeld, LinksHeld}
+use Rattle.vbr_list.specs.Inserting.{CountsWithin, HasHandAndRoom, SearchedFor, SearchesFor}
 use Rattle.vbr_list.specs.Pieces.{GoesOn, IsSameCall, MadeInsert, pass_in, trace_in}
 use Rattle.vbr_list.specs.Traversing.{SearchFinds, SearchTires}
 use Rattle.vbr_list.specs.declared.call.PendingCall.{PendingCall}
 use Rattle.vbr_list.specs.declared.found.Found.{Found}
 use Rattle.vbr_list.specs.declared.holding.StillInHand.TheVariants.{Present, OutOfSteps}
+use Rattle.vbr_list.proofs.Disturbing.{run_at}
+use Rattle.vbr_list.proofs.HeldCosts.{costs_after, lacks_after}
 use Rattle.vbr_list.proofs.Going.{call_on, within_call}
 use Rattle.vbr_list.proofs.Inserts.{links_hand}
 use Rattle.vbr_list.proofs.Linking.{IsLinking, TakesOn, begun, counts_until, has_until, none_until, quiet_until}
 use Rattle.vbr_list.proofs.LostWalks.{search_ends}
 use Rattle.vbr_list.proofs.Preparing.{within_on}
+
+-- the insert was answered
+held_answers : {N : Type 0} {kind : Ghosts N} (b e : PendingCall N kind) → PassLaw (pass_in b) →
+    (value : ℕ) (reply : Bool) → MadeInsert value b e reply →
+    SearchedFor (trace_in b) (trace_in e) b.key b.used e.used (steps_to_update (trace_in b).start + 3) →
+    AnswersHeld (trace_in b) (trace_in e) b.key value b.used e.used reply
+held_answers b e law value reply made searched =
+    let p = trace_in b in
+    let q = trace_in e in
+    let steps = steps_to_update p.start in
+    record {
+      made = made;
+      searched = searched;
+      costs = costs_after 7 steps p searched.ended q law.start (run_at p q made.same made.is_run) b.key searched.quiet
+          searched.to b.used e.used e.used (steps + 3) searched.searches (omega arith);
+    }
 
 module _ {N : Type 0} {kind : Ghosts N} {b c d : PendingCall N kind} {hand first : HandView} (law : PassLaw (pass_in b))
     (so : IsLinking 7 b c hand) (went : GoesOn c d) (is_first : hand ≡ first) where
@@ -51,7 +69,7 @@ module _ {N : Type 0} {kind : Ghosts N} {b c d : PendingCall N kind} {hand first
         entry = slot.entry;
       } in
       record {
-        answers = record { made = x.made; searched = x.searched };
+        answers = held_answers b e law value true x.made x.searched;
         spent = spent;
         slot = subst H is_first (subst P (begun so went).key here);
       }
@@ -62,19 +80,25 @@ module _ {N : Type 0} {kind : Ghosts N} {b c d : PendingCall N kind} {hand first
       HasHandAndRoom (pass_in e) hand → KeepsHeld value b e first (hand, Present)
   held_denied e value found finds few made has =
       let x = links_hand {b = b} {e = e} law so went found finds value false few made in
-      record { same = is_first; has = has; says = record { made = x.made; searched = x.searched } }
+      record { same = is_first; has = has; says = held_answers b e law value false x.made x.searched }
 
   -- there are no steps left: it stays, too
   pub held_tired : (value : ℕ) → SearchTires c d → KeepsHeld value b d first (hand, OutOfSteps d.used)
   held_tired value tired =
       let short : b.budget < d.used + PIECE = rw so.0.budget at tired.tired in
+      let p = trace_in b in
+      let q = trace_in d in
+      let quiet = quiet_until so went in
+      let searches : SearchesFor p q b.key b.used (b.budget + 1) 11 =
+      search_ends law so.0 so.1 went so.6 tired.walks (b.budget + 1) 8 11 (omega (arith, short)) (omega arith) in
       record {
         same = is_first;
         has = has_until so went;
         says = record {
-          quiet = quiet_until so went;
+          quiet = quiet;
           short = record { counts = counts_until so went; short = short };
-          searches =
-              search_ends law so.0 so.1 went so.6 tired.walks (b.budget + 1) 8 11 (omega (arith, short)) (omega arith);
+          searches = searches;
+          lacks = lacks_after 7 p q law.start (run_at p q quiet.same (quiet.is_run law.is_run)) b.key quiet b.used
+              b.budget searches;
         };
       }

@@ -14,7 +14,8 @@ use Rattle.vbr_machine.specs.declared.event.Step.{Step}
 use Rattle.vbr_machine.specs.declared.knowledge.Holding.{Holding}
 use Rattle.vbr_machine.specs.declared.knowledge.Holding.TheVariants.{Free, Unlinked, InHand}
 use Rattle.vbr_machine.specs.declared.knowledge.Unpublished.{Unpublished}
-use Rattle.vbr_machine.proofs.Lemmas.{begins_for_know, begins_refl, begins_run, in_hand_alone, in_hand_throughout}
+use Rattle.vbr_machine.proofs.Lemmas.{begins_for_know, begins_refl, begins_run, begins_trans, in_hand_alone}
+use Rattle.vbr_machine.proofs.Lemmas.{in_hand_throughout}
 use Rattle.vbr_slots.specs.Calls.{IsSame}
 use Rattle.vbr_slots.specs.PassLaw.{PassLaw}
 use Rattle.vbr_slots.specs.Pools.{HandFits}
@@ -23,6 +24,7 @@ use Rattle.vbr_at_table.specs.Hands.{HandView, IsHandOf}
 use Rattle.vbr_at_table.specs.KeptSlots.{TakesNoSlot}
 use Rattle.vbr_at_table.specs.Records.{PublishesSlot}
 use Rattle.vbr_at_table.specs.StepKinds.{flags_tried, is_try}
+use Rattle.vbr_list.specs.Holding.{PublishedSlot}
 
 -- ---- no flag is tried
 
@@ -131,6 +133,22 @@ held_until_published p q hand key moment slot law later same is none a b =
       own = subst K (λ i. (same.start i, same.who i)) slot.in_hand;
       birth_is = slot.birth_is;
     }) a b (slot.event ∷ [], slot.last)
+
+-- so it is where the call went on after the publication
+pub held_until_placed : (p q : PassView) (hand : HandView) (key : ℕ) (moment : List Event)
+    (slot : PublishedSlot p.trace q.trace hand.slot hand.birth key) → PassLaw p → PassLaw q →
+    IsSame p.trace q.trace → IsHandOf p hand → TakesNoSlot p q → Begins p.trace.seen moment →
+    Begins moment slot.published.moment → IsInHand ((know_after p.trace.start moment p.trace.who).own hand.slot)
+held_until_placed p q hand key moment slot law later same is none a b =
+    let x = slot.published in
+    let K : Start × ℕ → Type 0 = λ y. (know_after y.0 x.moment y.1).own hand.slot ≡ Some (InHand x.known) in
+    held_between p.trace q.trace hand.slot hand.birth moment x.moment law.start same later.is_run none.tries
+    (hand_known p hand law is)
+    (record {
+      known = x.known;
+      own = subst K (λ i. (slot.same.start i, slot.same.who i)) x.in_hand;
+      birth_is = x.birth_is;
+    }) a b (begins_trans x.moment slot.ended.seen q.trace.seen (x.event ∷ [], x.last) slot.to)
 
 pub held_throughout : (p q : PassView) (hand : HandView) (moment : List Event) → PassLaw p → PassLaw q →
     IsSame p.trace q.trace → IsHandOf p hand → IsHandOf q hand → TakesNoSlot p q → Begins p.trace.seen moment →

@@ -59,7 +59,7 @@ late_searched p q m r is ok key sq sm a b quiet on {before_all} {used} {mid} x t
 -- ---- what an answer costs
 
 -- the nodes that a pass which has replaced one can have met
-met_replaced : (p r : Trace) → IsStart p.start → IsRun p.start p.passes r.seen → (key : ℕ) {first second : Call} →
+pub met_replaced : (p r : Trace) → IsStart p.start → IsRun p.start p.passes r.seen → (key : ℕ) {first second : Call} →
     MadeTwo first second p r → first.op ≡ Remove → second.op ≡ Insert →
     met_since p r key ≤ listed_for p key + disturbed p r key + 1
 met_replaced p r is ok key {first} {second} made one two =

@@ -14,3 +14,5 @@ pub use Rattle.vbr_list.proofs.ValueReads.{few_to_value}
 pub use Rattle.vbr_list.proofs.ListedLater.{enough_later, listed_later}
 -- What a pass that is its table's only one adds to its calls.
 pub use Rattle.vbr_list.proofs.LonePasses.{alone_all}
+-- The insert of an entry, at a table that keeps values, and at one that keeps none.
+pub use Rattle.vbr_list.proofs.Told.{stored_bare, stored_kept}

@@ -2,6 +2,8 @@ mod Names
 mod Traversals
 mod EntryAnswers
 mod Publishing
+mod ReplacedEntries
+mod OtherEntries
 mod Going
 mod KeptHands
 mod Reaching
@@ -16,6 +18,7 @@ mod Walking
 mod LostWalks
 mod Passing
 mod Sights
+mod SeenEntries
 mod Following
 mod Cursors
 mod GoingOver
@@ -30,12 +33,16 @@ mod Expected
 mod Marks
 mod ValueReads
 mod Marking
+mod AnsweredRemoves
+mod RemovedEntries
 mod ReadFirst
 mod FoundValues
 mod Stores
 mod Wants
 mod Settled
+mod SettledSoon
 mod Linking
+mod HeldCosts
 mod HeldInserts
 mod HeldSlots
 mod Inserts

@@ -1,8 +1,11 @@
 -- The mark of a node that was found, once its value was read.
 use Rattle.vbr_list.proofs.Names.{◌≡◌, ℕ, true, Some}
-use Rattle.vbr_list.proofs.Names.{Held, Keeps, knows, Made, Marked, PassView, ReadsIn, Remove, Trace}
+use Rattle.vbr_list.proofs.Names.{Begins, begins_trans, Held, Keeps, knows, Made, Marked, PassView, ReadsIn, Remove}
+use Rattle.vbr_list.proofs.Names.{Trace}
+use Rattle.vbr_at_table.specs.Records.{MarksHeld, MarksSlot}
 use Rattle.vbr_at_table.specs.Values.{MarksEntry}
 use Rattle.vbr_list.specs.Places.{IsPred, Locates}
+use Rattle.vbr_list.specs.Removing.{MarksFound}
 use Rattle.vbr_list.specs.Told.{given_in}
 use Rattle.vbr_list.specs.Valuing.{ReadsValue}
 use Rattle.vbr_list.specs.declared.found.Found.{Found}
@@ -10,6 +13,20 @@ use Rattle.vbr_list.proofs.Moments.{key_found_since}
 use Rattle.vbr_list.proofs.Reaching.{pred_on}
 use Rattle.vbr_list.proofs.Told.{given_same, told_since}
 use Rattle.vbr_list.proofs.ValueReads.{valued_since}
+
+-- a mark since a moment is one since an earlier one
+pub marks_since : {p q r : Trace} {s birth key : ℕ} → Begins p.seen q.seen → MarksSlot q r s birth key →
+    MarksSlot p r s birth key
+marks_since {p} {q} begins x = record {
+  moment = x.moment;
+  event = x.event;
+  from = begins_trans p.seen q.seen x.moment begins x.from;
+  last = x.last;
+  expected = x.expected;
+  mark = x.mark;
+  node = x.node;
+  entry = x.entry;
+}
 
 module _ {p q : PassView} {r : Trace} {key value steps : ℕ} {found : Found} {cur : Held} {gone : Marked}
     (locates : Locates p.trace.start (knows p.trace) key found) (is : found.cur ≡ Some cur)
@@ -30,3 +47,17 @@ module _ {p q : PassView} {r : Trace} {key value steps : ℕ} {found : Found} {c
   pred_marked keeps =
       pred_on key found.pred mark_made.same keeps
       (pred_on key found.pred reads.quiet.same read.keeps locates.pred)
+
+  -- the node was an entry right before
+  pub marked_found : {t : Trace} → MarksHeld q.trace r cur → Begins r.seen t.seen → MarksFound p.trace t key found
+  marked_found held on = record {
+    cur = cur;
+    is = is;
+    marks = λ s at_slot. record {
+      ended = r;
+      same = mark_told.same;
+      to = on;
+      marks = marks_since reads.quiet.seen
+          (held.marks s key at_slot (key_found_since read.keeps locates is present));
+    };
+  }

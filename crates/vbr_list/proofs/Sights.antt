@@ -1,6 +1,7 @@
 -- What a look-up came to, as what its answer asks.
-use Rattle.vbr_list.proofs.Names.{◌≡◌, ℕ, ◌≤◌, Bool, false, None, Option, is_some, arith, sym, subst}
-use Rattle.vbr_list.proofs.Names.{At, Call, DecidesKey, Ghosts, IsHeld, IsSlot, KeyAt, Know, link_of, set_call, Start}
+use Rattle.vbr_list.proofs.Names.{◌≡◌, ◌≢◌, ℕ, ◌≤◌, Bool, true, false, None, Option, is_some, arith, refl, sym, subst}
+use Rattle.vbr_list.proofs.Names.{At, Call, DecidesKey, Get, Ghosts, Insert, IsHeld, IsSlot, KeyAt, Know, link_of}
+use Rattle.vbr_list.proofs.Names.{set_call, Start}
 use Rattle.vbr_at_table.specs.Answering.{IsAnswered}
 use Rattle.vbr_list.specs.LookUpPieces.{LookUpAnswers, steps_to_answer}
 use Rattle.vbr_list.specs.Pieces.{trace_in}
@@ -41,6 +42,20 @@ answers_bare {c = c} {d = d} gives answer none answered =
     λ value. P (kept_call p.start (record (set_call p.who op c.key (is_some answer)) { value = value })) in
     let x = subst Q (sym none) (subst P (told_bare p.start p.who op c.key (is_some answer)) answered) in
     record { made = x.made; adds = x.adds }
+
+-- a no gives none
+pub none_given : (gives : Bool) → given_by (look_up_op gives) None ≡ None
+none_given true = refl
+none_given false = refl
+
+-- no look-up inserts, and one that is a get gives the value
+pub op_other : (gives : Bool) → look_up_op gives ≢ Insert
+op_other true = λ e. absurd (cc)
+op_other false = λ e. absurd (cc)
+
+pub op_gets : (gives : Bool) → look_up_op gives ≡ Get → gives ≡ true
+op_gets true e = refl
+op_gets false e = absurd (cc)
 
 -- ---- what its answer costs
 

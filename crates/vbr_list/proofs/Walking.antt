@@ -1,26 +1,24 @@
 -- Walks one after another, each but the last disturbed by another pass, and what calls cost that make them.
-use Rattle.vbr_list.proofs.Names.{◌≡◌, ℕ, suc, ◌+◌, ◌*◌, ◌<◌, ◌≤◌, true, false, List, Option, Some, None, refl, sym, ap}
-use Rattle.vbr_list.proofs.Names.{◌∙◌, subst, arith, is_some, mul-le}
-use Rattle.vbr_list.proofs.Names.{advances, ahead_few, At, Begins, begins_refl, begins_run, begins_trans, bucket_of}
-use Rattle.vbr_list.proofs.Names.{disturbances_grow, EpochSpent, Event, HasVisited, Head, head_visited, Held, held_of}
-use Rattle.vbr_list.proofs.Names.{HeldIn, incarnations_after, IsAhead, IsFresh, IsOpenIn, IsRun, IsSame, IsStart, knows}
-use Rattle.vbr_list.proofs.Names.{link_at, link_of, link_shown_at, Marked, next_visited, NoSlot, OutOfSteps}
-use Rattle.vbr_list.proofs.Names.{own_between, own_changes, PassLaw, PassView, Quiet, quiet_on, Refusal, same_on}
-use Rattle.vbr_list.proofs.Names.{shown_there, since, Slot, Start, Trace, unmarked_open, visited_few, visited_on}
-use Rattle.vbr_list.proofs.Names.{world_after}
-use Rattle.vbr_list.specs.Helping.{OpensPlace}
+use Rattle.vbr_list.proofs.Names.{◌≡◌, ℕ, ◌+◌, ◌*◌, ◌<◌, ◌≤◌, List, sym, ap}
+use Rattle.vbr_list.proofs.Names.{◌∙◌, subst, arith, mul-le}
+use Rattle.vbr_list.proofs.Names.{advances, Begins, begins_refl, begins_run, begins_trans, bucket_of}
+use Rattle.vbr_list.proofs.Names.{EpochSpent, Event, Held}
+use Rattle.vbr_list.proofs.Names.{incarnations_after, IsFresh, IsOpenIn, IsRun, IsSame, IsStart}
+use Rattle.vbr_list.proofs.Names.{link_shown_at, NoSlot, OutOfSteps}
+use Rattle.vbr_list.proofs.Names.{PassLaw, PassView, Quiet, quiet_on, Refusal, same_on}
+use Rattle.vbr_list.proofs.Names.{Start, Trace}
 use Rattle.vbr_list.specs.Budgets.{LacksSteps, enough_past, listed_for, nodes_listed_in}
 use Rattle.vbr_list.specs.declared.found.Found.{Found}
-use Rattle.vbr_list.specs.Disturbed.{changed_after, changed_at, disturbed, disturbed_after, disturbed_at, disturbed_in}
+use Rattle.vbr_list.specs.Disturbed.{changed_after, disturbed, disturbed_after, disturbed_at, disturbed_in}
 use Rattle.vbr_list.specs.Disturbed.{enough_to_insert_among, searches_more}
 use Rattle.vbr_list.specs.Inserting.{SearchedFor, Searches, SearchesFor, SearchesInVain}
 use Rattle.vbr_list.specs.Traversing.{LastWalk}
-use Rattle.vbr_list.specs.Walking.{IsDisturbed, KnowsEpoch, LooksTo, LosesFound, LosesHeld, MovesSince, ReadsFresh}
-use Rattle.vbr_list.specs.Walking.{ReadsNext, Repeats, RepeatsIn, SearchesIn, StandsStill, StoodOpen, Walks, WalksAgain}
+use Rattle.vbr_list.specs.Walking.{IsDisturbed, LooksTo, LosesFound, LosesHeld}
+use Rattle.vbr_list.specs.Walking.{Repeats, RepeatsIn, SearchesIn, StoodOpen, WalksAgain}
 use Rattle.vbr_list.specs.Walking.{WalksAgainIn, WalksOnce, met_in, met_since, nodes_after}
-use Rattle.vbr_list.proofs.Disturbing.{disturbed_same, disturbed_there, fresh_at, grows_disturbed, loses_disturb}
+use Rattle.vbr_list.proofs.Disturbing.{disturbed_same, disturbed_there, grows_disturbed, loses_disturb}
 use Rattle.vbr_list.proofs.Disturbing.{loses_found_disturb, met_after, met_before, met_less, met_quiet, met_unanswered}
-use Rattle.vbr_list.proofs.Disturbing.{met_until, moves_disturb, run_at, run_to, same_between}
+use Rattle.vbr_list.proofs.Disturbing.{met_until, run_at, run_to, same_between}
 
 -- ---- again and again
 

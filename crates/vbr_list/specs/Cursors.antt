@@ -13,9 +13,11 @@ use Rattle.vbr_at_table.specs.WithinBudget.{TookWithin}
 use Rattle.vbr_at_table.specs.declared.budget.TheConstants.{PIECE}
 use Rattle.vbr_list.specs.Budgets.{nodes_listed_in, steps_to_value_of}
 use Rattle.vbr_list.specs.Disturbed.{advances_since, changes_since, disturbed_in, enough_among, seek_costs_among}
+use Rattle.vbr_list.specs.Entries.{WasFullEntry, WasThere}
 use Rattle.vbr_list.specs.Next.{enough_to_seek, seek_costs}
 use Rattle.vbr_list.specs.Refusals.{IsTired}
 use Rattle.vbr_list.specs.declared.cursor.Cursor.{Cursor}
+use Rattle.vbr_list.specs.declared.entries.Entry.{Entry}
 use Rattle.vbr_at_table.specs.declared.refusal.Refusal.{Refusal}
 
 -- ---- cursors
@@ -69,6 +71,16 @@ GivesNext p q c d (Some key) = PassesBy p q c d (Some key) × IsPastKey (bucket_
 abbrev pub GivesNextEntry : Trace → Trace → Cursor → Cursor → Option (ℕ × ℕ) → Type 0
 GivesNextEntry p q c d None = GivesNext p q c d None
 GivesNextEntry p q c d (Some entry) = GivesNext p q c d (Some entry.0) × WasEntry p q entry.0 entry.1
+
+-- so it gives one that is named: the entry was there at a moment
+abbrev pub GivesNextNamedEntry : Trace → Trace → Cursor → Cursor → Option (ℕ × Entry) → Type 0
+GivesNextNamedEntry p q c d None = GivesNext p q c d None
+GivesNextNamedEntry p q c d (Some told) = GivesNext p q c d (Some told.0) × WasFullEntry p q told.0 told.1
+
+-- and of a set: the entry has no value
+abbrev pub GivesNextNamedKey : Trace → Trace → Cursor → Cursor → Option (ℕ × Entry) → Type 0
+GivesNextNamedKey p q c d None = GivesNext p q c d None
+GivesNextNamedKey p q c d (Some told) = GivesNext p q c d (Some told.0) × WasThere p q told.0 told.1 × (told.1.value ≡ 0)
 
 -- an entry of which the key is right, and the value where nodes have values
 abbrev pub GivesNextWhere : Trace → Trace → Cursor → Cursor → Option (ℕ × ℕ) → Type 0
@@ -143,12 +155,18 @@ pub record Iterates {A : Type 0} (Gives : A → Type 0) (p q : PassView) (c d : 
   pub disturbed_costs : IfOk answer (λ given. TookWithin p.trace q.trace (costs_over_among p.trace (disturbed_in p.trace q.trace) c.bucket (entered_by d.bucket d.from - c.bucket)))
   pub going : IfOk answer (λ given. TookWithin p.trace q.trace (going_costs p.trace q.trace c.bucket (entered_by d.bucket d.from - c.bucket)))
 
--- so it is of keys, of entries, and of entries where nodes have values
+-- so it is of keys, of entries, of those that are named, and of entries where nodes have values
 abbrev pub IteratesKeys : PassView → PassView → Cursor → Cursor → ℕ → Result (Option ℕ) Refusal → Type 0
 IteratesKeys p q c d budget answer = Iterates (GivesNext p.trace q.trace c d) p q c d budget answer
 
 abbrev pub IteratesEntries : PassView → PassView → Cursor → Cursor → ℕ → Result (Option (ℕ × ℕ)) Refusal → Type 0
 IteratesEntries p q c d budget answer = Iterates (GivesNextEntry p.trace q.trace c d) p q c d budget answer
+
+abbrev pub IteratesNamedKeys : PassView → PassView → Cursor → Cursor → ℕ → Result (Option (ℕ × Entry)) Refusal → Type 0
+IteratesNamedKeys p q c d budget answer = Iterates (GivesNextNamedKey p.trace q.trace c d) p q c d budget answer
+
+abbrev pub IteratesNamedEntries : PassView → PassView → Cursor → Cursor → ℕ → Result (Option (ℕ × Entry)) Refusal → Type 0
+IteratesNamedEntries p q c d budget answer = Iterates (GivesNextNamedEntry p.trace q.trace c d) p q c d budget answer
 
 abbrev pub IteratesWhere : PassView → PassView → Cursor → Cursor → ℕ → Result (Option (ℕ × ℕ)) Refusal → Type 0
 IteratesWhere p q c d budget answer = Iterates (GivesNextWhere p.trace q.trace c d) p q c d budget answer

@@ -99,3 +99,11 @@ find_costs_among nodes times = (times + 1) * (9 * (nodes + times) + 3)
 -- the most that a remove costs which is answered, with so many steps to read a value
 abbrev pub remove_costs_among : ℕ → ℕ → ℕ → ℕ
 remove_costs_among nodes times reading = (times + 1) * (9 * (nodes + times) + 6) + 4 + reading
+
+-- enough for a call with a slot in hand among so many nodes, with so many steps more each time, for a pass that is disturbed so often
+abbrev pub enough_in_hand_among : ℕ → ℕ → ℕ → ℕ
+enough_in_hand_among each nodes times = 9 * (nodes + times) + 11 + searches_more each nodes times
+
+-- the most that it costs where it is answered, in so many steps after its last search
+abbrev pub costs_in_hand_among : ℕ → ℕ → ℕ → ℕ → ℕ
+costs_in_hand_among each nodes times after = 9 * (nodes + times) + 3 + after + searches_more each nodes times

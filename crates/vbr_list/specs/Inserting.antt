@@ -1,4 +1,4 @@
--- An insert, piece by piece: it takes a slot once it has found the key absent, and then links it. A store takes one by the same piece. Only contracts of private functions cite this.
+-- An insert, piece by piece: it takes a slot once it has found the key absent, and then links it. A store takes one by the same piece. Only contracts of private functions cite this, and those of calls with a slot in hand.
 use Rattle.std.specs.Prelude.{◌≡◌, ℕ, ◌+◌, ◌<◌, ◌≤◌, Bool, true, false, length, Option, Some, None}
 use Rattle.vbr_words.specs.Buckets.{bucket_of}
 use Rattle.vbr_words.specs.declared.nodes.Nodes.{Ghosts}

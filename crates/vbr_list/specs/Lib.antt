@@ -18,10 +18,12 @@ pub mod Valuing
 pub mod Telling
 pub mod LookUpPieces
 pub mod Entries
+pub mod OtherEntries
 pub mod Next
 pub mod Cursors
 pub mod Seeking
 pub mod Inserting
+pub mod RemovingExactly
 pub mod Removing
 pub mod Storing
 pub mod Settling

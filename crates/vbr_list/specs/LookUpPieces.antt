@@ -1,5 +1,5 @@
 -- A look-up, piece by piece: all its steps are loads. Only contracts of private functions cite this.
-use Rattle.std.specs.Prelude.{◌≡◌, ℕ, ◌+◌, ◌<◌, Bool, true, Option, Some, None}
+use Rattle.std.specs.Prelude.{◌≡◌, ℕ, ◌+◌, ◌<◌, Bool, true, false, Option, Some, None}
 use Rattle.vbr_words.specs.declared.nodes.Nodes.{Ghosts}
 use Rattle.vbr_words.specs.declared.place.At.TheVariants.{Slot}
 use Rattle.vbr_slots.specs.Alone.{IsFresh}
@@ -59,16 +59,17 @@ pub record LookUpAnswers {N : Type 0} {kind : Ghosts N} (gives : Bool) (c d : Pe
   pub made : MadeGiving (look_up_op gives) c d answer
   pub adds : AddsAnswer (given_in (trace_in c) (look_up_op gives) c.key answer) (trace_in c) (trace_in d)
 
--- so it is, with the value of a node that was an entry of the key
-pub record GivesValueOf {N : Type 0} {kind : Ghosts N} (c d : PendingCall N kind) (node : Held) (answer : Option ℕ) : Type 0 where
-  pub answers : LookUpAnswers true c d answer
+-- so it is, with the value of a node that was an entry of the key, or with 0
+pub record GivesValueOf {N : Type 0} {kind : Ghosts N} (gives : Bool) (c d : PendingCall N kind) (node : Held) (answer : Option ℕ) : Type 0 where
+  pub answers : LookUpAnswers gives c d answer
   pub value : ℕ
-  pub gives : answer ≡ Some value
+  pub is : answer ≡ Some value
+  pub zero : gives ≡ false → value ≡ 0
   pub shows : (s : ℕ) → node.at ≡ Slot s → WasHeldEntry (trace_in c) (trace_in d) node s c.key
 
 -- so it is, with no
-pub record GivesNone {N : Type 0} {kind : Ghosts N} (c d : PendingCall N kind) (answer : Option ℕ) : Type 0 where
-  pub answers : LookUpAnswers true c d answer
+pub record GivesNone {N : Type 0} {kind : Ghosts N} (gives : Bool) (c d : PendingCall N kind) (answer : Option ℕ) : Type 0 where
+  pub answers : LookUpAnswers gives c d answer
   pub none : answer ≡ None
 
 -- it isn't answered, and added nothing: the link that is to tell stands no more, or the epoch has moved

@@ -9,7 +9,9 @@ use Rattle.vbr_at_table.specs.Moments.{WasEntry, WasSo}
 use Rattle.vbr_at_table.specs.WithinBudget.{TookWithin}
 use Rattle.vbr_list.specs.Budgets.{nodes_listed_in, steps_to_value_of}
 use Rattle.vbr_list.specs.Disturbed.{disturbed_in, enough_among, seek_costs_among}
+use Rattle.vbr_list.specs.Entries.{WasFullEntry, WasThere}
 use Rattle.vbr_list.specs.Refusals.{IsTired}
+use Rattle.vbr_list.specs.declared.entries.Entry.{Entry}
 use Rattle.vbr_at_table.specs.declared.refusal.Refusal.{Refusal}
 
 -- ---- what is returned
@@ -40,6 +42,26 @@ abbrev pub IsNextEntryIfAny : Trace → Trace → ℕ → ℕ → Option (ℕ ×
 IsNextEntryIfAny p q bucket from None = HasNoNext p q bucket from
 IsNextEntryIfAny p q bucket from (Some entry) = IsNextEntry p q bucket from entry
 
+-- the next key with the entry that was there at a moment
+pub record IsNextNamedEntry (p q : Trace) (bucket from : ℕ) (told : ℕ × Entry) : Type 0 where
+  pub next : IsNextKey p q bucket from told.0
+  pub was : WasFullEntry p q told.0 told.1
+
+-- so it is, if there is one
+abbrev pub IsNextNamedEntryIfAny : Trace → Trace → ℕ → ℕ → Option (ℕ × Entry) → Type 0
+IsNextNamedEntryIfAny p q bucket from None = HasNoNext p q bucket from
+IsNextNamedEntryIfAny p q bucket from (Some told) = IsNextNamedEntry p q bucket from told
+
+-- so it is of a set: the entry has no value
+pub record IsNextNamedKey (p q : Trace) (bucket from : ℕ) (told : ℕ × Entry) : Type 0 where
+  pub next : IsNextKey p q bucket from told.0
+  pub there : WasThere p q told.0 told.1
+  pub zero : told.1.value ≡ 0
+
+abbrev pub IsNextNamedKeyIfAny : Trace → Trace → ℕ → ℕ → Option (ℕ × Entry) → Type 0
+IsNextNamedKeyIfAny p q bucket from None = HasNoNext p q bucket from
+IsNextNamedKeyIfAny p q bucket from (Some told) = IsNextNamedKey p q bucket from told
+
 -- ---- what it takes
 
 -- what is enough to find the next key: five steps for each node in the bucket's list, and eleven
@@ -68,9 +90,15 @@ pub record Seeks {A : Type 0} (Tells : A → Type 0) (p q : PassView) (bucket bu
   pub costs : IfOk answer (λ told. IsAlone p.trace q.trace → TookWithin p.trace q.trace (seek_costs p.trace bucket))
   pub disturbed_costs : IfOk answer (λ told. TookWithin p.trace q.trace (seek_costs_among (nodes_listed_in p.trace bucket) (disturbed_in p.trace q.trace bucket) (steps_to_value_of p.trace.start)))
 
--- so it is of a key, and of an entry
+-- so it is of a key, of an entry, and of those that are named
 abbrev pub SeeksKey : PassView → PassView → ℕ → ℕ → ℕ → Result (Option ℕ) Refusal → Type 0
 SeeksKey p q bucket from budget answer = Seeks (IsNextKeyIfAny p.trace q.trace bucket from) p q bucket budget answer
 
 abbrev pub SeeksEntry : PassView → PassView → ℕ → ℕ → ℕ → Result (Option (ℕ × ℕ)) Refusal → Type 0
 SeeksEntry p q bucket from budget answer = Seeks (IsNextEntryIfAny p.trace q.trace bucket from) p q bucket budget answer
+
+abbrev pub SeeksNamedKey : PassView → PassView → ℕ → ℕ → ℕ → Result (Option (ℕ × Entry)) Refusal → Type 0
+SeeksNamedKey p q bucket from budget answer = Seeks (IsNextNamedKeyIfAny p.trace q.trace bucket from) p q bucket budget answer
+
+abbrev pub SeeksNamedEntry : PassView → PassView → ℕ → ℕ → ℕ → Result (Option (ℕ × Entry)) Refusal → Type 0
+SeeksNamedEntry p q bucket from budget answer = Seeks (IsNextNamedEntryIfAny p.trace q.trace bucket from) p q bucket budget answer

@@ -1,5 +1,5 @@
 -- The pieces of a remove. Only contracts of private functions cite this.
-use Rattle.std.specs.Prelude.{◌≡◌, ℕ, ◌+◌, ◌≤◌, ◌⊎◌, List, Option, true, is_some}
+use Rattle.std.specs.Prelude.{◌≡◌, ℕ, ◌+◌, ◌≤◌, ◌⊎◌, List, Option, Some, true, is_some}
 use Rattle.vbr_words.specs.Words.{link_of}
 use Rattle.vbr_machine.specs.Start.{Start}
 use Rattle.vbr_words.specs.declared.nodes.Nodes.{Ghosts}
@@ -24,6 +24,7 @@ use Rattle.vbr_list.specs.Helping.{MayHelp}
 use Rattle.vbr_list.specs.Leaving.{Leaves, WasClear}
 use Rattle.vbr_list.specs.Pieces.{MadeGiving, HasRoomForPiece, trace_in}
 use Rattle.vbr_list.specs.Disturbed.{changed_after}
+use Rattle.vbr_list.specs.RemovingExactly.{MarkedSlot}
 use Rattle.vbr_list.specs.Walking.{LosesFound, LosesPlace, WalksAgain, nodes_after}
 use Rattle.vbr_list.specs.declared.call.PendingCall.{PendingCall}
 use Rattle.vbr_list.specs.declared.found.Found.{Found}
@@ -98,9 +99,16 @@ pub record RemovesLate {N : Type 0} {kind : Ghosts N} (expected : Option ℕ) (c
   pub taken : takes_out expected answer ≡ true
   pub late : MarksAndSearches (steps_to_value_of (trace_in c).start + 1) (trace_in c) (trace_in d) c.key c.used d.used found.pred
 
+-- the node that was found was marked, and right before was an entry of the key
+pub record MarksFound (p q : Trace) (key : ℕ) (found : Found) : Type 0 where
+  pub cur : Held
+  pub is : found.cur ≡ Some cur
+  pub marks : (s : ℕ) → cur.at ≡ Slot s → MarkedSlot p q s cur.birth key
+
 -- the remove is answered, and gives the value that was read of the node where nodes have values; where the node was taken out, it has left its list, unless the budget has no room for one more piece; it is answered soon, but for a search once the place before the node was lost
 pub record RemoveAnswers {N : Type 0} {kind : Ghosts N} (expected : Option ℕ) (c d : PendingCall N kind) (found : Found) (answer : Option ℕ) : Type 0 where
   pub made : MadeGiving (op_to_remove expected answer) c d answer
+  pub marks : takes_out expected answer ≡ true → MarksFound (trace_in c) (trace_in d) c.key found
   pub unlists : takes_out expected answer ≡ true → HasRoomForPiece d → Leaves (trace_in c) (trace_in d) c.key
   pub paid : RemovesSoon expected c d answer ⊎ RemovesLate expected c d found answer
 

@@ -11,6 +11,7 @@ use Rattle.vbr_at_table.specs.KeptSlots.{HasAllButOne, HasStill, TakesNoSlot}
 use Rattle.vbr_at_table.specs.WithinBudget.{CountsSteps}
 use Rattle.vbr_at_table.specs.declared.held.Held.{Held}
 use Rattle.vbr_at_table.specs.declared.held.Marked.{Marked}
+use Rattle.vbr_list.specs.OtherEntries.{ReplacedEntry}
 use Rattle.vbr_list.specs.Helping.{MayHelp}
 use Rattle.vbr_list.specs.Leaving.{LeavesAt}
 use Rattle.vbr_list.specs.Pieces.{HasRoomForPiece, IsSameCall, pass_in, trace_in}
@@ -38,12 +39,18 @@ pub record IsOldNode {N : Type 0} {kind : Ghosts N} (c : PendingCall N kind) (pr
   pub key : KeyAt (knows (trace_in c)) (Slot gone.slot) c.key
   pub behind : StandsBehind (trace_in c).start (knows (trace_in c)) pred.at c.key
 
--- the key had the value that was read, and has this one; the old node is the one that was replaced, and the place before it shows what it showed before
+-- the node that was found was an entry with this value right before it was replaced
+abbrev pub ReplacesFoundEntry : {N : Type 0} {kind : Ghosts N} → PendingCall N kind → PendingCall N kind → Found → ℕ → Type 0
+ReplacesFoundEntry c d found old = (node : Held) → found.cur ≡ Some node → (s : ℕ) → node.at ≡ Slot s →
+    ReplacedEntry (trace_in c).start (trace_in c).seen (trace_in d).seen (trace_in c).who s node.birth c.key old
+
+-- the key had the value that was read, and has this one; the old node is the one that was found and replaced, and the place before it shows what it showed before
 pub record ReplacesFound {N : Type 0} {kind : Ghosts N} (value : ℕ) (c d : PendingCall N kind) (found : Found) (gone : Marked) : Type 0 where
   pub stores : (old : ℕ) → KnowsThere c found (Some old) → Stores value c d (Some old)
   pub old : IsOldNode d found.pred gone
   pub replaced : ReplacedAt (trace_in c).start (trace_in c).seen (trace_in d).seen (trace_in c).who (knows (trace_in d)).epoch gone.slot
   pub marks : MarksBehind (trace_in c) (trace_in d) c.key found.pred
+  pub entry : (old : ℕ) → KnowsThere c found (Some old) → ReplacesFoundEntry c d found old
 
 -- the slot that was in hand is published in its place; or it stays in hand
 abbrev pub PublishesOrKeeps : {N A : Type 0} {kind : Ghosts N} → PendingCall N kind → PendingCall N kind → HandView → Result A HandView → Type 0

@@ -1,12 +1,16 @@
 -- Seeking the next key of a bucket: all its steps are loads. Only contracts of private functions cite this.
-use Rattle.std.specs.Prelude.{◌≡◌, ℕ, ◌+◌, ◌<◌, true, Option, Some, None, IfSome, IfNone}
+use Rattle.std.specs.Prelude.{◌≡◌, ℕ, ◌+◌, ◌<◌, true, Option, Some, None, Result, IfSome, IfNone}
 use Rattle.vbr_slots.specs.Views.{PassView, Trace}
 use Rattle.vbr_at_table.specs.Moments.{WasEntry}
 use Rattle.vbr_at_table.specs.declared.budget.TheConstants.{PIECE}
+use Rattle.vbr_at_table.specs.declared.refusal.Refusal.{Refusal}
 use Rattle.vbr_list.specs.Budgets.{steps_to_value_of}
+use Rattle.vbr_list.specs.Cursors.{GivesNextWhere, Iterates}
+use Rattle.vbr_list.specs.Entries.{WasFullEntry, WasThere}
 use Rattle.vbr_list.specs.Next.{HasNoNext, IsNextKey}
 use Rattle.vbr_list.specs.Pieces.{Peeks}
 use Rattle.vbr_list.specs.Walking.{IsDisturbed, SearchesIn, WalksOnce}
+use Rattle.vbr_list.specs.declared.cursor.Cursor.{Cursor}
 use Rattle.vbr_list.specs.declared.seeking.NextNode.{NextNode}
 use Rattle.vbr_list.specs.declared.traversal.Stop.{Stop}
 use Rattle.vbr_list.specs.declared.traversal.Stop.TheVariants.{Again, Tired}
@@ -16,10 +20,22 @@ abbrev pub TellsWhere : Trace → Trace → ℕ → ℕ → Option (ℕ × ℕ) 
 TellsWhere p q bucket from None = HasNoNext p q bucket from
 TellsWhere p q bucket from (Some entry) = IsNextKey p q bucket from entry.0 × (p.start.shape.values ≡ true → WasEntry p q entry.0 entry.1)
 
+-- the entry of the key was there at a moment, and had its value where nodes have values
+abbrev pub WasNode : Trace → Trace → NextNode → Type 0
+WasNode p q next = WasThere p q next.key next.entry × (p.start.shape.values ≡ true → WasFullEntry p q next.key next.entry)
+
 -- the node with the next key, if there is one; where it was the last of its list, each key of the bucket above it was absent at a moment too
 abbrev pub TellsNode : Trace → Trace → ℕ → ℕ → Option NextNode → Type 0
 TellsNode p q bucket from None = HasNoNext p q bucket from
-TellsNode p q bucket from (Some next) = TellsWhere p q bucket from (Some (next.key, next.value)) × (next.is_last ≡ true → HasNoNext p q bucket (next.key + 1))
+TellsNode p q bucket from (Some next) = TellsWhere p q bucket from (Some (next.key, next.entry.value)) × (next.is_last ≡ true → HasNoNext p q bucket (next.key + 1)) × WasNode p q next
+
+-- what an iteration gives: the node with the next key, or none
+abbrev pub GivesNextNode : Trace → Trace → Cursor → Cursor → Option NextNode → Type 0
+GivesNextNode p q c d None = GivesNextWhere p q c d None
+GivesNextNode p q c d (Some next) = GivesNextWhere p q c d (Some (next.key, next.entry.value)) × WasNode p q next
+
+abbrev pub IteratesNodes : PassView → PassView → Cursor → Cursor → ℕ → Result (Option NextNode) Refusal → Type 0
+IteratesNodes p q c d budget answer = Iterates (GivesNextNode p.trace q.trace c d) p q c d budget answer
 
 -- the steps of a walk besides those for its nodes: three to start, and those of reading the value
 abbrev pub steps_besides : Trace → ℕ

@@ -1,4 +1,4 @@
--- The pieces of a store: it finds the key as it is wanted, takes a slot, and stores the value; or it answers a get. Only contracts of private functions cite this.
+-- The pieces of a store: it finds the key as it is wanted, takes a slot, and stores the value; or it answers a get. Only contracts of private functions cite this, and those of calls with a slot in hand.
 use Rattle.std.specs.Prelude.{◌≡◌, ◌⊎◌, ℕ, ◌+◌, ◌*◌, ◌<◌, ◌≤◌, Bool, true, false, not, Option, Some, None}
 use Rattle.vbr_words.specs.declared.nodes.Nodes.{Ghosts}
 use Rattle.vbr_machine.specs.Runs.{Begins}
@@ -191,14 +191,14 @@ abbrev pub SearchesWith : Trace → Trace → ℕ → ℕ → ℕ → ℕ → Ty
 SearchesWith p q key before since more = Searches 12 p q key before since more
 
 -- it is answered soon after its last search; with sixteen steps left of the budget then a replaced node has left its list
-pub record AnswersSoon {N : Type 0} {kind : Ghosts N} (stored : Bool) (c d : PendingCall N kind) : Type 0 where
+pub record StoredSoon (stored : Bool) (p q : Trace) (key before since budget : ℕ) : Type 0 where
   pub ended : Trace
-  pub quiet : Quiet (trace_in c) ended
-  pub to : Begins ended.seen (trace_in d).seen
+  pub quiet : Quiet p ended
+  pub to : Begins ended.seen q.seen
   pub used : ℕ
-  pub searches : SearchesWith (trace_in c) ended c.key c.used used 3
-  pub few : d.used ≤ used + 14
-  pub leaves : stored ≡ true → used + 16 ≤ c.budget → LeavesReplaced (trace_in c) (trace_in d) c.key
+  pub searches : SearchesWith p ended key before used 3
+  pub few : since ≤ used + 14
+  pub leaves : stored ≡ true → used + 16 ≤ budget → LeavesReplaced p q key
 
 -- it replaced a node after some searches, lost the place before it, and searched on: for that it was disturbed once, and once for each search but the last
 pub record AnswersLate (p q : Trace) (key before since : ℕ) : Type 0 where
@@ -211,9 +211,15 @@ pub record AnswersLate (p q : Trace) (key before since : ℕ) : Type 0 where
   pub paid : since ≤ before + 9 * met_since p ended key + lost * (9 * met_since p ended key + 12) + (later + 1) * (9 * met_since ended q key + 3) + 17
 
 -- the one or, of a node that was replaced, the other
+abbrev pub StoredIn : Bool → Trace → Trace → ℕ → ℕ → ℕ → ℕ → Type 0
+StoredIn false p q key before since budget = StoredSoon false p q key before since budget
+StoredIn true p q key before since budget = StoredSoon true p q key before since budget ⊎ AnswersLate p q key before since
+
+abbrev pub AnswersSoon : {N : Type 0} {kind : Ghosts N} → Bool → PendingCall N kind → PendingCall N kind → Type 0
+AnswersSoon stored c d = StoredSoon stored (trace_in c) (trace_in d) c.key c.used d.used c.budget
+
 abbrev pub AnswersIn : {N : Type 0} {kind : Ghosts N} → Bool → PendingCall N kind → PendingCall N kind → Type 0
-AnswersIn false c d = AnswersSoon false c d
-AnswersIn true c d = AnswersSoon true c d ⊎ AnswersLate (trace_in c) (trace_in d) c.key c.used d.used
+AnswersIn stored c d = StoredIn stored (trace_in c) (trace_in d) c.key c.used d.used c.budget
 
 -- so it is of a store, by what was there
 abbrev pub AnswersPaid : {N : Type 0} {kind : Ghosts N} → Wanted → PendingCall N kind → PendingCall N kind → Option ℕ → Type 0

@@ -1,31 +1,58 @@
 //! Entries that outlast the call that found them.
-ghost use Rattle.std.specs.Prelude.{◌≡◌, ◌≤◌, ◌+◌, true, None, IfOk, IfErr};
+ghost use Rattle.std.specs.Prelude.{◌≡◌, ◌≤◌, ◌<◌, ◌+◌, false, true, None, IfOk, IfErr, Some};
+ghost use Rattle.vbr_at_table.specs.Held.{IsSlot};
 ghost use Rattle.vbr_at_table.specs.Reading.{ReadsIn};
-ghost use Rattle.vbr_list.specs.Entries.{EntryAnswers, FindsNamedEntry, GetsNamedEntry, IsStill, entry_of};
-ghost use Rattle.vbr_list.specs.LookUpPieces.{IsSightFor, LookUpRollsBack};
+ghost use Rattle.vbr_list.specs.Entries.{EntryAnswers, FindsNamedEntry, GetsNamedEntry, TellsStill, entry_of, steps_to_ask, HasNamedEntry, without_value};
+ghost use Rattle.vbr_list.specs.LookUpPieces.{IsSightFor, LookUpRollsBack, IsAskedOf, steps_to_answer};
+ghost use Rattle.vbr_list.specs.OtherEntries.{IsNodeOf};
 ghost use Rattle.vbr_list.specs.Pieces.{HasRoomForPiece, Settles, trace_in};
 ghost use Rattle.vbr_slots.specs.Calls.{OnlyLoads, Took};
 ghost use Rattle.vbr_slots.specs.Views.{IsOf};
 
 use crate::call::{PendingCall, begin};
+use crate::found::Found;
 use crate::looking::Sight;
 use vbr_at_table::budget::affords;
-use vbr_at_table::{Held, Refusal, Rollback, checkpoint};
+use vbr_at_table::{Held, Refusal, Rollback, birth_shown};
 use vbr_slots::{AtTable, Pass, Slots, Stepper};
 use vbr_words::{At, Entries, Nodes};
 
-/// An entry as a call found it: the slot of its node, the birth of that node, an epoch, and the value that
-/// is stored there. `epoch` is one that had come when the node was in the map.
+/// An entry as a call found it: the slot of its node, the birth of that node, and the value that is stored
+/// there; 0 in a set. It is good for its table alone, until that is closed or renewed.
 #[derive(Clone, Copy, Debug, PartialEq, Eq)]
 pub struct Entry {
     /// The slot.
     pub slot: u32,
     /// The birth.
     pub birth: u64,
-    /// The epoch.
-    pub epoch: u64,
     /// The value.
     pub value: u64,
+}
+
+impl Entry {
+    // The same entry with no value.
+    #[inline(always)]
+    pub(crate) fn bare(self) -> Entry
+        ensures { result ≡ without_value self }
+    {
+        Entry { value: 0, ..self }
+    }
+}
+
+/// The entry of a node that is held at a slot, with this value.
+#[inline(always)]
+pub(crate) fn named(node: &Held, value: u64) -> Entry
+    requires slot { IsSlot node.now.at }
+    ensures { entry_of node.now (Some value) ≡ Some result }
+{
+    let At::Slot(slot) = node.at else {
+        unreachable!()
+    };
+    Entry {
+        slot,
+        birth: node.birth,
+        value,
+    }
 }
 
 // The entry of a node that is held, if it is a node with a value.
@@ -37,32 +64,43 @@ fn entry_of(node: &Held, value: Option<u64>) -> Option<Entry>
         (At::Slot(slot), Some(value)) => Some(Entry {
             slot,
             birth: node.birth,
-            epoch: node.epoch,
             value,
         }),
         _ => None,
     }
 }
 
+// Whether what was found is the node of this entry.
+#[inline(always)]
+pub(crate) fn is_node_of(found: &Found, entry: &Entry) -> bool
+    ensures is { result ≡ true → IsNodeOf found.now entry.now }
+    ensures is_not { result ≡ false → ¬ (IsNodeOf found.now entry.now) }
+{
+    match &found.cur {
+        Some(cur) => { found.present && cur.at == At::Slot(entry.slot) && cur.birth == entry.birth }
+        None => false,
+    }
+}
+
 impl<N: Nodes> PendingCall<'_, N> {
-    // Answers a get by what it came to, and gives the entry.
+    // Answers a look-up, or a get, by what it came to, and gives the entry.
     #[inline(always)]
-    fn settle_entry(&mut self, sight: Sight) -> Result<Option<Entry>, Rollback>
+    fn settle_entry(&mut self, gives: bool, sight: Sight) -> Result<Option<Entry>, Rollback>
         requires sight { IsSightFor self.old sight }
-        requires values { (trace_in self.old).start.shape.values ≡ true }
+        requires asked { IsAskedOf self.old gives }
         requires room { HasRoomForPiece self.old }
         ensures settles { Settles self.old self.new }
-        ensures few { self.new.used ≤ self.old.used + 3 }
+        ensures few { self.new.used ≤ self.old.used + steps_to_answer gives }
         ensures only_loads { OnlyLoads (trace_in self.old) (trace_in self.new) }
-        ensures answers { IfOk result (EntryAnswers self.old self.new) }
+        ensures answers { IfOk result (EntryAnswers gives self.old self.new) }
         ensures rolls { IfErr result (LookUpRollsBack self.old self.new sight) }
     {
         match sight {
-            Sight::Present(node) => match self.give_value(&node) {
+            Sight::Present(node) => match self.give_node(gives, &node) {
                 Ok(value) => Ok(entry_of(&node, value)),
                 Err(rollback) => Err(rollback),
             },
-            Sight::Absent(pred) => match self.give_none(&pred) {
+            Sight::Absent(pred) => match self.give_none(gives, &pred) {
                 Ok(_) => Ok(None),
                 Err(rollback) => Err(rollback),
             },
@@ -92,23 +130,47 @@ pub fn get_entry(
             requires own { IsOf stepper.old.trace slots.now }
             requires empty_hand { stepper.old.hand ≡ None }
             requires values { slots.now.start.shape.values ≡ true }
-        { get_entry_by(slots, stepper, key, budget) },
+        { get_entry_by(slots, stepper, key, true, budget) },
     )
 }
 
-// As `get_entry`, where no step is counted; and how many steps were made.
+/// As [`crate::has`], at a set: gives the entry of a key, if the key is there, with the value 0. At the
+/// step that answers the call its node was in the set.
+///
+/// It makes the steps of a look-up, all of them loads. Its refusal and the budget that is enough are the
+/// same, 5n + 11 with n nodes in the key's bucket, and what is answered took at most 5n + 4 steps.
+pub fn has_entry(
+    slots: &Slots,
+    pass: &mut Pass,
+    key: u64,
+    budget: u32,
+) -> Result<Option<Entry>, Refusal>
+    requires own { IsOf pass.old.trace slots.now }
+    requires empty_hand { pass.old.hand ≡ None }
+    ensures { HasNamedEntry pass.old pass.new key budget result }
+{
+    pass.during(
+        |stepper|
+            requires own { IsOf stepper.old.trace slots.now }
+            requires empty_hand { stepper.old.hand ≡ None }
+        { get_entry_by(slots, stepper, key, false, budget) },
+    )
+}
+
+// The look-up of a key, or the get, which gives its entry; and how many steps were made.
 #[inline(always)]
 fn get_entry_by<N: Nodes>(
     slots: &Slots<N>,
     stepper: &mut Stepper,
     key: u64,
+    gives: bool,
     budget: u32,
 ) -> (Result<Option<Entry>, Refusal>, u32)
     requires own { IsOf stepper.old.trace slots.now }
     requires empty_hand { stepper.old.hand ≡ None }
-    requires values { slots.now.start.shape.values ≡ true }
+    requires asked { gives ≡ true → slots.now.start.shape.values ≡ true }
     ensures took { Took stepper.old.trace stepper.new.trace result.1 }
-    ensures finds { FindsNamedEntry stepper.old stepper.new key budget result.0 }
+    ensures finds { FindsNamedEntry gives stepper.old stepper.new key budget result.0 }
 {
     let mut call = begin!(slots, stepper, key, budget, 0);
     call.at.law();
@@ -119,26 +181,31 @@ fn get_entry_by<N: Nodes>(
         if !affords(call.budget, call.used) {
             return (Err(Refusal::OutOfSteps { used: call.used }), call.used);
         }
-        if let Ok(answer) = call.settle_entry(sight) {
+        if let Ok(answer) = call.settle_entry(gives, sight) {
             return (Ok(answer), call.used);
         }
     }
 }
 
-/// Whether the slot of an entry is known to be its own still, in one step, a load. Where it says so, the
-/// slot was its own until that step, and no pass had it in hand; else it may have been handed out anew.
+/// Whether the slot of an entry shows its birth still, in one step, a load. Where it does, the slot was the
+/// entry's own until that step, and no pass had it in hand; else it was handed out anew. A slot that isn't
+/// one of the shape shows none, and no step is made.
 #[inline]
 pub fn is_still<N: Nodes>(slots: &Slots<N>, pass: &mut Pass, entry: &Entry) -> bool
     requires own { IsOf pass.old.trace slots.now }
-    ensures reads { ReadsIn pass.old pass.new 1 }
-    ensures still { result ≡ true → IsStill pass.old pass.new entry.now }
+    ensures reads { ReadsIn pass.old pass.new (steps_to_ask pass.old.trace entry.now) }
+    ensures tells { TellsStill pass.old pass.new entry.now result }
 {
     pass.law();
-    let epoch = entry.epoch;
-    let point = pass.during(
+    let slot = entry.slot;
+    if slot >= slots.shape().slots() {
+        return false;
+    }
+    let shown = pass.during(
         |stepper|
             requires own { IsOf stepper.old.trace slots.now }
-        { (checkpoint(&mut AtTable { slots, stepper }), 1) },
+            requires slot { slot < slots.now.start.shape.slots }
+        { (birth_shown(&mut AtTable { slots, stepper }, slot), 1) },
     );
-    point.epoch == epoch
+    shown == entry.birth
 }

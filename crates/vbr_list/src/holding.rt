@@ -1,20 +1,23 @@
 //! Inserts by a slot that the pass has in hand already.
-ghost use Rattle.std.specs.Prelude.{◌≡◌, true, IfOk, IfErr, None};
+ghost use Rattle.std.specs.Prelude.{◌≡◌, false, true, IfOk, IfErr, None};
 ghost use Rattle.vbr_at_table.specs.GivingBack.{PutsBack};
 ghost use Rattle.vbr_at_table.specs.KeptSlots.{TakesNoSlot};
 ghost use Rattle.vbr_at_table.specs.Refusals.{RefusesTake};
 ghost use Rattle.vbr_at_table.specs.Taking.{Takes};
 ghost use Rattle.vbr_list.specs.Holding.{FoundWithValue, HoldsSlot, InsertsHeld, KeepsHeld, LinksHeld};
-ghost use Rattle.vbr_list.specs.Holding.{IsNodeOf, KeepsUnreplaced, ReplacesByHeld, ReplacesHeldEntry};
+ghost use Rattle.vbr_list.specs.Holding.{KeepsUnreplaced, LeavesInHand, ReplacesByHand, ReplacesFor};
+ghost use Rattle.vbr_list.specs.Holding.{KeepsUnput, PutsHeld, ReplacesHeldEntry, StoresByHand, StoresFor};
 ghost use Rattle.vbr_list.specs.Inserting.{CountsWithin, HasHandAndRoom};
 ghost use Rattle.vbr_list.specs.Pieces.{HasRoomForPiece, IsSameCall, pass_in, trace_in};
 ghost use Rattle.vbr_list.specs.Replacing.{HasUnused};
-ghost use Rattle.vbr_list.specs.Settling.{MaySettle, SettlesNone};
+ghost use Rattle.vbr_list.specs.Settling.{HasHandForValue, MaySettle};
+ghost use Rattle.vbr_list.specs.Telling.{KnowsThere};
+ghost use Rattle.vbr_list.specs.Traversing.{LocatesFor};
 ghost use Rattle.vbr_slots.specs.Calls.{Took};
 ghost use Rattle.vbr_slots.specs.Views.{IsOf};
 
 use crate::call::{PendingCall, begin};
-use crate::entries::Entry;
+use crate::entries::{Entry, is_node_of};
 use crate::found::Found;
 use crate::valuing::steps_to_update;
 use vbr_at_table::{Hand, Refusal, take, update};
@@ -72,33 +75,27 @@ pub enum NotReplaced {
     },
 }
 
-// Whether what was found is the node of this entry.
-#[inline(always)]
-fn is_node_of(found: &Found, entry: &Entry) -> bool
-    ensures { result ≡ true → IsNodeOf found.now entry.now }
-{
-    match &found.cur {
-        Some(cur) => { found.present && cur.at == At::Slot(entry.slot) && cur.birth == entry.birth }
-        None => false,
-    }
-}
-
 impl<N: Nodes> PendingCall<'_, N> {
     // Puts the slot in hand in the place of the node that was found, with this value, in eight steps at
-    // most, and takes the old node out of its list, as far as the budget has room. Else the hand comes back.
+    // most, and takes the old node out of its list, as far as the budget has room; gives the value that was
+    // there. Else the hand comes back.
     #[inline(always)]
-    fn replace_by_held(&mut self, found: &Found, value: u64, hand: Hand) -> Result<(), Hand>
+    fn replace_by_held(
+        &mut self,
+        found: &Found,
+        value: u64,
+        hand: Hand,
+    ) -> Result<Option<u64>, Hand>
         requires found { FoundWithValue self.old found.now }
         requires hand { HasHandAndRoom (pass_in self.old) hand }
         requires room { HasRoomForPiece self.old }
         ensures settles { MaySettle self.old self.new }
         ensures had { HasUnused (pass_in self.old) (pass_in self.new) result }
-        ensures replaced { IfOk result (λ _. ReplacesByHeld value self.old self.new hand) }
-        ensures back { IfErr result (SettlesNone 8 self.old self.new found.now) }
-        ensures same { IfErr result (λ back. back ≡ hand) }
+        ensures replaced { IfOk result (ReplacesByHand value self.old self.new hand found.now) }
+        ensures back { IfErr result (LeavesInHand self.old self.new found.now hand) }
     {
         self.at.law();
-        let Ok(_there) = self.read_found(found) else {
+        let Ok(there) = self.read_found(found) else {
             return Err(hand);
         };
         let marked = match self.replace_found(found, value, hand) {
@@ -106,7 +103,81 @@ impl<N: Nodes> PendingCall<'_, N> {
             Err(back) => return Err(back),
         };
         self.unlink_replaced(&found.pred, marked);
-        Ok(())
+        Ok(there)
+    }
+
+    // Links the slot in hand with this value where the key was found absent, in four steps. Else the hand
+    // comes back.
+    #[inline(always)]
+    fn link_by_held(&mut self, found: &Found, value: u64, hand: Hand) -> Result<(), Hand>
+        requires knows { KnowsThere self.old found.now None }
+        requires hand { HasHandAndRoom (pass_in self.old) hand }
+        requires room { HasRoomForPiece self.old }
+        ensures settles { MaySettle self.old self.new }
+        ensures had { HasUnused (pass_in self.old) (pass_in self.new) result }
+        ensures linked { IfOk result
+            (λ _. StoresByHand value self.old self.new hand found.now None) }
+        ensures back { IfErr result (LeavesInHand self.old self.new found.now hand) }
+    {
+        self.at.law();
+        self.used += 4;
+        match update(
+            &mut self.at,
+            &found.pred,
+            found.cur.as_ref(),
+            self.key,
+            value,
+            hand,
+        ) {
+            Ok(()) => Ok(()),
+            Err((back, _)) => Err(back),
+        }
+    }
+
+    // Puts the value by the slot in hand where this was found: by an insert, or in the place of the node;
+    // gives the value that was there. Else the hand comes back.
+    #[inline(always)]
+    fn put_found(&mut self, found: &Found, value: u64, hand: Hand) -> Result<Option<u64>, Hand>
+        requires found { LocatesFor self.old found.now }
+        requires has { HasHandForValue self.old hand }
+        requires room { HasRoomForPiece self.old }
+        ensures settles { MaySettle self.old self.new }
+        ensures had { HasUnused (pass_in self.old) (pass_in self.new) result }
+        ensures put { IfOk result (StoresByHand value self.old self.new hand found.now) }
+        ensures back { IfErr result (LeavesInHand self.old self.new found.now hand) }
+    {
+        if found.present {
+            return self.replace_by_held(found, value, hand);
+        }
+        match self.link_by_held(found, value, hand) {
+            Ok(()) => Ok(None),
+            Err(back) => Err(back),
+        }
+    }
+
+    // Gives the key the value by the slot in hand, whatever is there, and gives the value that was there;
+    // where the budget has no room for one more piece, the hand comes back, with the steps that were made.
+    #[inline(always)]
+    fn put_by_held(&mut self, value: u64, mut hand: Hand) -> Result<Option<u64>, (Hand, u32)>
+        requires values { (trace_in self.old).start.shape.values ≡ true }
+        requires hand { HasHandAndRoom (pass_in self.old) hand }
+        ensures call { IsSameCall self.old self.new }
+        ensures counts { CountsWithin (trace_in self.old) (trace_in self.new)
+            self.old.used self.new.used self.old.budget }
+        ensures takes_no_slot { TakesNoSlot (pass_in self.old) (pass_in self.new) }
+        ensures put { IfOk result (StoresFor value self.old self.new hand) }
+        ensures kept { IfErr result (KeepsUnput self.old self.new hand) }
+    {
+        self.at.law();
+        loop {
+            let Some(found) = self.reach() else {
+                return Err((hand, self.used));
+            };
+            match self.put_found(&found, value, hand) {
+                Ok(there) => return Ok(there),
+                Err(back) => hand = back,
+            }
+        }
     }
 
     // Puts the slot in hand in the place of this entry, and of no other; else, and where the budget has no
@@ -124,8 +195,8 @@ impl<N: Nodes> PendingCall<'_, N> {
         ensures counts { CountsWithin (trace_in self.old) (trace_in self.new)
             self.old.used self.new.used self.old.budget }
         ensures takes_no_slot { TakesNoSlot (pass_in self.old) (pass_in self.new) }
-        ensures replaced { IfOk result (λ _. ReplacesByHeld value self.old self.new hand) }
-        ensures kept { IfErr result (KeepsUnreplaced self.old self.new hand) }
+        ensures replaced { IfOk result (λ _. ReplacesFor value self.old self.new hand entry.now) }
+        ensures kept { IfErr result (KeepsUnreplaced self.old self.new hand entry.now) }
     {
         self.at.law();
         loop {
@@ -136,7 +207,7 @@ impl<N: Nodes> PendingCall<'_, N> {
                 return Err((hand, NotReplaced::Other));
             }
             match self.replace_by_held(&found, value, hand) {
-                Ok(()) => return Ok(()),
+                Ok(_) => return Ok(()),
                 Err(back) => hand = back,
             }
         }
@@ -183,8 +254,11 @@ impl<N: Nodes> PendingCall<'_, N> {
 
 /// Adds a key to the set by a slot that the pass has in hand, in at most `budget` steps: this very slot
 /// becomes the node of the key, with the birth that it has in hand. Where the key is there, the insert is
-/// answered no, and the slot stays in hand; so it does where the steps don't suffice. The call takes no
-/// slot, and searches as [`crate::insert`] does with one in hand.
+/// answered no, and the slot stays in hand; so it does where the steps don't suffice, and then no call was
+/// made. The call takes no slot, and searches as [`crate::insert`] does with one in hand.
+///
+/// While the other passes stand still, a budget of 9n + 11 is enough, with n nodes in the key's bucket, and
+/// what is answered took at most 9n + 6 steps, with a value one more.
 pub fn insert_held(
     slots: &Slots,
     pass: &mut Pass,
@@ -232,9 +306,14 @@ pub fn insert_entry_held(
 
 /// Puts the slot in hand in the place of an entry of the key, and of no other, with this value, in at most
 /// `budget` steps: in the history the key is removed with the value that it had, and inserted with this one,
-/// next to each other. The node that was replaced is then out of its list, unless less than a piece is left
-/// of the budget. Where another entry is there, or none, the slot stays in hand, and no call was made; so it
-/// is where the steps don't suffice.
+/// next to each other. The node that was replaced is the entry's, and is then out of its list, unless less
+/// than a piece is left of the budget. The call takes no slot.
+///
+/// [`NotReplaced::Other`] comes where at a moment of the call the key was absent, or its node was another
+/// than the entry's; [`NotReplaced::OutOfSteps`] where the steps don't suffice. Then the slot stays in hand,
+/// and no call was made. While the other passes stand still, a budget of 9n + 11 is enough, with n nodes in
+/// the key's bucket, and with eight more the old node has left its list; a replacement takes at most 9n + 17
+/// steps, and the answer that another is there 9n + 3.
 pub fn replace_held(
     slots: &Slots<Entries>,
     pass: &mut Pass,
@@ -246,7 +325,7 @@ pub fn replace_held(
 ) -> Result<(), (Hand, NotReplaced)>
     requires own { IsOf pass.old.trace slots.now }
     requires hand { HasHandAndRoom pass.old hand }
-    ensures { ReplacesHeldEntry pass.old pass.new key value budget hand result }
+    ensures { ReplacesHeldEntry pass.old pass.new key value budget hand entry.now result }
 {
     pass.law();
     slots.kind();
@@ -258,6 +337,59 @@ pub fn replace_held(
             requires hand { HasHandAndRoom stepper.old hand }
         { replace_held_by(slots, stepper, key, entry, value, hand, budget) },
     )
+}
+
+/// Gives a key a value by the slot in hand, whether the key is there or not, in at most `budget` steps, and
+/// gives the value that it had, or none where it was absent. This very slot becomes the node of the key, with
+/// the birth that it has in hand. Where the key was absent that is an insert in the history; else the key is
+/// removed with the value that it had, and inserted with this one, next to each other, and the node that was
+/// replaced is out of its list, unless less than a piece is left of the budget. The call takes no slot.
+///
+/// Its one refusal is want of steps: the hand comes back, with the number of steps that were made, and no
+/// call was made. The budgets that are enough and the costs are those of [`replace_held`].
+pub fn put_held(
+    slots: &Slots<Entries>,
+    pass: &mut Pass,
+    key: u64,
+    value: u64,
+    hand: Hand,
+    budget: u32,
+) -> Result<Option<u64>, (Hand, u32)>
+    requires own { IsOf pass.old.trace slots.now }
+    requires hand { HasHandAndRoom pass.old hand }
+    ensures { PutsHeld pass.old pass.new key value budget hand result }
+{
+    pass.law();
+    slots.kind();
+    pass.during_with(
+        hand,
+        |stepper, hand|
+            requires own { IsOf stepper.old.trace slots.now }
+            requires values { slots.now.start.shape.values ≡ true }
+            requires hand { HasHandAndRoom stepper.old hand }
+        { put_held_by(slots, stepper, key, value, hand, budget) },
+    )
+}
+
+// As `put_held`, where no step is counted; and how many steps were made.
+fn put_held_by<N: Nodes>(
+    slots: &Slots<N>,
+    stepper: &mut Stepper,
+    key: u64,
+    value: u64,
+    hand: Hand,
+    budget: u32,
+) -> (Result<Option<u64>, (Hand, u32)>, u32)
+    requires own { IsOf stepper.old.trace slots.now }
+    requires values { slots.now.start.shape.values ≡ true }
+    requires hand { HasHandAndRoom stepper.old hand }
+    ensures took { Took stepper.old.trace stepper.new.trace result.1 }
+    ensures puts { PutsHeld stepper.old stepper.new key value budget hand result.0 }
+{
+    let mut call = begin!(slots, stepper, key, budget, 0);
+    call.at.law();
+    let outcome = call.put_by_held(value, hand);
+    (outcome, call.used)
 }
 
 // As `replace_held`, where no step is counted; and how many steps were made.
@@ -274,7 +406,8 @@ fn replace_held_by<N: Nodes>(
     requires values { slots.now.start.shape.values ≡ true }
     requires hand { HasHandAndRoom stepper.old hand }
     ensures took { Took stepper.old.trace stepper.new.trace result.1 }
-    ensures replaces { ReplacesHeldEntry stepper.old stepper.new key value budget hand result.0 }
+    ensures replaces { ReplacesHeldEntry stepper.old stepper.new key value budget hand entry.now
+        result.0 }
 {
     let mut call = begin!(slots, stepper, key, budget, 0);
     call.at.law();

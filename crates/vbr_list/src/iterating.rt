@@ -4,12 +4,15 @@ ghost use Rattle.vbr_slots.specs.AtTables.{IsSameTable, pass_of, trace_of};
 ghost use Rattle.vbr_slots.specs.Calls.{Took};
 ghost use Rattle.vbr_slots.specs.Views.{IsOf};
 ghost use Rattle.vbr_list.specs.Cursors.{IteratesEntries, IteratesKeys, IteratesWhere};
+ghost use Rattle.vbr_list.specs.Cursors.{IteratesNamedEntries, IteratesNamedKeys};
+ghost use Rattle.vbr_list.specs.Seeking.{IteratesNodes};
 
 use crate::cursor::Cursor;
-use crate::seeking::seek_in;
+use crate::entries::Entry;
+use crate::seeking::{NextNode, seek_in};
 use vbr_at_table::Refusal;
 use vbr_slots::{AtTable, Pass, Slots};
-use vbr_words::{Entries, Nodes};
+use vbr_words::{Entries, Keys, Nodes};
 
 /// The next key at a cursor, in at most `budget` steps; none after the last one. The cursor is then right
 /// after that key, or before the next bucket where its node was the last of its list. Buckets come in their
@@ -74,14 +77,14 @@ pub fn next_where_at<N: Nodes>(
     let (next, now) = pass.during(
         |stepper|
             requires own { IsOf stepper.old.trace slots.now }
-        { iterate(&mut AtTable { slots, stepper }, from, budget) },
+        { iterate_where(&mut AtTable { slots, stepper }, from, budget) },
     );
     *cursor = now;
     next
 }
 
-// Goes from bucket to bucket until it finds a key; where the cursor is then; and how many steps were made.
-fn iterate<N: Nodes>(
+// As `next_where_at`, where no step is counted; where the cursor is then; and how many steps were made.
+fn iterate_where<N: Nodes>(
     at: &mut AtTable<'_, N>,
     cursor: Cursor,
     budget: u32,
@@ -89,6 +92,109 @@ fn iterate<N: Nodes>(
     ensures table { IsSameTable at.old at.new }
     ensures took { Took (trace_of at.old) (trace_of at.new) result.1 }
     ensures iterates { IteratesWhere (pass_of at.old) (pass_of at.new)
+        cursor result.0.1 budget result.0.0 }
+{
+    let ((next, now), used) = iterate(at, cursor, budget);
+    match next {
+        Ok(Some(node)) => ((Ok(Some((node.key, node.entry.value))), now), used),
+        Ok(None) => ((Ok(None), now), used),
+        Err(refusal) => ((Err(refusal), now), used),
+    }
+}
+
+/// As [`next_key_at`], at a set: the key with the entry that was there at a moment of the call, with the
+/// value 0. Its steps, its refusal and the budgets that are enough are the same.
+pub fn next_named_key_at(
+    slots: &Slots,
+    pass: &mut Pass,
+    cursor: &mut Cursor,
+    budget: u32,
+) -> Result<Option<(u64, Entry)>, Refusal>
+    requires own { IsOf pass.old.trace slots.now }
+    ensures { IteratesNamedKeys pass.old pass.new cursor.old cursor.new budget result }
+{
+    let from = *cursor;
+    let (next, now) = pass.during(
+        |stepper|
+            requires own { IsOf stepper.old.trace slots.now }
+        { iterate_named_keys(&mut AtTable { slots, stepper }, from, budget) },
+    );
+    *cursor = now;
+    next
+}
+
+// As `next_named_key_at`, where no step is counted; where the cursor is then; and how many steps were made.
+fn iterate_named_keys(
+    at: &mut AtTable<'_, Keys>,
+    cursor: Cursor,
+    budget: u32,
+) -> ((Result<Option<(u64, Entry)>, Refusal>, Cursor), u32)
+    ensures table { IsSameTable at.old at.new }
+    ensures took { Took (trace_of at.old) (trace_of at.new) result.1 }
+    ensures iterates { IteratesNamedKeys (pass_of at.old) (pass_of at.new)
+        cursor result.0.1 budget result.0.0 }
+{
+    let ((next, now), used) = iterate(at, cursor, budget);
+    match next {
+        Ok(Some(node)) => ((Ok(Some((node.key, node.entry.bare()))), now), used),
+        Ok(None) => ((Ok(None), now), used),
+        Err(refusal) => ((Err(refusal), now), used),
+    }
+}
+
+/// As [`next_entry_at`]: the key with the entry that was there at a moment of the call, and had this value
+/// then. Its steps, its refusal and the budgets that are enough are the same.
+pub fn next_named_entry_at(
+    slots: &Slots<Entries>,
+    pass: &mut Pass,
+    cursor: &mut Cursor,
+    budget: u32,
+) -> Result<Option<(u64, Entry)>, Refusal>
+    requires own { IsOf pass.old.trace slots.now }
+    ensures { IteratesNamedEntries pass.old pass.new cursor.old cursor.new budget result }
+{
+    slots.kind();
+    let from = *cursor;
+    let (next, now) = pass.during(
+        |stepper|
+            requires own { IsOf stepper.old.trace slots.now }
+        { iterate_named_entries(&mut AtTable { slots, stepper }, from, budget) },
+    );
+    *cursor = now;
+    next
+}
+
+// As `next_named_entry_at`, where no step is counted; where the cursor is then; and how many steps were made.
+fn iterate_named_entries(
+    at: &mut AtTable<'_, Entries>,
+    cursor: Cursor,
+    budget: u32,
+) -> ((Result<Option<(u64, Entry)>, Refusal>, Cursor), u32)
+    ensures table { IsSameTable at.old at.new }
+    ensures took { Took (trace_of at.old) (trace_of at.new) result.1 }
+    ensures iterates { IteratesNamedEntries (pass_of at.old) (pass_of at.new)
+        cursor result.0.1 budget result.0.0 }
+{
+    at.law();
+    at.slots.kind();
+    let ((next, now), used) = iterate(at, cursor, budget);
+    match next {
+        Ok(Some(node)) => ((Ok(Some((node.key, node.entry))), now), used),
+        Ok(None) => ((Ok(None), now), used),
+        Err(refusal) => ((Err(refusal), now), used),
+    }
+}
+
+// Goes from bucket to bucket until it finds a node; where the cursor is then; and how many steps were made.
+#[inline(always)]
+fn iterate<N: Nodes>(
+    at: &mut AtTable<'_, N>,
+    cursor: Cursor,
+    budget: u32,
+) -> ((Result<Option<NextNode>, Refusal>, Cursor), u32)
+    ensures table { IsSameTable at.old at.new }
+    ensures took { Took (trace_of at.old) (trace_of at.new) result.1 }
+    ensures iterates { IteratesNodes (pass_of at.old) (pass_of at.new)
         cursor result.0.1 budget result.0.0 }
 {
     at.law();
@@ -101,7 +207,7 @@ fn iterate<N: Nodes>(
         match found {
             None => return ((Err(Refusal::OutOfSteps { used }), now), used),
             Some(Some(node)) => {
-                return ((Ok(Some((node.key, node.value))), now.past(node)), used);
+                return ((Ok(Some(node)), now.past(node)), used);
             }
             Some(None) => now = now.next_bucket(),
         }

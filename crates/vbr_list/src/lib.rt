@@ -81,17 +81,19 @@ mod visiting;
 pub mod wanted;
 
 pub use cursor::Cursor;
-pub use entries::{Entry, get_entry, is_still};
+pub use entries::{Entry, get_entry, has_entry, is_still};
 pub use finding::find;
 pub use found::Found;
 pub use holding::{
-    NotReplaced, StillInHand, hold, insert_entry_held, insert_held, let_go, replace_held,
+    NotReplaced, StillInHand, hold, insert_entry_held, insert_held, let_go, put_held, replace_held,
 };
 pub use inserting::{insert, insert_entry};
-pub use iterating::{next_entry_at, next_key_at, next_where_at};
+pub use iterating::{
+    next_entry_at, next_key_at, next_named_entry_at, next_named_key_at, next_where_at,
+};
 pub use looking_up::{get, has};
-pub use next::{next_entry, next_key};
-pub use removing::{remove, remove_entry, remove_if};
+pub use next::{next_entry, next_key, next_named_entry, next_named_key};
+pub use removing::{remove, remove_entry, remove_exactly, remove_if};
 pub use storing::{compare_exchange, get_or_insert, put, replace, store};
 pub use vbr_at_table::Refusal;
 pub use wanted::Wanted;

@@ -52,7 +52,7 @@ impl<N: Nodes> PendingCall<'_, N> {
         ensures settles { Settles self.old self.new }
         ensures few { self.new.used ≤ self.old.used + 3 }
         ensures only_loads { OnlyLoads (trace_in self.old) (trace_in self.new) }
-        ensures answers { IfOk result (GivesValueOf self.old self.new node.now) }
+        ensures answers { IfOk result (GivesValueOf true self.old self.new node.now) }
         ensures rolls { IfErr result (LookUpRollsBack self.old self.new (Present node.now)) }
     {
         let read = value_if_any(&mut self.at, node);
@@ -66,19 +66,58 @@ impl<N: Nodes> PendingCall<'_, N> {
         }
     }
 
-    // Answers a get with no, in one step, if the link of the last place before the key still stands.
+    // Answers a look-up with the node of the key, in one step, if its link still stands; it gives 0.
     #[inline(always)]
-    pub(crate) fn give_none(&mut self, pred: &Held) -> Result<Option<u64>, Rollback>
-        requires sight { IsSightFor self.old (Absent pred.now) }
-        requires values { (trace_in self.old).start.shape.values ≡ true }
+    fn show_node(&mut self, node: &Held) -> Result<Option<u64>, Rollback>
+        requires sight { IsSightFor self.old (Present node.now) }
         requires room { HasRoomForPiece self.old }
         ensures settles { Settles self.old self.new }
-        ensures few { self.new.used ≤ self.old.used + 3 }
+        ensures few { self.new.used ≡ self.old.used + 1 }
         ensures only_loads { OnlyLoads (trace_in self.old) (trace_in self.new) }
-        ensures answers { IfOk result (GivesNone self.old self.new) }
+        ensures answers { IfOk result (GivesValueOf false self.old self.new node.now) }
+        ensures rolls { IfErr result (LookUpRollsBack self.old self.new (Present node.now)) }
+    {
+        let outcome = confirm_present(&mut self.at, Op::Has, node);
+        self.used += 1;
+        match outcome {
+            Ok(()) => Ok(Some(0)),
+            Err(rollback) => Err(rollback),
+        }
+    }
+
+    // Answers a look-up, or a get, with the node of the key.
+    #[inline(always)]
+    pub(crate) fn give_node(&mut self, gives: bool, node: &Held) -> Result<Option<u64>, Rollback>
+        requires sight { IsSightFor self.old (Present node.now) }
+        requires asked { IsAskedOf self.old gives }
+        requires room { HasRoomForPiece self.old }
+        ensures settles { Settles self.old self.new }
+        ensures few { self.new.used ≤ self.old.used + steps_to_answer gives }
+        ensures only_loads { OnlyLoads (trace_in self.old) (trace_in self.new) }
+        ensures answers { IfOk result (GivesValueOf gives self.old self.new node.now) }
+        ensures rolls { IfErr result (LookUpRollsBack self.old self.new (Present node.now)) }
+    {
+        if gives {
+            self.give_value(node)
+        } else {
+            self.show_node(node)
+        }
+    }
+
+    // Answers a look-up, or a get, with no, in one step, if the link of the last place before the key still
+    // stands.
+    #[inline(always)]
+    pub(crate) fn give_none(&mut self, gives: bool, pred: &Held) -> Result<Option<u64>, Rollback>
+        requires sight { IsSightFor self.old (Absent pred.now) }
+        requires asked { IsAskedOf self.old gives }
+        requires room { HasRoomForPiece self.old }
+        ensures settles { Settles self.old self.new }
+        ensures few { self.new.used ≡ self.old.used + 1 }
+        ensures only_loads { OnlyLoads (trace_in self.old) (trace_in self.new) }
+        ensures answers { IfOk result (GivesNone gives self.old self.new) }
         ensures rolls { IfErr result (LookUpRollsBack self.old self.new (Absent pred.now)) }
     {
-        let outcome = confirm_absent(&mut self.at, Op::Get, self.key, pred);
+        let outcome = confirm_absent(&mut self.at, look_up_op(gives), self.key, pred);
         self.used += 1;
         match outcome {
             Ok(()) => Ok(None),
@@ -103,9 +142,17 @@ impl<N: Nodes> PendingCall<'_, N> {
         }
         match sight {
             Sight::Present(node) => self.give_value(&node),
-            Sight::Absent(pred) => self.give_none(&pred),
+            Sight::Absent(pred) => self.give_none(true, &pred),
         }
     }
+}
+
+// The look-up that gives the value, or doesn't.
+#[inline(always)]
+fn look_up_op(gives: bool) -> Op
+    ensures { result ≡ look_up_op gives }
+{
+    if gives { Op::Get } else { Op::Has }
 }
 
 // Yes without a value, or no.

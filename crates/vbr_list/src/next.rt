@@ -3,13 +3,14 @@ ghost use Rattle.std.specs.Prelude.{◌≡◌, ◌+◌, ◌<◌, true};
 ghost use Rattle.vbr_slots.specs.AtTables.{IsSameTable, pass_of, trace_of};
 ghost use Rattle.vbr_slots.specs.Calls.{Took};
 ghost use Rattle.vbr_slots.specs.Views.{IsOf};
-ghost use Rattle.vbr_list.specs.Next.{Seeks, SeeksEntry, SeeksKey};
-ghost use Rattle.vbr_list.specs.Seeking.{TellsWhere};
+ghost use Rattle.vbr_list.specs.Next.{Seeks, SeeksEntry, SeeksKey, SeeksNamedEntry, SeeksNamedKey};
+ghost use Rattle.vbr_list.specs.Seeking.{TellsNode};
 
-use crate::seeking::seek_in;
+use crate::entries::Entry;
+use crate::seeking::{NextNode, seek_in};
 use vbr_at_table::Refusal;
 use vbr_slots::{AtTable, Pass, Slots};
-use vbr_words::{Entries, Nodes};
+use vbr_words::{Entries, Keys, Nodes};
 
 /// The least key of a bucket that is no less than a number, in at most `budget` steps. It was there at a
 /// moment of the call, and each key of the bucket between the two was absent at a moment of the call;
@@ -56,7 +57,7 @@ fn seek_key<N: Nodes>(
 {
     let (next, used) = seek_by(at, bucket, from, budget);
     match next {
-        Ok(Some((key, _))) => (Ok(Some(key)), used),
+        Ok(Some(node)) => (Ok(Some(node.key)), used),
         Ok(None) => (Ok(None), used),
         Err(refusal) => (Err(refusal), used),
     }
@@ -97,28 +98,116 @@ fn seek_entry(
 {
     at.law();
     at.slots.kind();
-    seek_by(at, bucket, from, budget)
+    let (next, used) = seek_by(at, bucket, from, budget);
+    match next {
+        Ok(Some(node)) => (Ok(Some((node.key, node.entry.value))), used),
+        Ok(None) => (Ok(None), used),
+        Err(refusal) => (Err(refusal), used),
+    }
 }
 
-// The next key of a bucket, with its value where nodes have values; and how many steps were made.
+/// As [`next_key`], at a set: the key with the entry that was there at a moment of the call, with the
+/// value 0. It makes the steps of [`next_key`], and its refusal and the budgets that are enough are the same.
+pub fn next_named_key(
+    slots: &Slots,
+    pass: &mut Pass,
+    bucket: u32,
+    from: u64,
+    budget: u32,
+) -> Result<Option<(u64, Entry)>, Refusal>
+    requires own { IsOf pass.old.trace slots.now }
+    requires bucket { bucket < slots.now.start.shape.buckets }
+    ensures { SeeksNamedKey pass.old pass.new bucket from budget result }
+{
+    pass.during(
+        |stepper|
+            requires own { IsOf stepper.old.trace slots.now }
+            requires bucket { bucket < slots.now.start.shape.buckets }
+        { seek_named_key(&mut AtTable { slots, stepper }, bucket, from, budget) },
+    )
+}
+
+// As `next_named_key`, where no step is counted; and how many steps were made.
+fn seek_named_key(
+    at: &mut AtTable<'_, Keys>,
+    bucket: u32,
+    from: u64,
+    budget: u32,
+) -> (Result<Option<(u64, Entry)>, Refusal>, u32)
+    requires bucket { bucket < at.old.slots.now.start.shape.buckets }
+    ensures table { IsSameTable at.old at.new }
+    ensures took { Took (trace_of at.old) (trace_of at.new) result.1 }
+    ensures seeks { SeeksNamedKey (pass_of at.old) (pass_of at.new) bucket from budget result.0 }
+{
+    let (next, used) = seek_by(at, bucket, from, budget);
+    match next {
+        Ok(Some(node)) => (Ok(Some((node.key, node.entry.bare()))), used),
+        Ok(None) => (Ok(None), used),
+        Err(refusal) => (Err(refusal), used),
+    }
+}
+
+/// As [`next_entry`]: the key with the entry that was there at a moment of the call, and had this value
+/// then. It makes the steps of [`next_entry`], and its refusal and the budgets that are enough are the same.
+pub fn next_named_entry(
+    slots: &Slots<Entries>,
+    pass: &mut Pass,
+    bucket: u32,
+    from: u64,
+    budget: u32,
+) -> Result<Option<(u64, Entry)>, Refusal>
+    requires own { IsOf pass.old.trace slots.now }
+    requires bucket { bucket < slots.now.start.shape.buckets }
+    ensures { SeeksNamedEntry pass.old pass.new bucket from budget result }
+{
+    pass.during(
+        |stepper|
+            requires own { IsOf stepper.old.trace slots.now }
+            requires bucket { bucket < slots.now.start.shape.buckets }
+        { seek_named_entry(&mut AtTable { slots, stepper }, bucket, from, budget) },
+    )
+}
+
+// As `next_named_entry`, where no step is counted; and how many steps were made.
+fn seek_named_entry(
+    at: &mut AtTable<'_, Entries>,
+    bucket: u32,
+    from: u64,
+    budget: u32,
+) -> (Result<Option<(u64, Entry)>, Refusal>, u32)
+    requires bucket { bucket < at.old.slots.now.start.shape.buckets }
+    ensures table { IsSameTable at.old at.new }
+    ensures took { Took (trace_of at.old) (trace_of at.new) result.1 }
+    ensures seeks { SeeksNamedEntry (pass_of at.old) (pass_of at.new) bucket from budget result.0 }
+{
+    at.law();
+    at.slots.kind();
+    let (next, used) = seek_by(at, bucket, from, budget);
+    match next {
+        Ok(Some(node)) => (Ok(Some((node.key, node.entry))), used),
+        Ok(None) => (Ok(None), used),
+        Err(refusal) => (Err(refusal), used),
+    }
+}
+
+// The node with the next key of a bucket; and how many steps were made.
 #[inline(always)]
 fn seek_by<N: Nodes>(
     at: &mut AtTable<'_, N>,
     bucket: u32,
     from: u64,
     budget: u32,
-) -> (Result<Option<(u64, u64)>, Refusal>, u32)
+) -> (Result<Option<NextNode>, Refusal>, u32)
     requires bucket { bucket < at.old.slots.now.start.shape.buckets }
     ensures table { IsSameTable at.old at.new }
     ensures took { Took (trace_of at.old) (trace_of at.new) result.1 }
-    ensures seeks { Seeks (TellsWhere (trace_of at.old) (trace_of at.new) bucket from)
+    ensures seeks { Seeks (TellsNode (trace_of at.old) (trace_of at.new) bucket from)
         (pass_of at.old) (pass_of at.new) bucket budget result.0 }
 {
     at.law();
     let (found, used) = seek_in(at, bucket, from, budget, 0);
     match found {
-        Some(Some(node)) => (Ok(Some((node.key, node.value))), used),
-        Some(None) => (Ok(None), used),
+        Some(next) => (Ok(next), used),
         None => (Err(Refusal::OutOfSteps { used }), used),
     }
 }

@@ -12,6 +12,7 @@ ghost use Rattle.vbr_slots.specs.Views.{PassView};
 ghost use Rattle.vbr_at_table.specs.Hands.{HandView, IsHandOf};
 ghost use Rattle.vbr_at_table.specs.KeptSlots.{TakesNoSlot};
 ghost use Rattle.vbr_at_table.specs.Records.{PublishesSlot};
+ghost use Rattle.vbr_list.specs.Holding.{PublishedSlot};
 
 /// A law: a slot that a pass has in hand between two of its calls is in its hand alone, whatever others
 /// do meanwhile; and no entry that there ever was in the slot has the birth that it shows.
@@ -29,6 +30,11 @@ pub fn a_slot_is_held_until_published()
         (slot : PublishesSlot p.trace q.trace hand.slot hand.birth key) →
         PassLaw p → PassLaw q → IsSame p.trace q.trace → IsHandOf p hand → TakesNoSlot p q →
         Begins p.trace.seen moment → Begins moment slot.moment →
+        IsInHand ((know_after p.trace.start moment p.trace.who).own hand.slot) }
+    ensures placed { (p q : PassView) (hand : HandView) (key : ℕ) (moment : List Event)
+        (slot : PublishedSlot p.trace q.trace hand.slot hand.birth key) →
+        PassLaw p → PassLaw q → IsSame p.trace q.trace → IsHandOf p hand → TakesNoSlot p q →
+        Begins p.trace.seen moment → Begins moment slot.published.moment →
         IsInHand ((know_after p.trace.start moment p.trace.who).own hand.slot) }
     ensures kept { (p q : PassView) (hand : HandView) (moment : List Event) →
         PassLaw p → PassLaw q → IsSame p.trace q.trace → IsHandOf p hand → IsHandOf q hand →

@@ -1,5 +1,5 @@
 //! Removes.
-ghost use Rattle.std.specs.Prelude.{◌≡◌, ◌+◌, ◌≤◌, true, Some, None, IfOk, IfErr, is_some};
+ghost use Rattle.std.specs.Prelude.{◌≡◌, ◌+◌, ◌≤◌, true, false, Some, None, IfOk, IfErr, is_some};
 ghost use Rattle.vbr_machine.specs.declared.history.Op.TheVariants.{Remove};
 ghost use Rattle.vbr_slots.specs.AtTables.{IsSameTable, pass_of, trace_of};
 ghost use Rattle.vbr_slots.specs.Calls.{Took};
@@ -10,17 +10,19 @@ ghost use Rattle.vbr_list.specs.CallBounds.{Calls, CallsAs, CallsRemove};
 ghost use Rattle.vbr_list.specs.Leaving.{BoundsOfRemove, Sweeps, WasClear};
 ghost use Rattle.vbr_list.specs.Pieces.{Goes, GoesOn, HasRoomForPiece, Settles, trace_in};
 ghost use Rattle.vbr_list.specs.Removing.{Clears, IsMarkedFor, MayExpect, RemoveAnswers, RemoveRollsBack, UnlinksOrSearches};
+ghost use Rattle.vbr_list.specs.RemovingExactly.{RemovesExactly};
 ghost use Rattle.vbr_list.specs.Traversing.{LocatesFor};
 ghost use Rattle.vbr_list.specs.Walking.{WalksAgain};
 
 use crate::call::{PendingCall, begin};
+use crate::entries::{Entry, is_node_of};
 use crate::found::Found;
 use crate::helping::unlink_and_retire;
 use crate::valuing::{is_yes, steps_to_value_of, value_if_any};
 use vbr_at_table::budget::affords;
 use vbr_at_table::{Held, Marked, Refusal, Rollback, mark};
 use vbr_slots::{AtTable, Pass, Slots, Stepper};
-use vbr_words::{Entries, Nodes};
+use vbr_words::{At, Entries, Nodes};
 
 // Walks to the key as `find` does, with what is left of a budget, and so helps to unlink each marked
 // node that it meets: when it has come to the key, no marked node of the key was in a list at a moment,
@@ -97,6 +99,7 @@ impl<N: Nodes> PendingCall<'_, N> {
         requires present { found.now.present ≡ true }
         requires room { HasRoomForPiece self.old }
         ensures settles { Settles self.old self.new }
+        ensures some { IfOk result (λ answer. is_some answer ≡ true) }
         ensures answers { IfOk result (RemoveAnswers expected self.old self.new found.now) }
         ensures rolls { IfErr result (RemoveRollsBack self.old self.new found.now) }
     {
@@ -233,6 +236,63 @@ pub fn remove_if(
             requires values { slots.now.start.shape.values ≡ true }
         { remove_by(slots, stepper, key, Some(expected), budget) },
     )
+}
+
+/// As [`remove_entry`], but takes the key out only where its node is this entry's, by its slot and its
+/// birth, and gives the value that was there. Else it makes no call and gives none: at a moment of it the
+/// key was absent, or its node was another. The entry's epoch and value aren't looked at.
+///
+/// Its refusal, the budget that is enough and the steps of an answer are those of [`remove_entry`].
+pub fn remove_exactly(
+    slots: &Slots<Entries>,
+    pass: &mut Pass,
+    key: u64,
+    entry: &Entry,
+    budget: u32,
+) -> Result<Option<u64>, Refusal>
+    requires own { IsOf pass.old.trace slots.now }
+    requires empty_hand { pass.old.hand ≡ None }
+    ensures { RemovesExactly pass.old pass.new key entry.now budget result }
+{
+    pass.law();
+    slots.kind();
+    pass.during(
+        |stepper|
+            requires own { IsOf stepper.old.trace slots.now }
+            requires empty_hand { stepper.old.hand ≡ None }
+            requires values { slots.now.start.shape.values ≡ true }
+        { remove_exactly_by(slots, stepper, key, entry, budget) },
+    )
+}
+
+// As `remove_exactly`, where no step is counted; and how many steps were made.
+#[inline(always)]
+fn remove_exactly_by<N: Nodes>(
+    slots: &Slots<N>,
+    stepper: &mut Stepper,
+    key: u64,
+    entry: &Entry,
+    budget: u32,
+) -> (Result<Option<u64>, Refusal>, u32)
+    requires own { IsOf stepper.old.trace slots.now }
+    requires empty_hand { stepper.old.hand ≡ None }
+    requires values { slots.now.start.shape.values ≡ true }
+    ensures took { Took stepper.old.trace stepper.new.trace result.1 }
+    ensures removes { RemovesExactly stepper.old stepper.new key entry.now budget result.0 }
+{
+    let mut call = begin!(slots, stepper, key, budget, 0);
+    call.at.law();
+    loop {
+        let Some(found) = call.reach() else {
+            return (Err(Refusal::OutOfSteps { used: call.used }), call.used);
+        };
+        if !is_node_of(&found, entry) {
+            return (Ok(None), call.used);
+        }
+        if let Ok(answer) = call.mark_and_unlink(&found, None) {
+            return (Ok(answer), call.used);
+        }
+    }
 }
 
 // The remove of a key, of any value or of the one that is expected, with its value where nodes have

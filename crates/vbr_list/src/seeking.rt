@@ -5,6 +5,7 @@ ghost use Rattle.vbr_slots.specs.AtTables.{IsSameTable, pass_of, trace_of};
 ghost use Rattle.vbr_list.specs.Pieces.{Peeks};
 ghost use Rattle.vbr_list.specs.Seeking.{SeekStops, Sought, WalksToNext};
 
+use crate::entries::{Entry, named};
 use crate::looking::held_of;
 use crate::traversal::Stop;
 use crate::valuing::{steps_to_value_of, value_if_any};
@@ -18,8 +19,8 @@ use vbr_words::{Nodes, decode};
 pub(crate) struct NextNode {
     /// Its key.
     pub(crate) key: u64,
-    /// Its value, 0 where nodes have none.
-    pub(crate) value: u64,
+    /// Its entry, with the value 0 where nodes have none.
+    pub(crate) entry: Entry,
     /// Whether it was the last of its list: its link names none.
     pub(crate) is_last: bool,
 }
@@ -66,10 +67,11 @@ fn walk<N: Nodes>(
                 let Ok(value) = read else {
                     return Err(Stop::Again);
                 };
+                let entry = named(&node, value);
                 let is_last = decode(node.word).slot.is_none();
                 return Ok(Some(NextNode {
                     key,
-                    value,
+                    entry,
                     is_last,
                 }));
             }

@@ -110,4 +110,5 @@ pub use Rattle.vbr_machine.proofs.progress.Retirements.{removes-append}
 -- that a slot in hand is in one hand alone, throughout.
 pub use Rattle.vbr_machine.proofs.records.Entries.{entry_shown, same_birth_same_entry, same_epoch_same_entry}
 pub use Rattle.vbr_machine.proofs.records.Hands.{in_hand_alone, in_hand_new, in_hand_throughout}
+pub use Rattle.vbr_machine.proofs.records.KeptHands.{in_hand_since_its_birth}
 pub use Rattle.vbr_machine.proofs.records.Published.{published_entry, replacing_entry}

@@ -11,7 +11,7 @@ use Rattle.vbr_machine.specs.Knowledge.{Know, knows_link, birth_in, key_in, valu
 use Rattle.vbr_machine.specs.declared.history.Op.{Op}
 use Rattle.vbr_machine.specs.declared.history.Op.TheVariants.{Insert, Remove, Get}
 use Rattle.vbr_machine.specs.declared.event.Step.{Step}
-use Rattle.vbr_machine.specs.declared.event.Step.TheVariants.{ReadEpoch, Advance, LoadStamp, StoreStamp, Raise, TakeFlag, StoreBirth, StoreKey, StoreValue, StoreLink, LoadLink, LoadBirth, LoadKey, LoadValue, Publish, Mark, Replace, Unlink, ConfirmPresent, ConfirmAbsent}
+use Rattle.vbr_machine.specs.declared.event.Step.TheVariants.{ReadEpoch, Advance, LoadStamp, PeekBirth, StoreStamp, Raise, TakeFlag, StoreBirth, StoreKey, StoreValue, StoreLink, LoadLink, LoadBirth, LoadKey, LoadValue, Publish, Mark, Replace, Unlink, ConfirmPresent, ConfirmAbsent}
 use Rattle.vbr_machine.specs.declared.knowledge.Read.{Read}
 use Rattle.vbr_machine.specs.declared.knowledge.Unpublished.{Unpublished}
 use Rattle.vbr_machine.specs.declared.knowledge.Holding.{Holding}
@@ -39,6 +39,7 @@ abbrev pub IsInShape : Start → Step → Type 0
 IsInShape start ReadEpoch = Unit {0}
 IsInShape start (Advance from) = Unit {0}
 IsInShape start (LoadStamp s) = s < start.shape.slots
+IsInShape start (PeekBirth s) = s < start.shape.slots
 IsInShape start (StoreStamp s stamp) = s < start.shape.slots
 IsInShape start (Raise s) = s < start.shape.slots
 IsInShape start (TakeFlag s) = s < start.shape.slots

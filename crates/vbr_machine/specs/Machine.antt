@@ -17,7 +17,7 @@ use Rattle.vbr_machine.specs.Opened.{key_count, key_number, value_number, openin
 use Rattle.vbr_machine.specs.Learning.{succeeds, link_written, key_written, learn, call_ahead, call_of}
 use Rattle.vbr_machine.specs.declared.history.Call.{Call}
 use Rattle.vbr_machine.specs.declared.event.Step.{Step}
-use Rattle.vbr_machine.specs.declared.event.Step.TheVariants.{ReadEpoch, Advance, LoadStamp, StoreStamp, Raise, TakeFlag, StoreBirth, StoreKey, StoreValue, StoreLink, LoadLink, LoadBirth, LoadKey, LoadValue, Publish, Mark, Replace, Unlink, ConfirmPresent, ConfirmAbsent}
+use Rattle.vbr_machine.specs.declared.event.Step.TheVariants.{ReadEpoch, Advance, LoadStamp, PeekBirth, StoreStamp, Raise, TakeFlag, StoreBirth, StoreKey, StoreValue, StoreLink, LoadLink, LoadBirth, LoadKey, LoadValue, Publish, Mark, Replace, Unlink, ConfirmPresent, ConfirmAbsent}
 use Rattle.vbr_machine.specs.declared.knowledge.SlotPlace.{SlotPlace}
 use Rattle.vbr_machine.specs.declared.knowledge.SlotPlace.TheVariants.{Shared, Own, Hand, Listed}
 
@@ -95,6 +95,7 @@ abbrev pub place_of_step : Step → Place
 place_of_step ReadEpoch = place.Epoch
 place_of_step (Advance from) = place.Epoch
 place_of_step (LoadStamp s) = place.Stamp s
+place_of_step (PeekBirth s) = place.Birth s
 place_of_step (StoreStamp s stamp) = place.Stamp s
 place_of_step (Raise s) = place.Flags (word_of_flag s)
 place_of_step (TakeFlag s) = place.Flags (word_of_flag s)
@@ -194,6 +195,7 @@ written start p _ link key w = w
 abbrev pub learned : Start → World → ℕ → Step → World
 learned start w p (Advance from) = w
 learned start w p (LoadStamp s) = w
+learned start w p (PeekBirth s) = w
 learned start w p (ConfirmPresent op s expected) = w
 learned start w p (ConfirmAbsent op key place expected) = w
 learned start w p step = with_learning start w p step

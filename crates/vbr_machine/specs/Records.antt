@@ -9,7 +9,7 @@ use Rattle.vbr_machine.specs.Runs.{know_after, world_after}
 use Rattle.vbr_machine.specs.Sound.{IsInserted}
 use Rattle.vbr_machine.specs.declared.event.Event.{Event}
 use Rattle.vbr_machine.specs.declared.event.Step.{Step}
-use Rattle.vbr_machine.specs.declared.event.Step.TheVariants.{TakeFlag}
+use Rattle.vbr_machine.specs.declared.event.Step.TheVariants.{StoreBirth, TakeFlag}
 use Rattle.vbr_machine.specs.declared.knowledge.SlotPlace.TheVariants.{Hand}
 
 -- ---- entries
@@ -51,6 +51,16 @@ IsTry _ = ⊥
 abbrev pub NoneTries : ℕ → List Event → Type 0
 NoneTries pass [] = Unit {0}
 NoneTries pass (event ∷ events) = (event.pass ≡ pass → ¬ (IsTry event.step)) × NoneTries pass events
+
+-- a step that gives birth in this slot
+abbrev pub IsBirthIn : ℕ → Step → Type 0
+IsBirthIn s (StoreBirth t birth) = t ≡ s
+IsBirthIn s _ = ⊥
+
+-- by these events the pass gives birth to none there
+abbrev pub NoneBears : ℕ → ℕ → List Event → Type 0
+NoneBears pass s [] = Unit {0}
+NoneBears pass s (event ∷ events) = (event.pass ≡ pass → ¬ (IsBirthIn s event.step)) × NoneBears pass s events
 
 -- ---- a program beside the machine
 

@@ -27,6 +27,10 @@ pub enum Step {
     LoadStamp {
         slot: u32,
     },
+    /// Loads the birth of a slot, whoever has it, and teaches nothing.
+    PeekBirth {
+        slot: u32,
+    },
     /// Stamps a slot that the pass unlinked, with an epoch that it read since: the slot is retired.
     StoreStamp {
         slot: u32,

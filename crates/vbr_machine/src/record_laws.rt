@@ -13,7 +13,7 @@ ghost use Rattle.vbr_machine.specs.Moments.{WasShown};
 ghost use Rattle.vbr_machine.specs.Incarnations.{Incarnations, Linked};
 ghost use Rattle.vbr_machine.specs.Accounts.{incarnations_after};
 ghost use Rattle.vbr_machine.specs.Knowledge.{Know};
-ghost use Rattle.vbr_machine.specs.Records.{Act, IsEntry, IsInHandAlone, IsInNoHand, IsLastInserted, NoneTries, OnlyWrites, WritesInHand, events_of, records_after};
+ghost use Rattle.vbr_machine.specs.Records.{Act, IsEntry, IsInHandAlone, IsInNoHand, IsLastInserted, NoneBears, NoneTries, OnlyWrites, WritesInHand, events_of, records_after};
 ghost use Rattle.vbr_machine.specs.Runs.{Begins, IsRun, know_after, world_after};
 ghost use Rattle.vbr_machine.specs.declared.event.Event.{Event};
 ghost use Rattle.vbr_machine.specs.declared.event.Step.TheVariants.{Publish, Replace};
@@ -81,6 +81,13 @@ pub fn in_hand_throughout()
         IsInHand ((know_after start (first ++ more) pass).own s) }
 {}
 
+/// A law: a slot that a pass has in hand it had in hand at each moment since it last gave birth there.
+pub fn in_hand_since_its_birth()
+    ensures { (start : Start) (run more : List Event) (pass s : ℕ) →
+        IsInHand ((know_after start (run ++ more) pass).own s) → NoneBears pass s more →
+        IsInHand ((know_after start run pass).own s) }
+{}
+
 /// A law: let a program write records, one for each slot, and each pass that of a slot only while it
 /// has the slot in hand. Then each word of the record of a slot is what it was when an incarnation had
 /// been inserted there, as long as the birth of that one stands there at some later moment.
@@ -95,15 +102,21 @@ pub fn a_confirmed_record_is_the_entrys()
 {}
 
 /// A law: in the same program, between two moments at which a pass has a slot in hand, with one birth,
-/// it alone writes the record of the slot, if it tries to take no slot out of the shared pool meanwhile.
+/// it alone writes the record of the slot, if it tries to take no slot out of the shared pool meanwhile;
+/// and so it does before a moment at which it has the slot in hand, since it last gave birth there.
 pub fn a_record_in_hand_is_private()
-    ensures { (start : Start) (passes : ℕ) (before : List Event) (acts : List (Act ℕ))
+    ensures between { (start : Start) (passes : ℕ) (before : List Event) (acts : List (Act ℕ))
         (pass s : ℕ) (known later : Unpublished) →
         IsStart start → IsRun start passes (before ++ events_of acts) →
         WritesInHand start before acts →
         (know_after start before pass).own s ≡ Some (InHand known) →
         (know_after start (before ++ events_of acts) pass).own s ≡ Some (InHand later) →
         later.birth ≡ known.birth → NoneTries pass (events_of acts) → OnlyWrites pass s acts }
+    ensures since { (start : Start) (passes : ℕ) (before : List Event) (acts : List (Act ℕ))
+        (pass s : ℕ) → IsStart start → IsRun start passes (before ++ events_of acts) →
+        WritesInHand start before acts →
+        IsInHand ((know_after start (before ++ events_of acts) pass).own s) →
+        NoneBears pass s (events_of acts) → OnlyWrites pass s acts }
 {}
 
 /// A law: where a pass publishes a slot that it has in hand, or puts it in the place of another node,

@@ -53,6 +53,6 @@ pub record Stand {N : Type 0} (kind : Kind) (set : TableView) (budget : ℕ) (sc
 
 -- a pass of a set has become a worker: it has no replies, and room for those to its own lines
 pub record IsNewWorker {N : Type 0} (set : TableView) (script : List Line) (pass : PassView) (worker : Worker N) : Type 0 where
-  pub caller_is : worker.caller ≡ record { set = set; pass = pass }
+  pub caller_is : worker.caller ≡ as_member set pass
   pub none : worker.replies.items ≡ []
   pub room : length (lines_by pass.trace.who script) ≤ vec_capacity worker.replies

@@ -223,7 +223,7 @@ need_met : (p q : PassView) (epoch : ℕ) → AdvancedInNeed p.trace → Did Rea
     KeepsPool p q → AdvancedInNeed q.trace
 need_met p q epoch need did pool =
     let came = come_by_calls.met p q epoch did pool in
-    stays_in_need p q came.sees.same came.sees.begins (inl (did_none did refl pool).count) need
+    stays_in_need p q came.sees.same came.sees.begins (inl (did_none did refl tt pool).count) need
 
 -- who caught up made no step
 advances_grow : (p q : Trace) → SeesMore p q → advances p ≤ advances q

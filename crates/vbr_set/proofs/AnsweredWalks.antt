@@ -14,7 +14,7 @@ use Rattle.vbr_list.specs.declared.cursor.Cursor.{Cursor}
 use Rattle.vbr_list.proofs.Lemmas.{disturbed_most_in, enough_among_more, enough_to_come_more, few_to_value}
 use Rattle.vbr_at_table.specs.declared.refusal.Refusal.{Refusal}
 use Rattle.vbr_set.specs.Iterating.{StandsShort}
-use Rattle.vbr_set.specs.Members.{MemberView}
+use Rattle.vbr_set.specs.Members.{MemberView, caller}
 use Rattle.vbr_set.specs.Progressing.{AnotherIsAnswered, Proceeds, SeesRun, most_unanswered}
 use Rattle.vbr_set.specs.Progressing.{updates_in}
 use Rattle.vbr_set.specs.Stretches.{most_disturbed_by}
@@ -198,7 +198,8 @@ module _ (p q : PassView) (law : SeesRun p.trace) (goes : Proceeds p.trace q.tra
 
 -- going over all keys at once
 gone_over : (m n : MemberView) (budget : ℕ) (refusal : Refusal) → SeesRun m.pass.trace →
-    Proceeds m.pass.trace n.pass.trace → Quiet m.pass.trace n.pass.trace → StandsShort m n budget refusal →
+    Proceeds m.pass.trace n.pass.trace → Quiet m.pass.trace n.pass.trace →
+    StandsShort (caller m) (caller n) budget refusal →
     ((bucket : ℕ) → bucket < m.pass.trace.start.shape.buckets → enough_unanswered m.pass.trace bucket ≤ budget) →
     AnotherIsAnswered m.pass.trace n.pass.trace
 gone_over m n budget refusal law goes quiet x enough =

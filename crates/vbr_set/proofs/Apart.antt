@@ -8,8 +8,8 @@ use Rattle.vbr_slots.specs.Closing.{AllOf}
 use Rattle.vbr_slots.specs.Views.{IsOf, PassView, TableView}
 use Rattle.vbr_set.specs.AllMembers.{AreOfOneSet, AreOfSet, AreTooFew, ReportsAllBy}
 use Rattle.vbr_set.specs.Apart.{AreParts, members_of}
-use Rattle.vbr_set.specs.Members.{MemberView, as_member}
-use Rattle.vbr_set.specs.Sharing.{IsStake, set_shared}
+use Rattle.vbr_set.specs.Members.{MemberView}
+use Rattle.vbr_set.specs.Sharing.{IsStake, member_with, set_shared}
 use Rattle.vbr_set.specs.declared.member.stake.Stake.{Stake}
 
 module _ {N : Type 0} where
@@ -23,17 +23,17 @@ module _ {N : Type 0} where
   pub members_more : (stakes : List (Stake N)) (passes : List PassView) (stake : Stake N) (pass : PassView) →
       AreParts stakes passes →
       members_of (stakes ++ stake ∷ []) (passes ++ pass ∷ [])
-      ≡ members_of stakes passes ++ as_member (set_shared stake.share) pass ∷ []
+      ≡ members_of stakes passes ++ member_with stake pass ∷ []
   members_more [] [] stake pass parts = refl
   members_more [] (q ∷ qs) stake pass parts = absurd parts
   members_more (s ∷ ss) [] stake pass parts = absurd parts
   members_more (s ∷ ss) (q ∷ qs) stake pass parts =
-      ap (λ (ms : List MemberView). as_member (set_shared s.share) q ∷ ms) (members_more ss qs stake pass parts.1)
+      ap (λ (ms : List MemberView). member_with s q ∷ ms) (members_more ss qs stake pass parts.1)
 
   -- one more member is taken apart
   pub taken : (stakes stakes' : List (Stake N)) (passes passes' : List PassView) (stake : Stake N) (pass : PassView)
       (all rest members : List MemberView) (member : MemberView) → stakes' ≡ stakes ++ stake ∷ [] →
-      passes' ≡ passes ++ pass ∷ [] → all ≡ member ∷ rest → as_member (set_shared stake.share) pass ≡ member
+      passes' ≡ passes ++ pass ∷ [] → all ≡ member ∷ rest → member_with stake pass ≡ member
       → AreParts stakes passes → IsStake stake pass → members_of stakes passes ++ all ≡ members →
       AreParts stakes' passes' × (members_of stakes' passes' ++ rest ≡ members)
   taken stakes stakes' passes passes' stake pass all rest members member one other first is parts part so_far = (
@@ -41,7 +41,7 @@ module _ {N : Type 0} where
         (parts_more stakes passes stake pass parts part),
     (λ i. members_of (one i) (other i) ++ rest)
         ∙ ap (λ (ms : List MemberView). ms ++ rest) (members_more stakes passes stake pass parts)
-        ∙ append_assoc (members_of stakes passes) (as_member (set_shared stake.share) pass ∷ []) rest
+        ∙ append_assoc (members_of stakes passes) (member_with stake pass ∷ []) rest
         ∙ ap (λ (m : MemberView). members_of stakes passes ++ m ∷ rest) is
         ∙ ap (λ (ms : List MemberView). members_of stakes passes ++ ms) (sym first)
         ∙ so_far,

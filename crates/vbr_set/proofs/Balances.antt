@@ -96,6 +96,12 @@ module _ {A : Type 0} {told : A → List Call} {BoundsSo : Result A Refusal → 
         same : balance +ℤ changed told answer ≡ balance
         same = let zero_is = nothing answer in omega (arith, ints, zero_is)
 
+    -- an answer that does nothing to it
+    pub kept_where : changed told answer ≡ pos 0 → balance ≡ balance_of (as_member shared q)
+    kept_where none =
+        let same : balance +ℤ changed told answer ≡ balance = omega (arith, ints, none) in
+        sym (after ∙ ap (int_wrap w64) same ∙ int_wrap_fits w64 balance fits)
+
     -- a call that adds one where its answer passes a test
     pub added : {more : ℤ} (test : A → Bool) → more ≡ one_where test answer →
         one_where test answer ≡ changed told answer →

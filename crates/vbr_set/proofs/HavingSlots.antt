@@ -50,7 +50,7 @@ all_called op m n all call = all_kept m.pass n.pass (call_kept op m n call) all
 
 pub all_met : (p q : PassView) (epoch : ℕ) → HasAllSlots p → Did ReadEpoch p.trace q.trace epoch → KeepsPool p q →
     HasAllSlots q
-all_met p q epoch all did pool = all_kept p q (did_none did refl pool).kept all
+all_met p q epoch all did pool = all_kept p q (did_none did refl tt pool).kept all
 
 pub all_caught : (set : TableView) (p q : PassView) (token : SeenView) → HasAllSlots p → CatchesUp set p token q →
     HasAllSlots q

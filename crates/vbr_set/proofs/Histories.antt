@@ -89,7 +89,7 @@ follows_one {call} {p} {q} made =
     }
 
 -- calls that were made, and stand so, stand in one legal history
-answers_all : {calls : List Call} {p q : Trace} → IsStart p.start → IsSame p q → Begins p.seen q.seen →
+pub answers_all : {calls : List Call} {p q : Trace} → IsStart p.start → IsSame p q → Begins p.seen q.seen →
     IsRun q.start q.passes q.seen → made_by q ≡ made_by p ++ calls →
     Follows (calls_of p.start p.seen) calls (calls_of q.start q.seen) → AnswersAll calls p q
 answers_all {calls} {p} {q} is same begins run made together =

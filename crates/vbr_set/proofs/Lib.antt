@@ -1,5 +1,6 @@
 mod Histories
 mod MapHistories
+mod EntryCalls
 mod Staying
 mod CatchingUp
 mod ShownNodes
@@ -7,6 +8,7 @@ mod Walks
 mod Gathering
 mod LinkedKeys
 mod LinkedEntries
+mod EntrySlots
 mod Closings
 mod Mailboxes
 mod Seats
@@ -40,3 +42,10 @@ mod MembersCalls
 mod BatchCalls
 mod InTurn
 pub mod Lemmas
+mod BatchesAside
+mod MembersAside
+mod HeldCalls
+mod HeldMembers
+mod HeldStores
+mod HeldSlots
+mod HeldRoom

@@ -71,7 +71,7 @@ module _ (start : Start) (calls : List Call) where
   abbrev map_left : Entries
   map_left = map_after (opening_entries start) calls
 
-  map_is : (q : ℕ) →
+  pub map_is : (q : ℕ) →
       map_left q ≡ entry_of (set_after (opening_keys start) calls q) (values_after (opening_payloads start) calls q)
   map_is q = map_at (opening_entries start) (opening_keys start) (opening_payloads start) calls q refl
 
@@ -133,7 +133,7 @@ nothing_else true entry value e = refl
 nothing_else false entry value e = sym e
 
 -- sorted by key, their keys ascend
-rises : (sorted : List (ℕ × ℕ)) → IsNonDecreasingBy (λ (entry : ℕ × ℕ). entry.0) sorted →
+pub rises : (sorted : List (ℕ × ℕ)) → IsNonDecreasingBy (λ (entry : ℕ × ℕ). entry.0) sorted →
     IsNonDecreasing (keys_listed sorted)
 rises sorted up i j d le low =
     let same = length-map sorted (λ (entry : ℕ × ℕ). entry.0) in

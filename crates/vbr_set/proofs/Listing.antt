@@ -29,7 +29,7 @@ use Rattle.vbr_list.proofs.Lemmas.{enough_later, entry_more, entry_since, given_
 use Rattle.vbr_list.proofs.Lemmas.{undisturbed_in}
 use Rattle.vbr_set.specs.Iterating.{AreItemsOf, CallsNextWhere, GoesOnSafe, GoesOver, HasGathered, HasGoneOverEntries}
 use Rattle.vbr_set.specs.Iterating.{HasGoneOverWhere, StandsShort}
-use Rattle.vbr_set.specs.Members.{MemberView, as_member}
+use Rattle.vbr_set.specs.Members.{CallerView, as_caller}
 
 -- ---- entries and steps
 
@@ -74,7 +74,7 @@ call_more budget calls = let e : budget * suc calls ≡ budget * calls + budget 
 
 -- the entries that the calls so far have given, what these calls did, and how many they were: one for each entry,
 -- and those that were refused, each of which came to a later bucket of the table
-pub record Lists (m n : MemberView) (c : Cursor) (budget : ℕ) (entries : List (ℕ × ℕ)) : Type 0 where
+pub record Lists (m n : CallerView) (c : Cursor) (budget : ℕ) (entries : List (ℕ × ℕ)) : Type 0 where
   pub goes : GoesOnSafe m n
   pub quiet : Quiet m.pass.trace n.pass.trace
   pub only_loads : OnlyLoads m.pass.trace n.pass.trace
@@ -88,7 +88,7 @@ pub record Lists (m n : MemberView) (c : Cursor) (budget : ℕ) (entries : List 
   pub in_table : refused ≤ m.pass.trace.start.shape.buckets
 
 pub lists_none : (set : TableView) (p : PassView) (budget : ℕ) → PassLaw p → p.hand ≡ None →
-    Lists (as_member set p) (as_member set p) first_cursor budget []
+    Lists (as_caller set p) (as_caller set p) first_cursor budget []
 lists_none set p budget law hand = record {
   goes = record {
     set = refl;
@@ -108,16 +108,16 @@ lists_none set p budget law hand = record {
   in_table = omega arith;
 }
 
-goes_on_safe : {m n o : MemberView} → GoesOnSafe m n → GoesOnSafe n o → GoesOnSafe m o
+goes_on_safe : {m n o : CallerView} → GoesOnSafe m n → GoesOnSafe n o → GoesOnSafe m o
 goes_on_safe x y = record { set = y.set ∙ x.set; hand = y.hand; safe = y.safe; sees = sees_on x.sees y.sees }
 
 -- a call tells the same by another name of its answer
-pub answered_as : {m n : MemberView} {c d : Cursor} {budget : ℕ} {answer again : Result (Option (ℕ × ℕ)) Refusal} →
+pub answered_as : {m n : CallerView} {c d : Cursor} {budget : ℕ} {answer again : Result (Option (ℕ × ℕ)) Refusal} →
     answer ≡ again → CallsNextWhere m n c d budget answer → CallsNextWhere m n c d budget again
 answered_as {m} {n} {c} {d} {budget} is called =
     subst (λ (answer : Result (Option (ℕ × ℕ)) Refusal). CallsNextWhere m n c d budget answer) is called
 
-module _ {m n : MemberView} (o : MemberView) {c d : Cursor} {entries : List (ℕ × ℕ)} (budget : ℕ)
+module _ {m n : CallerView} (o : CallerView) {c d : Cursor} {entries : List (ℕ × ℕ)} (budget : ℕ)
     (x : Lists m n c budget entries) where
   -- with one more call
   lists_further : {more : List (ℕ × ℕ)} {refused : ℕ} {answer : Result (Option (ℕ × ℕ)) Refusal} →
@@ -275,13 +275,13 @@ module _ {m n : MemberView} (o : MemberView) {c d : Cursor} {entries : List (ℕ
 -- ---- what is made of them
 
 -- what is gathered of the entries so far
-pub record GathersAs {A : Type 0} (of : List (ℕ × ℕ) → A → Type 0) (m n : MemberView) (c : Cursor) (budget : ℕ)
+pub record GathersAs {A : Type 0} (of : List (ℕ × ℕ) → A → Type 0) (m n : CallerView) (c : Cursor) (budget : ℕ)
     (gathered : A) : Type 0 where
   pub entries : List (ℕ × ℕ)
   pub lists : Lists m n c budget entries
   pub are : of entries gathered
 
-module _ {A : Type 0} {of : List (ℕ × ℕ) → A → Type 0} {m n : MemberView} (o : MemberView) {c d : Cursor} (budget : ℕ)
+module _ {A : Type 0} {of : List (ℕ × ℕ) → A → Type 0} {m n : CallerView} (o : CallerView) {c d : Cursor} (budget : ℕ)
     {gathered : A} (x : GathersAs of m n c budget gathered) where
   pub gathered_on : (key value : ℕ) {more : A} → CallsNextWhere n o c d budget (Ok (Some (key, value))) →
       of (x.entries ++ (key, value) ∷ []) more → GathersAs of m o d budget more
@@ -317,14 +317,14 @@ ok_as (Ok told) f x = f told x
 ok_as (Err error) f x = tt
 
 -- what is listed is entries, where nodes have values
-entries_listed : {m n : MemberView} {budget : ℕ} {items : List (ℕ × ℕ)} → m.pass.trace.start.shape.values ≡ true →
+entries_listed : {m n : CallerView} {budget : ℕ} {items : List (ℕ × ℕ)} → m.pass.trace.start.shape.values ≡ true →
     HasGathered (λ entries. AreItemsOf (λ key value. (key, value)) entries items) m n budget →
     HasGoneOverEntries m n budget items
 entries_listed {m} {n} {budget} {items} values x =
     let P : List (ℕ × ℕ) → Type 0 = HasGoneOverEntries m n budget in
     subst P (sym (x.are ∙ map-id x.entries)) (record { keys = x.over.keys; values = x.over.values values })
 
-pub lists_entries : {A E : Type 0} {Stops : E → Type 0} (items : A → List (ℕ × ℕ)) (m n : MemberView) (budget : ℕ)
+pub lists_entries : {A E : Type 0} {Stops : E → Type 0} (items : A → List (ℕ × ℕ)) (m n : CallerView) (budget : ℕ)
     (answer : Result A E) → m.pass.trace.start.shape.values ≡ true →
     GoesOver (λ told. HasGathered (λ entries. AreItemsOf (λ key value. (key, value)) entries (items told)) m n budget)
     Stops m n answer → GoesOver (λ told. HasGoneOverEntries m n budget (items told)) Stops m n answer

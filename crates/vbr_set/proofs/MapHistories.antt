@@ -23,7 +23,7 @@ RunsAreMaps = (start : Start) (passes : ℕ) (run : List Event) → IsStart star
     IsMapLegal (opening_entries start) (world_after start run).calls
 
 -- what answers leave at a map
-map_answers : RunsAreMaps → (calls : List Call) (p q : PassView) → PassLaw p → AnswersAll calls p.trace q.trace →
+pub map_answers : RunsAreMaps → (calls : List Call) (p q : PassView) → PassLaw p → AnswersAll calls p.trace q.trace →
     MapAnswersAll calls p.trace q.trace
 map_answers maps calls p q law a = record {
   answers = a;
@@ -44,7 +44,7 @@ called_entry maps {told = told} set p q budget answer before after e =
     (λ reply made. map_answers maps (one told reply) p q before (answers before.start made)) c.made)
 
 -- one call, or two next to each other
-all_answers : (calls : List Call) {p q : Trace} → IsStart p.start → Makes calls p q → AnswersAll calls p q
+pub all_answers : (calls : List Call) {p q : Trace} → IsStart p.start → Makes calls p q → AnswersAll calls p q
 all_answers [] is made = absurd made
 all_answers (first ∷ []) is made = answers is made
 all_answers (first ∷ second ∷ []) is made = answers_two is made

@@ -33,7 +33,8 @@ use Rattle.vbr_machine.specs.Runs.{AreAccepted, IsRun, world_after, world_from}
 use Rattle.vbr_machine.specs.Whereabouts.{may_bear, sum_of}
 use Rattle.vbr_machine.specs.declared.event.Event.{Event}
 use Rattle.vbr_machine.specs.declared.event.Step.{Step}
-use Rattle.vbr_machine.specs.declared.event.Step.TheVariants.{ReadEpoch, Advance, LoadStamp, StoreStamp, Raise}
+use Rattle.vbr_machine.specs.declared.event.Step.TheVariants.{ReadEpoch, Advance, LoadStamp, PeekBirth, StoreStamp}
+use Rattle.vbr_machine.specs.declared.event.Step.TheVariants.{Raise}
 use Rattle.vbr_machine.specs.declared.event.Step.TheVariants.{TakeFlag, StoreBirth, StoreKey, StoreLink, LoadLink}
 use Rattle.vbr_machine.specs.declared.event.Step.TheVariants.{LoadBirth, LoadKey, Publish, Mark, Replace, Unlink}
 use Rattle.vbr_machine.specs.declared.event.Step.TheVariants.{ConfirmPresent, ConfirmAbsent, StoreValue, LoadValue}
@@ -442,6 +443,7 @@ module _ (start : Start) (w : World) (a : Incarnations) (notes : ℕ → Notes) 
       (λ won. unlinked_unowned start w a notes p pred expected s g ok (stands_at pred expected s won)) (λ k. refl)
   step_leaves (Advance from) ok = no_fewer start w p (Advance from) (w.know p) refl (omega arith)
   step_leaves (LoadStamp s) ok = no_fewer start w p (LoadStamp s) (w.know p) refl (omega arith)
+  step_leaves (PeekBirth s) ok = no_fewer start w p (PeekBirth s) (w.know p) refl (omega arith)
   step_leaves (LoadLink place) ok =
       load_leaves start w p (LoadLink place) (LinkAt place (link_of (found start w (LoadLink place)))) refl
   step_leaves (LoadBirth s) ok =

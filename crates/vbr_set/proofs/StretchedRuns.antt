@@ -300,7 +300,10 @@ come_by_calls =
       called = came_called;
       went_over = λ p q sees none. record { sees = sees; advances = none_else p q none.count };
       met = λ p q epoch did pool.
-          record { sees = sees_met p.trace q.trace epoch did; advances = none_else p q (did_none did refl pool).count };
+          record {
+            sees = sees_met p.trace q.trace epoch did;
+            advances = none_else p q (did_none did refl tt pool).count;
+          };
       caught = came_caught;
       gave = λ p q shared law g.
           record {

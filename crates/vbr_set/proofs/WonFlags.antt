@@ -267,7 +267,10 @@ win_in_need =
           record { sees = (come_by_calls.called op m n law call).sees; few = lacking_called op m n call };
       went_over = λ p q sees none. record { sees = sees; few = never p q none.wins };
       met = λ p q epoch did pool.
-          record { sees = (come_by_calls.met p q epoch did pool).sees; few = never p q (did_none did refl pool).wins };
+          record {
+            sees = (come_by_calls.met p q epoch did pool).sees;
+            few = never p q (did_none did refl tt pool).wins;
+          };
       caught = λ set p q token c.
           record {
             sees = (come_by_calls.caught set p q token c).sees;

@@ -1,8 +1,8 @@
 -- Members that were taken apart. Only contracts of private functions cite this.
 use Rattle.std.specs.Prelude.{List, [], ◌∷◌}
 use Rattle.vbr_slots.specs.Views.{PassView}
-use Rattle.vbr_set.specs.Members.{MemberView, as_member}
-use Rattle.vbr_set.specs.Sharing.{IsStake, set_shared}
+use Rattle.vbr_set.specs.Members.{MemberView}
+use Rattle.vbr_set.specs.Sharing.{IsStake, member_with}
 use Rattle.vbr_set.specs.declared.member.stake.Stake.{Stake}
 
 -- there is a pass for each stake, at its place
@@ -13,5 +13,5 @@ AreParts _ _ = ⊥
 
 -- the members that stakes and passes make, each of those at one place
 abbrev pub members_of : {N : Type 0} → List (Stake N) → List PassView → List MemberView
-members_of (stake ∷ stakes) (pass ∷ passes) = as_member (set_shared stake.share) pass ∷ members_of stakes passes
+members_of (stake ∷ stakes) (pass ∷ passes) = member_with stake pass ∷ members_of stakes passes
 members_of _ _ = []

@@ -24,6 +24,11 @@ module _ {Item R : Type 0} (kind : KindOf Item R) where
   abbrev pub ReportsBy : Start → List Event → R → Type 0
   ReportsBy start run report = TellsRun (kind.lists start (calls_of start run)) start run (kind.contents report)
 
+  -- the calls of a run are a legal history of what was opened, and the report tells of it
+  pub record ReportsLegally (start : Start) (run : List Event) (report : R) : Type 0 where
+    pub legal : kind.legal start (calls_of start run)
+    pub reports : ReportsBy start run report
+
   -- the report tells the end of a run that begins with what each pass has seen, and has no other event of it, so of each pass just the calls that it has made; the calls are a legal history of what was opened, perhaps none, and the run is safe
   pub record ClosesBy (t : TableView) (passes : List PassView) (report : R) : Type 0 where
     pub run : List Event

@@ -2,8 +2,9 @@
 use Rattle.std.specs.Prelude.{◌≡◌, ℕ, ◌<◌, List, length, slice_index_or, Option, None, Some, Result, Ok, Err, IfOk, IfErr, IfSome}
 use Rattle.vbr_slots.specs.Views.{PassView, TableView}
 use Rattle.vbr_at_table.specs.GivingSlotsBack.{GivesSlotsBack}
+use Rattle.vbr_set.specs.LettingGo.{LetsGo}
 use Rattle.vbr_set.specs.Closing.{Closes, MapCloses}
-use Rattle.vbr_set.specs.Members.{MemberView}
+use Rattle.vbr_set.specs.Members.{MemberView, as_member}
 use Rattle.vbr_set.specs.Sharing.{ArePassesOf}
 use Rattle.vbr_set.specs.declared.end_error.EndError.{EndError}
 use Rattle.vbr_set.specs.declared.end_error.EndError.TheVariants.{Lost, Memory}
@@ -37,19 +38,21 @@ abbrev pub EndsMapWith : TableView → PassView → MapReport → Type 0
 EndsMapWith = EndsBy MapCloses
 
 -- where there is no memory, the member comes back as it was
-abbrev pub IsBack : TableView → PassView → EndError MemberView → Type 0
-IsBack set pass Lost = Unit {0}
-IsBack set pass (Memory member) = member ≡ record { set = set; pass = pass }
+abbrev pub IsBack : MemberView → EndError MemberView → Type 0
+IsBack m Lost = Unit {0}
+IsBack m (Memory member) = member ≡ m
 
 module _ {R : Type 0} (tells : TableView → List PassView → R → Type 0) where
-  -- the pass of the member gave its slots back, and then the member was closed
+  -- the member let go of the slot that it had put aside, if there was one; its pass gave its slots back, and then the member was closed
   -- A report tells the end of its set with the pass as it was in between. Where there is no memory, the member comes back with that pass.
   pub record ClosesMember (m : MemberView) (answer : Result (Option R) (EndError MemberView)) : Type 0 where
+    pub first : PassView
+    pub lets_go : LetsGo m.aside m.pass first
     pub between : PassView
     pub count : ℕ
-    pub gives : GivesSlotsBack m.pass between count
+    pub gives : GivesSlotsBack first between count
     pub report : IfOk answer (λ told. IfSome told (EndsBy tells m.set between))
-    pub stays : IfErr answer (IsBack m.set between)
+    pub stays : IfErr answer (IsBack (as_member m.set between))
 
 -- there is no memory, and no pass is lost
 abbrev pub EndLacksMemory : {M : Type 0} → EndError M → Type 0

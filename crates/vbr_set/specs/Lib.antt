@@ -6,6 +6,7 @@ pub mod Contents
 pub mod Kinds
 pub mod KindLaws
 pub mod Closing
+pub mod EntrySlots
 pub mod Balances
 pub mod Renewing
 pub mod MapCalls
@@ -20,6 +21,7 @@ pub mod Sharing
 pub mod MemberView
 pub mod SetRefView
 pub mod Seats
+pub mod LettingGo
 pub mod Ends
 pub mod Room
 pub mod Laws
@@ -32,7 +34,11 @@ pub mod WalkProgress
 pub mod AllMembers
 pub mod BalanceSums
 pub mod RenewingAll
+pub mod RenewingWithSlots
 pub mod RenewalRoom
 pub mod Apart
 pub mod Names
 pub mod RecordCalls
+pub mod HeldRoom
+pub mod RemovingExactly
+pub mod HeldStores

@@ -1,5 +1,5 @@
 -- What errors print.
-use Rattle.std.specs.Prelude.{ℕ, List, codes}
+use Rattle.std.specs.Prelude.{ℕ, List, ◌++◌, codes, decimal}
 use Rattle.vbr_at_table.specs.Messages.{refusal_text}
 use Rattle.vbr_set.specs.declared.close_all_error.CloseAllError.{CloseAllError}
 use Rattle.vbr_set.specs.declared.close_all_error.CloseAllError.TheVariants as closing_all
@@ -7,6 +7,10 @@ use Rattle.vbr_set.specs.declared.end_error.EndError.{EndError}
 use Rattle.vbr_set.specs.declared.end_error.EndError.TheVariants as ending
 use Rattle.vbr_set.specs.declared.list_error.ListError.{ListError}
 use Rattle.vbr_set.specs.declared.list_error.ListError.TheVariants as listing
+use Rattle.vbr_set.specs.declared.record_refusals.HeldRefusal.{HeldRefusal}
+use Rattle.vbr_set.specs.declared.record_refusals.HeldRefusal.TheVariants as held
+use Rattle.vbr_set.specs.declared.record_refusals.HoldRefusal.{HoldRefusal}
+use Rattle.vbr_set.specs.declared.record_refusals.HoldRefusal.TheVariants as holding
 use Rattle.vbr_set.specs.declared.renew_all_error.RenewAllError.{RenewAllError}
 use Rattle.vbr_set.specs.declared.renew_all_error.RenewAllError.TheVariants as renewing_all
 use Rattle.vbr_set.specs.declared.renew_error.RenewError.{RenewError}
@@ -38,3 +42,14 @@ abbrev pub renew_all_error_text : {M : Type 0} → RenewAllError M → List ℕ
 renew_all_error_text (renewing_all.Missing members) = codes "there are not as many members as were opened"
 renew_all_error_text (renewing_all.Room members) = codes "there are more keys than slots"
 renew_all_error_text (renewing_all.Memory members) = codes "there is no memory for the fresh set"
+
+-- what is printed where a member holds no slot
+abbrev pub hold_refusal_text : HoldRefusal → List ℕ
+hold_refusal_text holding.Held = codes "the member holds a slot already"
+hold_refusal_text (holding.Refused refusal) = refusal_text refusal
+
+-- what is printed where a member gave no answer by the slot that it holds
+abbrev pub held_refusal_text : HeldRefusal → List ℕ
+held_refusal_text held.NotHeld = codes "the member holds no slot"
+held_refusal_text held.Full = codes "the pool of the member is full"
+held_refusal_text (held.OutOfSteps used) = codes "the budget has no room after " ++ decimal used ++ codes " steps"

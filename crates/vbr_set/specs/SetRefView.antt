@@ -1,12 +1,12 @@
 -- What contracts see of a pass with a reference to its set, and the invariant of the two.
 use Rattle.std.specs.Prelude.{◌≡◌, None}
 use Rattle.vbr_slots.specs.Views.{IsOf}
-use Rattle.vbr_set.specs.Members.{MemberView}
+use Rattle.vbr_set.specs.Members.{MemberView, as_member}
 use Rattle.vbr_set.specs.declared.set_ref.VbrSetRef.TheInside.{Inside}
 
 -- what contracts see
 abbrev pub set_ref_view : {N : Type 0} → Inside N → MemberView
-set_ref_view r = record { set = r.set.now; pass = r.pass }
+set_ref_view r = as_member r.set.now r.pass
 
 -- its pass is of the set, and has no slot in hand
 pub record IsSetRef {N : Type 0} (r : Inside N) : Type 0 where

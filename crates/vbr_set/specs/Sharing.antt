@@ -5,9 +5,10 @@ use Rattle.atomic_table.specs.Seated.{TableId}
 use Rattle.atomic_table.specs.Table.{Me}
 use Rattle.std.specs.Prelude.{Option}
 use Rattle.vbr_slots.specs.Views.{PassView, TableView, IsOf}
+use Rattle.vbr_at_table.specs.Aside.{HasAside}
 use Rattle.vbr_set.specs.Balances.{balance_of}
 use Rattle.vbr_set.specs.Mailboxes.{SeatKnows}
-use Rattle.vbr_set.specs.Members.{as_member}
+use Rattle.vbr_set.specs.Members.{MemberView, as_member}
 use Rattle.vbr_set.specs.declared.member.mailbox.Mailbox.{Mailbox}
 use Rattle.vbr_set.specs.declared.member.share.Share.{Share}
 use Rattle.vbr_set.specs.declared.member.share.Share.TheVariants.{Among, Alone, Gathered}
@@ -55,7 +56,12 @@ module _ {N : Type 0} where
     pub empty_hand : pass.hand ≡ None
     pub comes_back : CanComeBack share pass.trace.who
 
-  -- so it is of what a member has beside the pass, and its balance is that of the member
+  -- so it is of what a member has beside the pass; its balance is that of the member, and the slot that is put aside is the pass's
   pub record IsStake (stake : Stake N) (pass : PassView) : Type 0 where
     pub part : IsPart stake.share pass
     pub counted : stake.balance ≡ balance_of (as_member (set_shared stake.share) pass)
+    pub put_aside : HasAside pass stake.aside
+
+  -- the member that has it beside a pass
+  abbrev pub member_with : Stake N → PassView → MemberView
+  member_with stake pass = record { set = set_shared stake.share; pass = pass; aside = stake.aside }

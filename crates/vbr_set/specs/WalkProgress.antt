@@ -11,7 +11,7 @@ use Rattle.vbr_list.specs.declared.cursor.Cursor.{Cursor}
 use Rattle.vbr_at_table.specs.declared.refusal.Refusal.{Refusal}
 use Rattle.vbr_set.specs.Callers.{CallsOn, CallsOrRests, CallsThrough, MakesFew, SomebodyIsAnswered}
 use Rattle.vbr_set.specs.Iterating.{CallsNext, CallsNextEntry, StandsShort}
-use Rattle.vbr_set.specs.Members.{MemberView}
+use Rattle.vbr_set.specs.Members.{MemberView, caller}
 use Rattle.vbr_set.specs.Progressing.{AnotherIsAnswered, Proceeds, SeesRun, most_unanswered}
 use Rattle.vbr_set.specs.Stretches.{Stretch, most_disturbed_by}
 
@@ -64,7 +64,7 @@ pub record WalksShowAnswers : Type 0 where
       → enough_to_come_among p.trace (λ bucket. most_unanswered p.trace) c.bucket d.bucket ≤ budget → AnotherIsAnswered p.trace q.trace
   pub to_end : (p q : PassView) (c d : Cursor) (budget : ℕ) (refusal : Refusal) → SeesRun p.trace → Proceeds p.trace q.trace → IteratesKeys p q c d budget (Err refusal)
       → enough_unanswered_over p.trace c.bucket (p.trace.start.shape.buckets - c.bucket) ≤ budget → AnotherIsAnswered p.trace q.trace
-  pub all : (m n : MemberView) (budget : ℕ) (refusal : Refusal) → SeesRun m.pass.trace → Proceeds m.pass.trace n.pass.trace → Quiet m.pass.trace n.pass.trace → StandsShort m n budget refusal
+  pub all : (m n : MemberView) (budget : ℕ) (refusal : Refusal) → SeesRun m.pass.trace → Proceeds m.pass.trace n.pass.trace → Quiet m.pass.trace n.pass.trace → StandsShort (caller m) (caller n) budget refusal
       → ((bucket : ℕ) → bucket < m.pass.trace.start.shape.buckets → enough_unanswered m.pass.trace bucket ≤ budget) → AnotherIsAnswered m.pass.trace n.pass.trace
 
 -- whatever a pass has seen, the shape of the table tells what is enough in a bucket

@@ -65,12 +65,36 @@ fn gather<N: Kind>(
     (live, marked)
 }
 
+/// What the words of a closed table tell, where the slots are noted whose nodes are in lists.
+pub(crate) fn contents_by<N: Kind>(
+    shape: &Shape,
+    words: &[u64],
+    notes: &[bool],
+    mut listed: Vec<N::Item>,
+) -> Contents<N::Item>
+    requires words { (length words.now ≡ words_in shape.now) × (shape.now.values ≡ N.VALUES) }
+    requires notes { length notes.now ≡ shape.now.slots }
+    requires room { (listed.items ≡ []) × (shape.now.slots ≤ vec_capacity listed) }
+    ensures { (opened : Opened) (run : List Event) → let start = with_opened shape.now opened in
+        AreAfter start words.now run →
+        NotesLists start (incarnations_after start run) notes.now → Holds N.shown start run result }
+{
+    let (live, marked) = gather::<N>(shape, words, notes, &mut listed);
+    Contents {
+        listed,
+        epoch: words[place_index(shape, Place::Epoch)],
+        live,
+        marked,
+        free: shape.slots() - live - marked,
+    }
+}
+
 /// What the words of a closed table tell.
 pub(crate) fn contents_of<N: Kind>(
     shape: &Shape,
     words: &[u64],
     mut notes: Vec<bool>,
-    mut listed: Vec<N::Item>,
+    listed: Vec<N::Item>,
 ) -> Contents<N::Item>
     requires kind { shape.now.values ≡ N.VALUES }
     requires run { (opened : Opened) × (run : List Event)
@@ -82,12 +106,5 @@ pub(crate) fn contents_of<N: Kind>(
         AreAfter start words.now run → Holds N.shown start run result }
 {
     note_lists(shape, words, &mut notes);
-    let (live, marked) = gather::<N>(shape, words, &notes, &mut listed);
-    Contents {
-        listed,
-        epoch: words[place_index(shape, Place::Epoch)],
-        live,
-        marked,
-        free: shape.slots() - live - marked,
-    }
+    contents_by::<N>(shape, words, &notes, listed)
 }

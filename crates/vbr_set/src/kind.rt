@@ -4,17 +4,19 @@ ghost use Rattle.std.specs.List.Sorted.{IsStrictlyIncreasing};
 ghost use Rattle.vbr_words.specs.Dimensions.{Dimensions};
 ghost use Rattle.vbr_words.specs.Places.{words_in};
 ghost use Rattle.vbr_machine.specs.Accounts.{incarnations_after};
+ghost use Rattle.vbr_machine.specs.History.{set_after};
 ghost use Rattle.vbr_machine.specs.Incarnations.{Incarnations};
+ghost use Rattle.vbr_machine.specs.Keys.{AreKeysOf};
+ghost use Rattle.vbr_machine.specs.Opened.{opening_keys};
 ghost use Rattle.vbr_machine.specs.Start.{Start, IsStart};
 ghost use Rattle.vbr_machine.specs.declared.event.Event.{Event};
 ghost use Rattle.vbr_machine.specs.declared.history.Call.{Call};
-ghost use Rattle.vbr_slots.specs.Closing.{AllOf};
 ghost use Rattle.vbr_slots.specs.Openings.{OpensAs};
 ghost use Rattle.vbr_slots.specs.Rule.{with_opened};
 ghost use Rattle.vbr_slots.specs.Views.{PassView, TableView};
 ghost use Rattle.vbr_slots.specs.declared.opening.TheConstants.{MAX_MANY_PASSES};
 ghost use Rattle.vbr_slots.specs.declared.rule.Opened.{Opened};
-ghost use Rattle.vbr_set.specs.Closing.{ClosesBy};
+ghost use Rattle.vbr_set.specs.Closing.{ReportsLegally};
 ghost use Rattle.vbr_set.specs.Contents.{TellsEnd};
 ghost use Rattle.vbr_set.specs.Kinds.{KindOf};
 ghost use Rattle.vbr_set.specs.Walking.{AreAfter};
@@ -69,9 +71,9 @@ pub trait Kind: Nodes + Sized {
 
     /// The report of what the words of a closed table tell.
     fn report(told: Contents<Self::Item>) -> Self::Report
-        ensures { (table : TableView) (passes : List PassView) → AllOf table passes →
-            table.start.shape.values ≡ Self.VALUES → TellsEnd shown table passes told →
-            ClosesBy kind table passes result };
+        ensures { (table : TableView) (passes : List PassView) →
+            table.start.shape.values ≡ Self.VALUES → (end : TellsEnd shown table passes told) →
+            ReportsLegally kind table.start end.ends.run result };
 
     /// What a report lists, ascending by key.
     fn items(report: &Self::Report) -> &[Self::Item]
@@ -84,6 +86,10 @@ pub trait Kind: Nodes + Sized {
 
     ghost ascends: { (start : Start) (calls : List Call) (items : List Self.Item) →
         kind.lists start calls items → IsStrictlyIncreasing (kind.keys items) };
+
+    ghost lists_keys: { (start : Start) (calls : List Call) (items : List Self.Item) →
+        kind.lists start calls items →
+        AreKeysOf (kind.keys items) (set_after (opening_keys start) calls) };
 
     ghost reopens: { (start : Start) (items : List Self.Item) → IsStart start →
         start.shape.values ≡ Self.VALUES →

@@ -40,18 +40,23 @@ pub mod batches;
 pub mod close_all_error;
 pub mod contents;
 pub mod end_error;
+mod entry_slots;
 pub mod kind;
 pub mod laws;
 pub mod left_marked;
 pub mod list_error;
 pub mod member;
 pub mod progressing;
+pub mod record_laws;
+pub mod record_refusals;
 pub mod renew_all_error;
 pub mod renew_error;
 pub mod report;
+pub mod report_with_slots;
 pub mod room;
 pub mod set;
 pub mod set_ref;
+pub mod slot_laws;
 pub mod stretches;
 mod walking;
 
@@ -59,11 +64,13 @@ pub use close_all_error::CloseAllError;
 pub use end_error::EndError;
 pub use kind::Kind;
 pub use list_error::ListError;
+pub use record_refusals::{HeldRefusal, HoldRefusal};
 pub use renew_all_error::RenewAllError;
 pub use renew_error::RenewError;
 pub use report::{MapReport, Report};
+pub use report_with_slots::ReportWithSlots;
 pub use set_ref::VbrSetRef;
-pub use vbr_list::{Cursor, Entry, Refusal, StillInHand, Wanted};
+pub use vbr_list::{Cursor, Entry, NotReplaced, Refusal, StillInHand, Wanted};
 pub use vbr_machine::{Call, Op};
 pub use vbr_slots::{
     CloseError, MAX_MANY_PASSES, MAX_PASSES, OpenError, OpenManyError, Pass, Seen,

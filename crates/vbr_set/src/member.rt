@@ -11,7 +11,10 @@ mod mailbox;
 pub mod map_calls;
 pub mod meeting;
 pub mod opening;
+pub mod records;
 pub mod renewing_all;
+pub mod renewing_slots;
+pub mod reporting_slots;
 pub mod reserving;
 mod share;
 mod sharing;
@@ -19,13 +22,13 @@ mod stake;
 pub mod tokens;
 
 ghost use Rattle.std.specs.Prelude.{◌≡◌};
-ghost use Rattle.vbr_set.specs.Members.{as_member};
-ghost use Rattle.vbr_set.specs.Sharing.{IsStake, set_shared};
+ghost use Rattle.vbr_set.specs.Sharing.{IsStake, member_with};
 
 use crate::member::closing::leave;
 use crate::member::share::Share;
 use crate::member::stake::Stake;
 use std::marker::Model;
+use vbr_at_table::Aside;
 use vbr_slots::Pass;
 use vbr_words::{Keys, Nodes};
 
@@ -36,6 +39,9 @@ use vbr_words::{Keys, Nodes};
 /// [`Member::close_all`] all at once. One that is dropped gives its pass back, as a close does, and the
 /// memory of a set is freed with its last member.
 ///
+/// A member may hold one slot between its calls ([`Member::hold`]), for a program that keeps a record of its
+/// own beside each slot. A close and a drop let it go.
+///
 /// A member has lines of the cache of its own, so that no two threads write to one line.
 #[repr(C)]
 pub struct Member<N: Nodes = Keys> {
@@ -43,6 +49,7 @@ pub struct Member<N: Nodes = Keys> {
     pub(crate) share: Share<N>,
     pub(crate) pass: Pass,
     pub(crate) balance: i64,
+    pub(crate) aside: Option<Aside>,
     pub(crate) after: [u64; 16],
 }
 
@@ -61,7 +68,7 @@ impl<N: Nodes> Model for Member<N> {
 impl<N: Nodes> Member<N> {
     // What it has of its set, with its balance, and its pass.
     pub(crate) fn into_parts(self) -> (Stake<N>, Pass)
-        ensures is { as_member (set_shared result.0.share) result.1 ≡ self }
+        ensures is { member_with result.0 result.1 ≡ self }
         ensures stake { IsStake result.0 result.1 }
     {
         let Member {
@@ -69,9 +76,15 @@ impl<N: Nodes> Member<N> {
             share,
             pass,
             balance,
+            aside,
             after: _,
         } = self;
-        (Stake { share, balance }, pass)
+        let stake = Stake {
+            share,
+            balance,
+            aside,
+        };
+        (stake, pass)
     }
 }
 
@@ -79,7 +92,9 @@ impl<N: Nodes> Member<N> {
 /// last one that is closed still gets a report. It needs no memory.
 impl<N: Nodes> Drop for Member<N> {
     fn drop(self) {
-        let (stake, mut pass) = self.into_parts();
+        let mut member = self;
+        member.let_go();
+        let (stake, mut pass) = member.into_parts();
         if let Share::Among(common, seat) = stake.share {
             common.set.give_slots_back(&mut pass);
             drop(leave(common, seat, pass));

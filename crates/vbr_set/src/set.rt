@@ -11,6 +11,7 @@ pub mod opening;
 pub mod record_calls;
 pub mod renewing;
 pub mod reporting;
+pub mod reporting_slots;
 pub mod reserving;
 pub mod tokens;
 

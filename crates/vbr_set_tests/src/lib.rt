@@ -12,6 +12,8 @@ mod emptying;
 #[cfg(test)]
 mod given_back;
 #[cfg(test)]
+mod held_slots;
+#[cfg(test)]
 mod iterating;
 #[cfg(test)]
 mod listing_threads;
@@ -35,6 +37,8 @@ mod reports;
 mod set;
 #[cfg(test)]
 mod seventy_slots;
+#[cfg(test)]
+mod slots;
 #[cfg(test)]
 mod stores;
 #[cfg(test)]

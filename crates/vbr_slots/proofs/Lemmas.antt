@@ -19,3 +19,5 @@ pub use Rattle.vbr_slots.proofs.Alone.{stands_found}
 pub use Rattle.vbr_slots.proofs.Pools.{hand_alone, hand_stays}
 -- A list that was written back through a slice of it.
 pub use Rattle.vbr_slots.proofs.Openings.{whole}
+-- A slot that a pass takes out of the shared pool, or unlinks, wasn't its own.
+pub use Rattle.vbr_slots.proofs.Passes.{taken_new, unlinked_new}

@@ -2,7 +2,7 @@
 ghost use Rattle.std.specs.Prelude.{◌≡◌, ◌<◌, true, IsTrue};
 ghost use Rattle.vbr_machine.specs.Acceptance.{IsAtIn};
 ghost use Rattle.vbr_machine.specs.Knowledge.{holds, holds_at};
-ghost use Rattle.vbr_machine.specs.declared.event.Step.TheVariants.{LoadLink, LoadBirth, LoadKey, LoadValue};
+ghost use Rattle.vbr_machine.specs.declared.event.Step.TheVariants.{LoadLink, LoadBirth, LoadKey, LoadValue, PeekBirth};
 ghost use Rattle.vbr_slots.specs.Views.{IsOf, Did, KeepsPool, knows};
 
 use crate::pass::{Pass, steps_after};
@@ -34,6 +34,18 @@ impl<N: Nodes> Slots<N> {
     {
         pass.steps = steps_after(pass.steps, 1);
         self.at(&mut pass.stepper).load_birth(slot)
+    }
+
+    /// As [`crate::AtTable::peek_birth`], counted.
+    #[inline]
+    pub fn peek_birth(&self, pass: &mut Pass, slot: u32) -> u64
+        requires own { IsOf pass.old.trace self.now }
+        requires slot { slot < self.now.start.shape.slots }
+        ensures step { Did (PeekBirth slot) pass.old.trace pass.new.trace result }
+        ensures pool { KeepsPool pass.old pass.new }
+    {
+        pass.steps = steps_after(pass.steps, 1);
+        self.at(&mut pass.stepper).peek_birth(slot)
     }
 
     /// As [`crate::AtTable::load_key`], counted.

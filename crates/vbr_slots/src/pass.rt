@@ -1,7 +1,7 @@
 //! A pass: the right to make steps under one number.
 ghost use Rattle.std.specs.Fn.{FnOnceTakesAtMut};
-ghost use Rattle.std.specs.Prelude.{◌≡◌, ◌<◌, ◌≤◌, ◌⊎◌, [], ◌∷◌, ◌+◌, ◌++◌, length, Some, Contains};
-ghost use Rattle.vbr_machine.specs.Acceptance.{IsFree};
+ghost use Rattle.std.specs.Prelude.{◌≡◌, ◌<◌, ◌≤◌, ◌⊎◌, [], ◌∷◌, ◌+◌, ◌++◌, length, Some, None, Contains};
+ghost use Rattle.vbr_machine.specs.Acceptance.{IsFree, IsInHand};
 ghost use Rattle.vbr_machine.specs.Runs.{IsRun};
 ghost use Rattle.vbr_slots.specs.Forsaking.{Forsakes};
 ghost use Rattle.vbr_slots.specs.Lending.{Lends, LendsWith, TakesWith, TellsSteps, TellsStepsWith};
@@ -105,6 +105,31 @@ impl Pass {
         ensures hand { self.new.hand ≡ hand_without slot self.old.hand }
     {
         put(&mut self.stepper.pool, &mut self.stepper.hand, slot);
+    }
+
+    /// Puts the slot in its hand aside: the hand is empty then, and the slot, if there was one, stays the
+    /// pass's own with its incarnation, outside its pool. It is no step.
+    #[inline]
+    pub fn set_aside(&mut self)
+        ensures trace { self.new.trace ≡ self.old.trace }
+        ensures pool { self.new.pool ≡ self.old.pool }
+        ensures hand { self.new.hand ≡ None }
+    {
+        self.stepper.hand = None;
+    }
+
+    /// Takes a slot that was put aside into its hand again. It is no step.
+    #[inline]
+    pub fn take_up(&mut self, slot: u32)
+        requires slot { slot < self.old.trace.start.shape.slots }
+        requires in_hand { IsInHand ((knows self.old.trace).own slot) }
+        requires outside { ¬ (Contains self.old.pool slot) }
+        requires empty { self.old.hand ≡ None }
+        ensures trace { self.new.trace ≡ self.old.trace }
+        ensures pool { self.new.pool ≡ self.old.pool }
+        ensures hand { self.new.hand ≡ Some slot }
+    {
+        self.stepper.hand = Some(slot);
     }
 
     /// Gives up the slots of its own pool and the one in its hand, for good: they stay its own, and nobody has them

@@ -90,6 +90,7 @@ fn call<N: Nodes>(
             Effect::Won
         }
         Step::LoadStamp { slot } => Effect::Value(slots.load_stamp(pass, slot)),
+        Step::PeekBirth { slot } => Effect::Value(slots.peek_birth(pass, slot)),
         Step::StoreStamp { slot, .. } => {
             slots.store_stamp(pass, slot);
             Effect::Done

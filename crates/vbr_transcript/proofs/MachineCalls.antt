@@ -10,7 +10,8 @@ use Rattle.vbr_machine.specs.Runs.{IsRun, AreAccepted, world_from, world_after, 
 use Rattle.vbr_machine.specs.Calls.{own_calls}
 use Rattle.vbr_machine.specs.declared.event.Event.{Event}
 use Rattle.vbr_machine.specs.declared.event.Step.{Step}
-use Rattle.vbr_machine.specs.declared.event.Step.TheVariants.{ReadEpoch, Advance, LoadStamp, StoreStamp, Raise}
+use Rattle.vbr_machine.specs.declared.event.Step.TheVariants.{ReadEpoch, Advance, LoadStamp, PeekBirth, StoreStamp}
+use Rattle.vbr_machine.specs.declared.event.Step.TheVariants.{Raise}
 use Rattle.vbr_machine.specs.declared.event.Step.TheVariants.{TakeFlag, StoreBirth, StoreKey, StoreValue, StoreLink}
 use Rattle.vbr_machine.specs.declared.event.Step.TheVariants.{LoadLink, LoadBirth, LoadKey, LoadValue, Publish, Mark}
 use Rattle.vbr_machine.specs.declared.event.Step.TheVariants.{Replace, Unlink, ConfirmPresent, ConfirmAbsent}
@@ -48,6 +49,7 @@ epoch_after : (start : Start) (w : World) (p : ℕ) (step : Step) → w.epoch �
 epoch_after start w p ReadEpoch = omega arith
 epoch_after start w p (Advance from) = raised (w.epoch == from) _ w refl
 epoch_after start w p (LoadStamp s) = omega arith
+epoch_after start w p (PeekBirth s) = omega arith
 epoch_after start w p (StoreStamp s stamp) = omega arith
 epoch_after start w p (Raise s) = omega arith
 epoch_after start w p (TakeFlag s) = kept (has_flag (found start w (TakeFlag s)) s) _ w refl

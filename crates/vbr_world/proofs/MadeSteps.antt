@@ -14,7 +14,8 @@ use Rattle.vbr_machine.specs.Machine.{World, found, with_call, after, written}
 use Rattle.vbr_world.specs.Answering.{with_answer, WordsHaveRoom}
 use Rattle.vbr_world.specs.WorldInLists.{KeptPass, KeptWorld, IsWhole, opening_pass, world_of}
 use Rattle.vbr_machine.specs.declared.event.Step.{Step}
-use Rattle.vbr_machine.specs.declared.event.Step.TheVariants.{ReadEpoch, Advance, LoadStamp, StoreStamp, Raise}
+use Rattle.vbr_machine.specs.declared.event.Step.TheVariants.{ReadEpoch, Advance, LoadStamp, PeekBirth, StoreStamp}
+use Rattle.vbr_machine.specs.declared.event.Step.TheVariants.{Raise}
 use Rattle.vbr_machine.specs.declared.event.Step.TheVariants.{TakeFlag, StoreBirth, StoreKey, StoreLink, LoadLink}
 use Rattle.vbr_machine.specs.declared.event.Step.TheVariants.{LoadBirth, LoadKey, Publish, Mark, Replace, Unlink}
 use Rattle.vbr_machine.specs.declared.event.Step.TheVariants.{ConfirmPresent, ConfirmAbsent, StoreValue, LoadValue}
@@ -32,6 +33,7 @@ made start w p ReadEpoch won = refl
 made start w p (Advance from) won =
     rw won (ap (λ (v : World). record v { epoch = w.epoch + 1 }) (idle w p (w.know p) refl))
 made start w p (LoadStamp s) won = idle w p (w.know p) refl
+made start w p (PeekBirth s) won = idle w p (w.know p) refl
 made start w p (StoreStamp s stamp) won = refl
 made start w p (Raise s) won = refl
 made start w p (TakeFlag s) won = rw won refl

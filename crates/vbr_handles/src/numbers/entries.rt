@@ -1,5 +1,5 @@
 //! The calls of the handles of a map with their answers as numbers. A value goes out where the answer is
-//! yes, and else nothing is written.
+//! yes, and else nothing is written. While its member holds a slot, an insert and a store do nothing.
 ghost use Rattle.std.specs.Prelude.{◌≡◌};
 ghost use Rattle.vbr_list.specs.Told.{is_yes};
 ghost use Rattle.vbr_handles.specs.Calls.{TellsInsertEntry};
@@ -7,7 +7,7 @@ ghost use Rattle.vbr_handles.specs.Codes.{call_code, exchange_code};
 ghost use Rattle.vbr_handles.specs.ValueCalls.{TellsExchange, TellsGetEntry, TellsGetOrInsert, TellsPut, TellsRemoveEntry, TellsRemoveIf, TellsReplace, WritesGiven};
 
 use crate::numbers::topping_up::{has_added, has_stored_new, top_up_after};
-use crate::numbers::{EMPTY, NO, OTHER, YES, call_code};
+use crate::numbers::{EMPTY, HELD, NO, OTHER, YES, call_code, holds_slot};
 use crate::owner::Owner;
 use vbr_set::{MapMember, Refusal};
 
@@ -19,6 +19,9 @@ pub fn insert(owner: &mut Owner<MapMember>, key: u64, value: u64, budget: u32) -
         return EMPTY;
     }
     let member = owner.member_mut();
+    if holds_slot(member) {
+        return HELD;
+    }
     let before = member.pass().steps();
     let answer = member.insert(key, value, budget);
     top_up_after(member, has_added(&answer), budget, before);
@@ -61,7 +64,11 @@ pub fn replace(
     if owner.is_empty() {
         return EMPTY;
     }
-    give(owner.member_mut().replace(key, value, budget), found)
+    let member = owner.member_mut();
+    if holds_slot(member) {
+        return HELD;
+    }
+    give(member.replace(key, value, budget), found)
 }
 
 /// Gives a key a value by the member of a handle, whether it is there or not, and writes the one that it had.
@@ -74,6 +81,9 @@ pub fn put(owner: &mut Owner<MapMember>, key: u64, value: u64, found: &mut u64, 
         return EMPTY;
     }
     let member = owner.member_mut();
+    if holds_slot(member) {
+        return HELD;
+    }
     let before = member.pass().steps();
     let answer = member.put(key, value, budget);
     top_up_after(member, has_stored_new(&answer), budget, before);
@@ -96,6 +106,9 @@ pub fn get_or_insert(
         return EMPTY;
     }
     let member = owner.member_mut();
+    if holds_slot(member) {
+        return HELD;
+    }
     let before = member.pass().steps();
     let answer = member.get_or_insert(key, value, budget);
     top_up_after(member, has_stored_new(&answer), budget, before);
@@ -118,10 +131,15 @@ pub fn compare_exchange(
     if owner.is_empty() {
         return EMPTY;
     }
-    let answer = owner
-        .member_mut()
-        .compare_exchange(key, expected, value, budget);
-    give_expected(answer, expected, found)
+    let member = owner.member_mut();
+    if holds_slot(member) {
+        return HELD;
+    }
+    give_expected(
+        member.compare_exchange(key, expected, value, budget),
+        expected,
+        found,
+    )
 }
 
 /// Takes a key out by the member of a handle where it has the value that is expected, and writes what it had.

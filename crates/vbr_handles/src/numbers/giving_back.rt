@@ -3,6 +3,7 @@ ghost use Rattle.vbr_set.specs.Closing.{ClosesBy};
 ghost use Rattle.vbr_handles.specs.GivingBack.{ClosesWithoutSlots, TellsGivenBack};
 
 use crate::listed::Listed;
+use crate::numbers::records::let_go;
 use crate::owner::Owner;
 use crate::report_numbers::ReportNumbers;
 use std::alloc::Global;
@@ -21,8 +22,9 @@ pub fn give_slots_back<N: Nodes>(owner: &mut Owner<Member<N>>) -> u32
     owner.member_mut().give_slots_back()
 }
 
-/// Gives the slots of its pass back, and then closes a handle, as [`crate::numbers::close`] does: so those that go
-/// on have them. Where it is the last one and is refused, it stays full, and its slots are in the shared pool.
+/// Lets go of the slot that its member holds, gives the slots of its pass back, and then closes a handle, as
+/// [`crate::numbers::close`] does: so those that go on have them. Where it is the last one and is refused, it stays
+/// full, holds none, and its slots are in the shared pool.
 pub fn close<N: Kind, I: Listed<N>>(
     alloc: Global,
     owner: &mut Owner<Member<N>>,
@@ -32,6 +34,7 @@ pub fn close<N: Kind, I: Listed<N>>(
     ensures { ClosesWithoutSlots I.listing (ClosesBy N.kind) owner.old.member owner.new.member
         items.old items.new told.old told.new result }
 {
+    let_go(owner);
     give_slots_back(owner);
     crate::numbers::close::<N, I>(alloc, owner, items, told)
 }

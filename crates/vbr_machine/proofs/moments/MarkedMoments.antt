@@ -30,7 +30,8 @@ use Rattle.vbr_machine.specs.Agreement.{Agrees, IsGoodLink, IsHeldAt, IsHeldInca
 use Rattle.vbr_machine.specs.declared.history.Call.{Call}
 use Rattle.vbr_machine.specs.declared.event.Event.{Event}
 use Rattle.vbr_machine.specs.declared.event.Step.{Step}
-use Rattle.vbr_machine.specs.declared.event.Step.TheVariants.{ReadEpoch, Advance, LoadStamp, StoreStamp, Raise}
+use Rattle.vbr_machine.specs.declared.event.Step.TheVariants.{ReadEpoch, Advance, LoadStamp, PeekBirth, StoreStamp}
+use Rattle.vbr_machine.specs.declared.event.Step.TheVariants.{Raise}
 use Rattle.vbr_machine.specs.declared.event.Step.TheVariants.{TakeFlag, StoreBirth, StoreKey, StoreLink, LoadLink}
 use Rattle.vbr_machine.specs.declared.event.Step.TheVariants.{LoadBirth, LoadKey, Publish, Mark, Replace, Unlink}
 use Rattle.vbr_machine.specs.declared.event.Step.TheVariants.{ConfirmPresent, ConfirmAbsent, StoreValue, LoadValue}
@@ -112,6 +113,7 @@ module _ (start : Start) (a : Incarnations) (s : Sound start a) (c : ℕ) (linke
   step_lists w p ReadEpoch = nothing
   step_lists w p (Advance from) = either (found start w (Advance from) == from) _ _ (one p Advances) nothing
   step_lists w p (LoadStamp v) = nothing
+  step_lists w p (PeekBirth v) = nothing
   step_lists w p (StoreStamp v stamp) = one p (Stamps (last_in a v) stamp)
   step_lists w p (Raise v) = given_up p v (Raises v) ((w.know p).own v)
   step_lists w p (TakeFlag v) =

@@ -27,7 +27,8 @@ use Rattle.vbr_machine.specs.Runs.{IsRun, world_after, know_after}
 use Rattle.vbr_machine.specs.declared.event.Event.{Event}
 use Rattle.vbr_machine.specs.declared.history.Call.{Call}
 use Rattle.vbr_machine.specs.declared.event.Step.{Step}
-use Rattle.vbr_machine.specs.declared.event.Step.TheVariants.{ReadEpoch, Advance, LoadStamp, StoreStamp, Raise}
+use Rattle.vbr_machine.specs.declared.event.Step.TheVariants.{ReadEpoch, Advance, LoadStamp, PeekBirth, StoreStamp}
+use Rattle.vbr_machine.specs.declared.event.Step.TheVariants.{Raise}
 use Rattle.vbr_machine.specs.declared.event.Step.TheVariants.{TakeFlag, StoreBirth, StoreKey, StoreLink, LoadLink}
 use Rattle.vbr_machine.specs.declared.event.Step.TheVariants.{LoadBirth, LoadKey, Publish, Mark, Replace, Unlink}
 use Rattle.vbr_machine.specs.declared.event.Step.TheVariants.{ConfirmPresent, ConfirmAbsent, LoadValue, StoreValue}
@@ -126,6 +127,7 @@ module _ (start : Start) (passes : ℕ) (run : List Event) (is : IsStart start) 
       ≤ behind start (incarnations_after start run) bucket (Head h)
   one ReadEpoch n l = same [] refl
   one (LoadStamp s) n l = same [] refl
+  one (PeekBirth s) n l = same [] refl
   one (LoadLink place) n l = same [] refl
   one (LoadBirth s) n l = same [] refl
   one (LoadKey s) n l = same [] refl

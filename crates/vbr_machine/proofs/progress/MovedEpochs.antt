@@ -19,7 +19,8 @@ use Rattle.vbr_machine.specs.Disturbances.{one_if, disturbances_in, disturbances
 use Rattle.vbr_machine.specs.declared.history.Call.{Call}
 use Rattle.vbr_machine.specs.declared.event.Event.{Event}
 use Rattle.vbr_machine.specs.declared.event.Step.{Step}
-use Rattle.vbr_machine.specs.declared.event.Step.TheVariants.{ReadEpoch, Advance, LoadStamp, StoreStamp, Raise}
+use Rattle.vbr_machine.specs.declared.event.Step.TheVariants.{ReadEpoch, Advance, LoadStamp, PeekBirth, StoreStamp}
+use Rattle.vbr_machine.specs.declared.event.Step.TheVariants.{Raise}
 use Rattle.vbr_machine.specs.declared.event.Step.TheVariants.{TakeFlag, StoreBirth, StoreKey, StoreLink, LoadLink}
 use Rattle.vbr_machine.specs.declared.event.Step.TheVariants.{LoadBirth, LoadKey, Publish, Mark, Replace, Unlink}
 use Rattle.vbr_machine.specs.declared.event.Step.TheVariants.{ConfirmPresent, ConfirmAbsent, StoreValue, LoadValue}
@@ -43,6 +44,7 @@ as_advance : (step : Step) → ((from : ℕ) × (step ≡ Advance from)) ⊎ (Is
 as_advance (Advance from) = inl (from, refl)
 as_advance ReadEpoch = inr (λ x. x)
 as_advance (LoadStamp s) = inr (λ x. x)
+as_advance (PeekBirth s) = inr (λ x. x)
 as_advance (StoreStamp s stamp) = inr (λ x. x)
 as_advance (Raise s) = inr (λ x. x)
 as_advance (TakeFlag s) = inr (λ x. x)

@@ -6,7 +6,8 @@ use Rattle.std.proofs.lemmas.Bool.{cases_eq}
 use Rattle.vbr_machine.specs.Start.{Start, IsStart}
 use Rattle.vbr_machine.specs.Put.{put}
 use Rattle.vbr_machine.specs.Acceptance.{IsInHand}
-use Rattle.vbr_machine.specs.Records.{Act, MakesEvent, WritesWord, IsInNoHand, IsLastInserted, NoneTries, OnlyWrites}
+use Rattle.vbr_machine.specs.Records.{Act, MakesEvent, WritesWord, IsInNoHand, IsLastInserted, NoneBears, NoneTries}
+use Rattle.vbr_machine.specs.Records.{OnlyWrites}
 use Rattle.vbr_machine.specs.Records.{WritesInHand, events_of, records_after}
 use Rattle.vbr_machine.specs.Runs.{Begins, IsRun, know_after, world_after}
 use Rattle.vbr_machine.specs.Accounts.{incarnations_after}
@@ -17,6 +18,7 @@ use Rattle.vbr_machine.specs.declared.knowledge.Unpublished.{Unpublished}
 use Rattle.vbr_machine.proofs.words.Puts.{put_other}
 use Rattle.vbr_machine.proofs.records.Entries.{same_birth_same_entry}
 use Rattle.vbr_machine.proofs.records.Hands.{in_hand_alone, in_hand_throughout}
+use Rattle.vbr_machine.proofs.records.KeptHands.{in_hand_since_its_birth}
 use Rattle.vbr_machine.proofs.runs.RunsGoOn.{is_run_before}
 
 -- ---- acts
@@ -146,3 +148,24 @@ own_record start passes before acts pass s known later is ok w own end same none
         let N : List Event → Type 0 = NoneTries pass in
         in_hand_throughout start passes before xs ys pass s known later is (subst R all ok) own (subst K all end) same
         (subst N e none)
+
+-- no birth in the last of some events, where there is none in all of them
+bears_after : (pass s : ℕ) (xs ys : List Event) → NoneBears pass s (xs ++ ys) → NoneBears pass s ys
+bears_after pass s [] ys none = none
+bears_after pass s (x ∷ xs) ys none = bears_after pass s xs ys none.1
+
+-- so it does before a moment at which it has the slot in hand, since it last gave birth there
+pub own_record_since : {A : Type 0} (start : Start) (passes : ℕ) (before : List Event) (acts : List (Act A))
+    (pass s : ℕ) → IsStart start → IsRun start passes (before ++ events_of acts) → WritesInHand start before acts →
+    IsInHand ((know_after start (before ++ events_of acts) pass).own s) → NoneBears pass s (events_of acts) →
+    OnlyWrites pass s acts
+own_record_since start passes before acts pass s is ok w end none =
+    only_written start passes before acts pass s is ok w held
+  where
+    held : (xs ys : List Event) → events_of acts ≡ xs ++ ys → IsInHand ((know_after start (before ++ xs) pass).own s)
+    held xs ys e =
+        let all : before ++ events_of acts ≡ (before ++ xs) ++ ys =
+        ap (λ (l : List Event). before ++ l) e ∙ sym (append_assoc before xs ys) in
+        let K : List Event → Type 0 = λ l. IsInHand ((know_after start l pass).own s) in
+        in_hand_since_its_birth start (before ++ xs) ys pass s (subst K all end)
+        (bears_after pass s xs ys (subst (NoneBears pass s) e none))

@@ -17,13 +17,14 @@ use Rattle.vbr_machine.specs.Accounts.{incarnations_after, notes_after}
 use Rattle.vbr_machine.specs.Agreement.{Agrees}
 use Rattle.vbr_machine.specs.declared.event.Event.{Event}
 use Rattle.vbr_machine.specs.declared.event.Step.{Step}
-use Rattle.vbr_machine.specs.declared.event.Step.TheVariants.{ReadEpoch, Advance, LoadStamp, StoreStamp, Raise}
+use Rattle.vbr_machine.specs.declared.event.Step.TheVariants.{ReadEpoch, Advance, LoadStamp, PeekBirth, StoreStamp}
+use Rattle.vbr_machine.specs.declared.event.Step.TheVariants.{Raise}
 use Rattle.vbr_machine.specs.declared.event.Step.TheVariants.{TakeFlag, StoreBirth, StoreKey, StoreLink, LoadLink}
 use Rattle.vbr_machine.specs.declared.event.Step.TheVariants.{LoadBirth, LoadKey, Publish, Mark, Replace, Unlink}
 use Rattle.vbr_machine.specs.declared.event.Step.TheVariants.{ConfirmPresent, ConfirmAbsent, StoreValue, LoadValue}
 use Rattle.vbr_machine.proofs.chronicles.Growth.{grows_after}
 use Rattle.vbr_machine.proofs.steps.Steps.{agrees_at_first}
-use Rattle.vbr_machine.proofs.steps.EpochSteps.{step_read_epoch, step_advance, step_load_stamp}
+use Rattle.vbr_machine.proofs.steps.EpochSteps.{step_read_epoch, step_advance, step_load_stamp, step_peek_birth}
 use Rattle.vbr_machine.proofs.steps.OwnerSteps.{step_raise, step_take_flag, step_store_key, step_store_link}
 use Rattle.vbr_machine.proofs.steps.OwnerSteps.{step_store_value}
 use Rattle.vbr_machine.proofs.steps.BirthSteps.{step_store_stamp, step_store_birth}
@@ -43,6 +44,7 @@ pub step_agrees : (start : Start) (w : World) (a : Incarnations) (notes : â„• â†
 step_agrees start w a notes p ReadEpoch g ok = step_read_epoch start w a notes p g
 step_agrees start w a notes p (Advance from) g ok = step_advance start w a notes p from g ok
 step_agrees start w a notes p (LoadStamp s) g ok = step_load_stamp start w a notes p s g
+step_agrees start w a notes p (PeekBirth s) g ok = step_peek_birth start w a notes p s g
 step_agrees start w a notes p (StoreStamp s stamp) g ok = step_store_stamp start w a notes p s stamp g ok
 step_agrees start w a notes p (Raise s) g ok = step_raise start w a notes p s g ok
 step_agrees start w a notes p (TakeFlag s) g ok = step_take_flag start w a notes p s g ok.in_shape

@@ -17,7 +17,8 @@ use Rattle.vbr_machine.specs.Accounts.{chronicle, incarnations_after, own_entrie
 use Rattle.vbr_machine.specs.declared.history.Call.{Call}
 use Rattle.vbr_machine.specs.declared.event.Event.{Event}
 use Rattle.vbr_machine.specs.declared.event.Step.{Step}
-use Rattle.vbr_machine.specs.declared.event.Step.TheVariants.{ReadEpoch, Advance, LoadStamp, StoreStamp, Raise}
+use Rattle.vbr_machine.specs.declared.event.Step.TheVariants.{ReadEpoch, Advance, LoadStamp, PeekBirth, StoreStamp}
+use Rattle.vbr_machine.specs.declared.event.Step.TheVariants.{Raise}
 use Rattle.vbr_machine.specs.declared.event.Step.TheVariants.{TakeFlag, StoreBirth, StoreKey, StoreLink, LoadLink}
 use Rattle.vbr_machine.specs.declared.event.Step.TheVariants.{LoadBirth, LoadKey, Publish, Mark, Replace, Unlink}
 use Rattle.vbr_machine.specs.declared.event.Step.TheVariants.{ConfirmPresent, ConfirmAbsent, StoreValue, LoadValue}
@@ -50,6 +51,7 @@ pub happens_by : (start : Start) (w : World) (a : Incarnations) (p : ℕ) (step 
 happens_by start w a p ReadEpoch = tt
 happens_by start w a p (Advance from) = either_by p (found start w (Advance from) == from) _ _ (refl, tt) tt
 happens_by start w a p (LoadStamp s) = tt
+happens_by start w a p (PeekBirth s) = tt
 happens_by start w a p (StoreStamp s stamp) = (refl, tt)
 happens_by start w a p (Raise s) = given_up_by a p s (Raises s) ((w.know p).own s)
 happens_by start w a p (TakeFlag s) = either_by p (has_flag (found start w (TakeFlag s)) s) _ _ (refl, tt) (refl, tt)

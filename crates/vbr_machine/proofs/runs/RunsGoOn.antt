@@ -21,7 +21,8 @@ use Rattle.vbr_machine.specs.Calls.{calls_added, own_calls}
 use Rattle.vbr_machine.specs.declared.history.Call.{Call}
 use Rattle.vbr_machine.specs.declared.event.Event.{Event}
 use Rattle.vbr_machine.specs.declared.event.Step.{Step}
-use Rattle.vbr_machine.specs.declared.event.Step.TheVariants.{ReadEpoch, Advance, LoadStamp, StoreStamp, Raise}
+use Rattle.vbr_machine.specs.declared.event.Step.TheVariants.{ReadEpoch, Advance, LoadStamp, PeekBirth, StoreStamp}
+use Rattle.vbr_machine.specs.declared.event.Step.TheVariants.{Raise}
 use Rattle.vbr_machine.specs.declared.event.Step.TheVariants.{TakeFlag, StoreBirth, StoreKey, StoreLink, LoadLink}
 use Rattle.vbr_machine.specs.declared.event.Step.TheVariants.{LoadBirth, LoadKey, Publish, Mark, Replace, Unlink}
 use Rattle.vbr_machine.specs.declared.event.Step.TheVariants.{ConfirmPresent, ConfirmAbsent, StoreValue, LoadValue}
@@ -131,6 +132,7 @@ pub know_other : (start : Start) (w : World) (p q : ℕ) (step : Step) → p ≢
 know_other start w p q ReadEpoch ne = put_other w.know q _ p ne
 know_other start w p q (Advance from) ne = by_both (w.epoch == from) (λ v. v.know p) _ w (w.know p) refl refl
 know_other start w p q (LoadStamp s) ne = refl
+know_other start w p q (PeekBirth s) ne = refl
 know_other start w p q (StoreStamp s stamp) ne = put_other w.know q _ p ne
 know_other start w p q (Raise s) ne = put_other w.know q _ p ne
 know_other start w p q (TakeFlag s) ne =
@@ -172,6 +174,7 @@ pub know_own : (start : Start) (w : World) (p : ℕ) (step : Step) →
 know_own start w p ReadEpoch = put_here w.know p _
 know_own start w p (Advance from) = by_both (w.epoch == from) (λ v. v.know p) _ w (w.know p) refl refl
 know_own start w p (LoadStamp s) = refl
+know_own start w p (PeekBirth s) = refl
 know_own start w p (StoreStamp s stamp) = put_here w.know p _
 know_own start w p (Raise s) = put_here w.know p _
 know_own start w p (TakeFlag s) = taught (has_flag (found start w (TakeFlag s)) s) _ w p _ refl
@@ -272,6 +275,7 @@ pub calls_after : (start : Start) (w : World) (p : ℕ) (step : Step) →
 calls_after start w p ReadEpoch = sym (append-nil w.calls)
 calls_after start w p (Advance from) = silent (w.epoch == from) _ w refl
 calls_after start w p (LoadStamp s) = sym (append-nil w.calls)
+calls_after start w p (PeekBirth s) = sym (append-nil w.calls)
 calls_after start w p (StoreStamp s stamp) = sym (append-nil w.calls)
 calls_after start w p (Raise s) = sym (append-nil w.calls)
 calls_after start w p (TakeFlag s) = silent (has_flag (found start w (TakeFlag s)) s) _ w refl

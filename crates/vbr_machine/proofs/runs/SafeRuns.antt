@@ -18,7 +18,8 @@ use Rattle.vbr_machine.specs.Agreement.{IsNotOf, IsStored, OwnFits, Agrees}
 use Rattle.vbr_machine.specs.Safety.{IsWordOf, IsOwnerRight, IsOver, IsLastOver, BearsAfter, IsSafe}
 use Rattle.vbr_machine.specs.declared.event.Event.{Event}
 use Rattle.vbr_machine.specs.declared.event.Step.{Step}
-use Rattle.vbr_machine.specs.declared.event.Step.TheVariants.{ReadEpoch, Advance, LoadStamp, StoreStamp, Raise}
+use Rattle.vbr_machine.specs.declared.event.Step.TheVariants.{ReadEpoch, Advance, LoadStamp, PeekBirth, StoreStamp}
+use Rattle.vbr_machine.specs.declared.event.Step.TheVariants.{Raise}
 use Rattle.vbr_machine.specs.declared.event.Step.TheVariants.{TakeFlag, StoreBirth, StoreKey, StoreLink, LoadLink}
 use Rattle.vbr_machine.specs.declared.event.Step.TheVariants.{LoadBirth, LoadKey, Publish, Mark, Replace, Unlink}
 use Rattle.vbr_machine.specs.declared.event.Step.TheVariants.{ConfirmPresent, ConfirmAbsent, StoreValue, LoadValue}
@@ -120,6 +121,7 @@ bears_after start run p (StoreBirth s birth) g ok =
 bears_after start run p ReadEpoch g ok = tt
 bears_after start run p (Advance from) g ok = tt
 bears_after start run p (LoadStamp s) g ok = tt
+bears_after start run p (PeekBirth s) g ok = tt
 bears_after start run p (StoreStamp s stamp) g ok = tt
 bears_after start run p (Raise s) g ok = tt
 bears_after start run p (TakeFlag s) g ok = tt

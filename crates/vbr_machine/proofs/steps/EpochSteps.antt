@@ -15,7 +15,7 @@ use Rattle.vbr_machine.specs.Chronicles.{Advances, becomes}
 use Rattle.vbr_machine.specs.Sound.{SlotsSound}
 use Rattle.vbr_machine.specs.Notes.{Notes, confirmed_notes}
 use Rattle.vbr_machine.specs.Agreement.{OwnFits, Owns, Agrees}
-use Rattle.vbr_machine.specs.declared.event.Step.TheVariants.{ReadEpoch, Advance, LoadStamp}
+use Rattle.vbr_machine.specs.declared.event.Step.TheVariants.{ReadEpoch, Advance, LoadStamp, PeekBirth}
 use Rattle.vbr_machine.specs.declared.knowledge.Holding.{Holding}
 use Rattle.vbr_machine.specs.declared.knowledge.Holding.TheVariants.{Free, Unlinked, InHand}
 use Rattle.vbr_machine.specs.declared.knowledge.SlotPlace.{SlotPlace}
@@ -103,3 +103,7 @@ step_advance start w a notes p from g ok = go (cases_Bool (w.epoch == from))
 pub step_load_stamp : (start : Start) (w : World) (a : Incarnations) (notes : ℕ → Notes) (p s : ℕ) →
     Agrees start w a notes → StepAgrees start w a notes p (LoadStamp s)
 step_load_stamp start w a notes p s g = (tt, agrees_still start w a notes p g)
+
+pub step_peek_birth : (start : Start) (w : World) (a : Incarnations) (notes : ℕ → Notes) (p s : ℕ) →
+    Agrees start w a notes → StepAgrees start w a notes p (PeekBirth s)
+step_peek_birth start w a notes p s g = (tt, agrees_still start w a notes p g)

@@ -12,7 +12,8 @@ use Rattle.vbr_machine.specs.Runs.{world_after}
 use Rattle.vbr_machine.specs.Whereabouts.{InSharedPool, number_at}
 use Rattle.vbr_machine.specs.declared.event.Event.{Event}
 use Rattle.vbr_machine.specs.declared.event.Step.{Step}
-use Rattle.vbr_machine.specs.declared.event.Step.TheVariants.{ReadEpoch, Advance, LoadStamp, StoreStamp, Raise}
+use Rattle.vbr_machine.specs.declared.event.Step.TheVariants.{ReadEpoch, Advance, LoadStamp, PeekBirth, StoreStamp}
+use Rattle.vbr_machine.specs.declared.event.Step.TheVariants.{Raise}
 use Rattle.vbr_machine.specs.declared.event.Step.TheVariants.{TakeFlag, StoreBirth, StoreKey, StoreLink, LoadLink}
 use Rattle.vbr_machine.specs.declared.event.Step.TheVariants.{LoadBirth, LoadKey, Publish, Mark, Replace, Unlink}
 use Rattle.vbr_machine.specs.declared.event.Step.TheVariants.{ConfirmPresent, ConfirmAbsent, StoreValue, LoadValue}
@@ -49,6 +50,7 @@ was_or_raised start w p ReadEpoch s e = inl e
 was_or_raised start w p (Advance from) s e =
     inl (by_test (found start w (Advance from) == from) _ w s (λ x. x) (λ x. x) e)
 was_or_raised start w p (LoadStamp t) s e = inl e
+was_or_raised start w p (PeekBirth t) s e = inl e
 was_or_raised start w p (StoreStamp t stamp) s e = inl e
 was_or_raised start w p (Raise t) s e = inr tt
 was_or_raised start w p (TakeFlag t) s e =

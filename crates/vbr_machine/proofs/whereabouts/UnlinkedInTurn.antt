@@ -16,7 +16,8 @@ use Rattle.vbr_machine.specs.Runs.{Begins, know_after, world_after}
 use Rattle.vbr_machine.specs.Whereabouts.{Unstamped, UnlinksInTurn, is_at, is_unstamped, number_at}
 use Rattle.vbr_machine.specs.declared.event.Event.{Event}
 use Rattle.vbr_machine.specs.declared.event.Step.{Step}
-use Rattle.vbr_machine.specs.declared.event.Step.TheVariants.{ReadEpoch, Advance, LoadStamp, StoreStamp, Raise}
+use Rattle.vbr_machine.specs.declared.event.Step.TheVariants.{ReadEpoch, Advance, LoadStamp, PeekBirth, StoreStamp}
+use Rattle.vbr_machine.specs.declared.event.Step.TheVariants.{Raise}
 use Rattle.vbr_machine.specs.declared.event.Step.TheVariants.{TakeFlag, StoreBirth, StoreKey, StoreLink, LoadLink}
 use Rattle.vbr_machine.specs.declared.event.Step.TheVariants.{LoadBirth, LoadKey, Publish, Mark, Replace, Unlink}
 use Rattle.vbr_machine.specs.declared.event.Step.TheVariants.{ConfirmPresent, ConfirmAbsent, StoreValue, LoadValue}
@@ -89,6 +90,7 @@ learned_is ReadEpoch found stamp know s u =
     inl (by_test (found == know.epoch) _ _ know s (reread_is (know.own s)) (reread_is (know.own s)) u)
 learned_is (Advance from) found stamp know s u = inl u
 learned_is (LoadStamp t) found stamp know s u = inl u
+learned_is (PeekBirth t) found stamp know s u = inl u
 learned_is (StoreStamp t new) found stamp know s u = inl (put_no know.own t (Some (holding.Free new)) s refl u)
 learned_is (Raise t) found stamp know s u = inl (put_no know.own t None s refl u)
 learned_is (TakeFlag t) found stamp know s u =

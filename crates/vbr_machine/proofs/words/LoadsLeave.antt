@@ -7,7 +7,8 @@ use Rattle.vbr_words.specs.declared.place.Place.{Place}
 use Rattle.vbr_machine.specs.Loads.{IsLoad}
 use Rattle.vbr_machine.specs.Machine.{World, found, knows_nothing, word_at, after}
 use Rattle.vbr_machine.specs.declared.event.Step.{Step}
-use Rattle.vbr_machine.specs.declared.event.Step.TheVariants.{ReadEpoch, Advance, LoadStamp, StoreStamp, Raise}
+use Rattle.vbr_machine.specs.declared.event.Step.TheVariants.{ReadEpoch, Advance, LoadStamp, PeekBirth, StoreStamp}
+use Rattle.vbr_machine.specs.declared.event.Step.TheVariants.{Raise}
 use Rattle.vbr_machine.specs.declared.event.Step.TheVariants.{TakeFlag, StoreBirth, StoreKey, StoreLink, LoadLink}
 use Rattle.vbr_machine.specs.declared.event.Step.TheVariants.{LoadBirth, LoadKey, Publish, Mark, Replace, Unlink}
 use Rattle.vbr_machine.specs.declared.event.Step.TheVariants.{ConfirmPresent, ConfirmAbsent, LoadValue, StoreValue}
@@ -17,6 +18,7 @@ pub loads_leave : (start : Start) (w : World) (p : ℕ) (step : Step) → IsLoad
     word_at start (after start w p step) q ≡ word_at start w q
 loads_leave start w p ReadEpoch load q = refl
 loads_leave start w p (LoadStamp s) load q = refl
+loads_leave start w p (PeekBirth s) load q = refl
 loads_leave start w p (LoadLink place) load q = refl
 loads_leave start w p (LoadBirth s) load q = refl
 loads_leave start w p (LoadKey s) load q = refl

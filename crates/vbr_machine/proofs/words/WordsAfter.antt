@@ -24,7 +24,8 @@ use Rattle.vbr_machine.specs.Sound.{IsListed, PlaceFits}
 use Rattle.vbr_machine.specs.Notes.{Notes, before_at}
 use Rattle.vbr_machine.specs.Agreement.{IsHeldNext, OwnFits, Agrees}
 use Rattle.vbr_machine.specs.declared.event.Step.{Step}
-use Rattle.vbr_machine.specs.declared.event.Step.TheVariants.{ReadEpoch, Advance, LoadStamp, StoreStamp, Raise}
+use Rattle.vbr_machine.specs.declared.event.Step.TheVariants.{ReadEpoch, Advance, LoadStamp, PeekBirth, StoreStamp}
+use Rattle.vbr_machine.specs.declared.event.Step.TheVariants.{Raise}
 use Rattle.vbr_machine.specs.declared.event.Step.TheVariants.{TakeFlag, StoreBirth, StoreKey, StoreLink, LoadLink}
 use Rattle.vbr_machine.specs.declared.event.Step.TheVariants.{LoadBirth, LoadKey, Publish, Mark, Replace, Unlink}
 use Rattle.vbr_machine.specs.declared.event.Step.TheVariants.{ConfirmPresent, ConfirmAbsent, StoreValue, LoadValue}
@@ -48,6 +49,7 @@ pub place_in : (start : Start) (step : Step) → IsInShape start step → IsIn s
 place_in start ReadEpoch here = tt
 place_in start (Advance from) here = tt
 place_in start (LoadStamp s) here = here
+place_in start (PeekBirth s) here = here
 place_in start (StoreStamp s stamp) here = here
 place_in start (Raise s) here = flag_in start s here
 place_in start (TakeFlag s) here = flag_in start s here
@@ -106,6 +108,7 @@ word_here start w p ReadEpoch here = refl
 word_here start w p (Advance from) here =
     left (w.epoch == from) (λ v. v.epoch) _ w (from + 1) w.epoch (λ t. ap (λ n. n + 1) (eqb-true w.epoch from t)) refl
 word_here start w p (LoadStamp s) here = refl
+word_here start w p (PeekBirth s) here = refl
 word_here start w p (StoreStamp s stamp) here = put_here w.stamp s stamp
 word_here start w p (Raise s) here = raised_word start w (after start w p (Raise s)) s Shared refl here refl
 word_here start w p (TakeFlag s) here =
@@ -220,6 +223,7 @@ same_but start w p (Advance from) moves =
     (λ _. words_but (λ ne. absurd (ne refl)) (λ _ _. refl) (λ _ _. refl) (λ _ _. refl) (λ _ _. refl) (λ _ _. refl)
     (λ _ _. refl) (λ _ _. refl))
 same_but start w p (LoadStamp s) moves = unchanged _ _ w refl refl refl refl refl refl refl refl
+same_but start w p (PeekBirth s) moves = unchanged _ _ w refl refl refl refl refl refl refl refl
 same_but start w p (StoreStamp s stamp) moves =
     words_but (λ _. refl) (λ _ _. refl) (λ _ _. refl) (λ _ _. refl)
     (λ i ne. put_other w.stamp s stamp i (λ e. ne (ap place.Stamp e))) (λ _ _. refl) (λ _ _. refl) (λ _ _. refl)

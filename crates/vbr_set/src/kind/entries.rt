@@ -1,11 +1,10 @@
 //! The nodes of a map: it opens with entries, and its report lists entries.
 ghost use Rattle.std.specs.Prelude.{◌≡◌, List, refl, true};
-ghost use Rattle.vbr_slots.specs.Closing.{AllOf};
 ghost use Rattle.vbr_slots.specs.Views.{PassView, TableView};
-ghost use Rattle.vbr_set.specs.Closing.{MapCloses};
+ghost use Rattle.vbr_set.specs.Closing.{ReportsLegally};
 ghost use Rattle.vbr_set.specs.Contents.{TellsEnd, entry_in_slot};
 ghost use Rattle.vbr_set.specs.Kinds.{as_map};
-ghost use Rattle.vbr_set.specs.KindLaws.{counts_entries, entries_ascend, map_reopens};
+ghost use Rattle.vbr_set.specs.KindLaws.{counts_entries, entries_ascend, keys_of_entries, map_reopens};
 
 use crate::contents::Contents;
 use crate::kind::{Kind, OpenedSlots};
@@ -43,9 +42,9 @@ impl Kind for Entries {
     }
 
     fn report(told: Contents<(u64, u64)>) -> MapReport
-        ensures { (table : TableView) (passes : List PassView) → AllOf table passes →
-            table.start.shape.values ≡ true → TellsEnd entry_in_slot table passes told →
-            MapCloses table passes result }
+        ensures { (table : TableView) (passes : List PassView) →
+            table.start.shape.values ≡ true → (end : TellsEnd entry_in_slot table passes told) →
+            ReportsLegally as_map table.start end.ends.run result }
     {
         a_run_is_a_map();
         let Contents {
@@ -75,6 +74,8 @@ impl Kind for Entries {
     ghost counts = { counts_entries };
 
     ghost ascends = { entries_ascend };
+
+    ghost lists_keys = { keys_of_entries };
 
     ghost reopens = { map_reopens };
 }

@@ -1,12 +1,11 @@
 //! The nodes of a set: it opens with keys, and its report lists keys.
 ghost use Rattle.std.specs.Prelude.{◌≡◌, List, false, refl};
 ghost use Rattle.vbr_machine.specs.Nodes.{key_in_slot};
-ghost use Rattle.vbr_slots.specs.Closing.{AllOf};
 ghost use Rattle.vbr_slots.specs.Views.{PassView, TableView};
-ghost use Rattle.vbr_set.specs.Closing.{Closes};
+ghost use Rattle.vbr_set.specs.Closing.{ReportsLegally};
 ghost use Rattle.vbr_set.specs.Contents.{TellsEnd};
 ghost use Rattle.vbr_set.specs.Kinds.{as_set};
-ghost use Rattle.vbr_set.specs.KindLaws.{counts_keys, keys_ascend, set_reopens};
+ghost use Rattle.vbr_set.specs.KindLaws.{counts_keys, keys_ascend, keys_of_keys, set_reopens};
 
 use crate::contents::Contents;
 use crate::kind::{Kind, OpenedSlots};
@@ -35,9 +34,9 @@ impl Kind for Keys {
     }
 
     fn report(told: Contents<u64>) -> Report
-        ensures { (table : TableView) (passes : List PassView) → AllOf table passes →
-            table.start.shape.values ≡ false → TellsEnd key_in_slot table passes told →
-            Closes table passes result }
+        ensures { (table : TableView) (passes : List PassView) →
+            table.start.shape.values ≡ false → (end : TellsEnd key_in_slot table passes told) →
+            ReportsLegally as_set table.start end.ends.run result }
     {
         let Contents {
             listed: mut keys,
@@ -66,6 +65,8 @@ impl Kind for Keys {
     ghost counts = { counts_keys };
 
     ghost ascends = { keys_ascend };
+
+    ghost lists_keys = { keys_of_keys };
 
     ghost reopens = { set_reopens };
 }

@@ -18,7 +18,8 @@ impl<N: Nodes> Warms for Member<N> {
 }
 
 impl<N: Nodes> LooksUp<Result<bool, Refusal>> for Member<N> {
-    ghost told = { λ m n key budget answer. Called Has m n key budget answer };
+    ghost told = { λ m n key budget answer.
+        Called Has m n key budget answer × (n.aside ≡ m.aside) };
 
     #[inline(always)]
     fn look_up(&mut self, key: u64, budget: u32) -> Result<bool, Refusal> {
@@ -27,7 +28,8 @@ impl<N: Nodes> LooksUp<Result<bool, Refusal>> for Member<N> {
 }
 
 impl LooksUp<Result<Option<u64>, Refusal>> for Member<Entries> {
-    ghost told = { λ m n key budget answer. GetsEntry m n key budget answer };
+    ghost told = { λ m n key budget answer.
+        GetsEntry m n key budget answer × (n.aside ≡ m.aside) };
 
     #[inline(always)]
     fn look_up(&mut self, key: u64, budget: u32) -> Result<Option<u64>, Refusal> {
@@ -50,7 +52,8 @@ impl<N: Nodes> Member<N> {
     /// ```
     pub fn has_all(&mut self, keys: &[u64], answers: &mut [Result<bool, Refusal>], budget: u32)
         requires { length answers.old ≡ length keys.now }
-        ensures { HasAll self.old self.new keys.now budget answers.new }
+        ensures told { HasAll self.old self.new keys.now budget answers.new }
+        ensures aside { self.new.aside ≡ self.old.aside }
     {
         look_up_all(self, keys, answers, budget);
     }
@@ -72,7 +75,8 @@ impl Member<Entries> {
         budget: u32,
     )
         requires { length answers.old ≡ length keys.now }
-        ensures { GetsAll self.old self.new keys.now budget answers.new }
+        ensures told { GetsAll self.old self.new keys.now budget answers.new }
+        ensures aside { self.new.aside ≡ self.old.aside }
     {
         look_up_all(self, keys, answers, budget);
     }

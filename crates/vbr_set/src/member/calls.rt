@@ -33,7 +33,8 @@ impl Member {
     /// [`VbrSet::insert`]: crate::VbrSet::insert
     #[inline]
     pub fn insert(&mut self, key: u64, budget: u32) -> Result<bool, Refusal>
-        ensures { Called Insert self.old self.new key budget result }
+        ensures told { Called Insert self.old self.new key budget result }
+        ensures aside { self.new.aside ≡ self.old.aside }
     {
         let answer = self.share.set().insert(&mut self.pass, key, budget);
         self.balance = self.balance.wrapping_add(one_if_yes(&answer));
@@ -57,7 +58,8 @@ impl Member {
     /// [`VbrSet::remove`]: crate::VbrSet::remove
     #[inline]
     pub fn remove(&mut self, key: u64, budget: u32) -> Result<bool, Refusal>
-        ensures { Called Remove self.old self.new key budget result }
+        ensures told { Called Remove self.old self.new key budget result }
+        ensures aside { self.new.aside ≡ self.old.aside }
     {
         let answer = self.share.set().remove(&mut self.pass, key, budget);
         self.balance = self.balance.wrapping_sub(one_if_yes(&answer));
@@ -83,7 +85,8 @@ impl<N: Nodes> Member<N> {
     /// [`VbrSet::has`]: crate::VbrSet::has
     #[inline]
     pub fn has(&mut self, key: u64, budget: u32) -> Result<bool, Refusal>
-        ensures { Called Has self.old self.new key budget result }
+        ensures told { Called Has self.old self.new key budget result }
+        ensures aside { self.new.aside ≡ self.old.aside }
     {
         self.share.set().has(&mut self.pass, key, budget)
     }

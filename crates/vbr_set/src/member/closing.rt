@@ -3,6 +3,7 @@ ghost use Rattle.std.specs.Prelude.{◌≡◌, ◌≤◌, [], true, false, lengt
 ghost use Rattle.std.specs.Arc.{arc_value};
 ghost use Rattle.std.specs.Vec.{vec_capacity};
 ghost use Rattle.vbr_slots.specs.Closing.{AllOf};
+ghost use Rattle.vbr_at_table.specs.Aside.{HasAside};
 ghost use Rattle.vbr_set.specs.Balances.{balance_of};
 ghost use Rattle.vbr_set.specs.Closing.{ClosesBy};
 ghost use Rattle.vbr_set.specs.Ends.{AreNumbered, ClosesMember, EndsBy, IsBack, IsLast, EndLacksMemory};
@@ -21,14 +22,16 @@ use crate::set::VbrSet;
 use atomic_table::Seat;
 use std::alloc::{AllocError, AllocFailed, Global};
 use std::sync::Arc;
+use vbr_at_table::Aside;
 use vbr_slots::Pass;
 use vbr_words::Nodes;
 
 impl<N: Kind> Member<N> {
-    /// Gives its slots back, as [`Member::give_slots_back`] does, so that the others have them, and then
-    /// its pass. While others have a share of the set, the answer is None. The last member ends the set,
-    /// and gets what is in it, as [`VbrSet::close`] returns it with all passes. The member of a set that
-    /// was opened for one is always the last.
+    /// Lets go of the slot that it holds, if there is one ([`Member::let_go`]), gives its slots back, as
+    /// [`Member::give_slots_back`] does, so that the others have them, and then its pass. While others have a
+    /// share of the set, the answer is None. The last member ends the set, and gets what is in it, as
+    /// [`VbrSet::close`] returns it with all passes. The member of a set that was opened for one is always the
+    /// last.
     ///
     /// Only the last member needs memory: 9 bytes for each slot of a set and 17 of a map, for the report,
     /// and the words once more while it runs. A close has no budget, and makes no call of the set. Its
@@ -58,6 +61,7 @@ impl<N: Kind> Member<N> {
         ensures alone { self.set.passes ≡ 1 → IsLast result }
     {
         let mut member = self;
+        member.let_go();
         member.give_slots_back();
         match member.report_last(alloc)? {
             Some((report, last)) => {
@@ -84,18 +88,24 @@ impl<N: Kind> Member<N> {
         ensures report { IfOk result
             (λ told. IfSome told (λ last. EndsBy (ClosesBy N.kind) self.set self.pass last.0)) }
         ensures same { IfOk result (λ told. IfSome told (λ last. last.1 ≡ self)) }
-        ensures stays { IfErr result (IsBack self.set self.pass) }
+        ensures stays { IfErr result (IsBack self) }
         ensures alone { self.set.passes ≡ 1 → IsLast result }
     {
         let (stake, pass) = self.into_parts();
-        let Stake { share, balance } = stake;
+        let Stake {
+            share,
+            balance,
+            aside,
+        } = stake;
         let last = match share {
             Share::Among(common, seat) => match leave(common, seat, pass) {
                 None => return Ok(None),
-                Some((set, mailboxes, pass)) => end_alone(alloc, set, mailboxes, pass, balance)?,
+                Some((set, mailboxes, pass)) => end_alone(
+                    alloc, set, mailboxes, pass, balance, aside,
+                )?,
             },
-            Share::Alone(set, mailboxes) => end_alone(alloc, set, mailboxes, pass, balance)?,
-            Share::Gathered(set, passes) => end_gathered(alloc, set, passes, pass, balance)?,
+            Share::Alone(set, mailboxes) => end_alone(alloc, set, mailboxes, pass, balance, aside)?,
+            Share::Gathered(set, passes) => end_gathered(alloc, set, passes, pass, balance, aside)?,
         };
         Ok(Some(last))
     }
@@ -134,24 +144,27 @@ fn end_alone<N: Kind>(
     mailboxes: Vec<Mailbox<N>>,
     pass: Pass,
     balance: i64,
+    aside: Option<Aside>,
 ) -> Result<(N::Report, Member<N>), EndError<Member<N>>>
     requires ready { IsIdle set pass }
     requires mailboxes { AreMailboxesOf set mailboxes.items }
     requires others { HasOthers set }
-    requires counted { balance ≡ balance_of (as_member set pass) }
+    requires kept { (balance ≡ balance_of (as_member set pass)) × HasAside pass aside }
     ensures ended { IfOk result (λ last. EndsBy (ClosesBy N.kind) set pass last.0) }
-    ensures same { IfOk result (λ last. last.1 ≡ as_member set pass) }
-    ensures stays { IfErr result (IsBack set pass) }
+    ensures same { IfOk result (λ last.
+        last.1 ≡ record { set = set; pass = pass; aside = aside }) }
+    ensures stays { IfErr result (IsBack (record { set = set; pass = pass; aside = aside })) }
 {
     let Ok(room) = Vec::with_capacity(alloc, mailboxes.len().saturating_add(1)) else {
         let stake = Stake {
             share: Share::Alone(set, mailboxes),
             balance,
+            aside,
         };
         return Err(EndError::Memory(Member::of(stake, pass)));
     };
     match gather(&set, mailboxes, room) {
-        Some(passes) => end_gathered(alloc, set, passes, pass, balance),
+        Some(passes) => end_gathered(alloc, set, passes, pass, balance, aside),
         None => Err(EndError::Lost),
     }
 }
@@ -182,14 +195,16 @@ fn end_gathered<N: Kind>(
     mut passes: Vec<Pass>,
     pass: Pass,
     balance: i64,
+    aside: Option<Aside>,
 ) -> Result<(N::Report, Member<N>), EndError<Member<N>>>
     requires ready { IsIdle set pass }
     requires passes { ArePassesOf set passes.items }
     requires others { AreOthers set passes.items }
-    requires counted { balance ≡ balance_of (as_member set pass) }
+    requires kept { (balance ≡ balance_of (as_member set pass)) × HasAside pass aside }
     ensures ended { IfOk result (λ last. EndsBy (ClosesBy N.kind) set pass last.0) }
-    ensures same { IfOk result (λ last. last.1 ≡ as_member set pass) }
-    ensures stays { IfErr result (IsBack set pass) }
+    ensures same { IfOk result (λ last.
+        last.1 ≡ record { set = set; pass = pass; aside = aside }) }
+    ensures stays { IfErr result (IsBack (record { set = set; pass = pass; aside = aside })) }
     ensures alone { set.passes ≡ 1 → IfErr result EndLacksMemory }
 {
     let who = pass.who() as usize;
@@ -200,6 +215,7 @@ fn end_gathered<N: Kind>(
         let stake = Stake {
             share: Share::Gathered(set, passes),
             balance,
+            aside,
         };
         return Err(EndError::Memory(Member::of(stake, value)));
     }
@@ -211,6 +227,7 @@ fn end_gathered<N: Kind>(
     let stake = Stake {
         share: Share::Gathered(set, passes),
         balance,
+        aside,
     };
     let last = Member::of(stake, pass);
     match told {

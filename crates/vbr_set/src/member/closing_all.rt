@@ -109,7 +109,7 @@ impl<N: Nodes> Member<N> {
 }
 
 // Whether there are fewer members than were opened with their set, or none.
-fn are_too_few<N: Nodes>(members: &[Member<N>]) -> bool
+pub(crate) fn are_too_few<N: Nodes>(members: &[Member<N>]) -> bool
     ensures yes { result ≡ true → AreTooFew members.now }
     ensures no { result ≡ false → ¬ (AreTooFew members.now) }
 {
@@ -140,7 +140,11 @@ fn report_apart<N: Kind>(
 }
 
 // Takes members apart, in their order.
-fn take_apart<N: Nodes>(members: Vec<Member<N>>, stakes: &mut Vec<Stake<N>>, passes: &mut Vec<Pass>)
+pub(crate) fn take_apart<N: Nodes>(
+    members: Vec<Member<N>>,
+    stakes: &mut Vec<Stake<N>>,
+    passes: &mut Vec<Pass>,
+)
     requires stakes { (stakes.old.items ≡ []) × (length members.items ≤ vec_capacity stakes.old) }
     requires passes { (passes.old.items ≡ []) × (length members.items ≤ vec_capacity passes.old) }
     ensures parts { AreParts stakes.new.items passes.new.items }
@@ -155,7 +159,7 @@ fn take_apart<N: Nodes>(members: Vec<Member<N>>, stakes: &mut Vec<Stake<N>>, pas
 }
 
 // Makes the members again, in their order.
-fn put_together<N: Nodes>(
+pub(crate) fn put_together<N: Nodes>(
     stakes: Vec<Stake<N>>,
     passes: Vec<Pass>,
     mut members: Vec<Member<N>>,

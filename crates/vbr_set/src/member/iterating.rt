@@ -1,10 +1,11 @@
 //! Going over the keys of a set, or the entries of a map, by a member.
-ghost use Rattle.vbr_set.specs.Iterating.{CallsNext, CallsNextEntry, CountsKeys, ListsEntries, ListsKeys};
+ghost use Rattle.std.specs.Prelude.{◌≡◌};
+ghost use Rattle.vbr_set.specs.Iterating.{CallsNext, CallsNextEntry, CallsNextNamedEntry, CallsNextNamedKey, CountsKeys, ListsEntries, ListsKeys};
 
 use crate::list_error::ListError;
 use crate::member::Member;
 use std::alloc::Global;
-use vbr_list::{Cursor, Refusal};
+use vbr_list::{Cursor, Entry, Refusal};
 use vbr_words::{Entries, Nodes};
 
 impl<N: Nodes> Member<N> {
@@ -14,7 +15,8 @@ impl<N: Nodes> Member<N> {
     /// [`VbrSet::next_key`]: crate::VbrSet::next_key
     #[inline]
     pub fn next_key(&mut self, cursor: &mut Cursor, budget: u32) -> Result<Option<u64>, Refusal>
-        ensures { CallsNext self.old self.new cursor.old cursor.new budget result }
+        ensures told { CallsNext self.old self.new cursor.old cursor.new budget result }
+        ensures aside { self.new.aside ≡ self.old.aside }
     {
         self.share.set().next_key(&mut self.pass, cursor, budget)
     }
@@ -24,7 +26,8 @@ impl<N: Nodes> Member<N> {
     ///
     /// [`VbrSet::keys_now`]: crate::VbrSet::keys_now
     pub fn keys_now(&mut self, alloc: Global, budget: u32) -> Result<Vec<u64>, ListError>
-        ensures { ListsKeys (λ keys. keys.items) self.old self.new budget result }
+        ensures told { ListsKeys (λ keys. keys.items) self.old self.new budget result }
+        ensures aside { self.new.aside ≡ self.old.aside }
     {
         self.share.set().keys_now(alloc, &mut self.pass, budget)
     }
@@ -33,9 +36,25 @@ impl<N: Nodes> Member<N> {
     ///
     /// [`VbrSet::count_now`]: crate::VbrSet::count_now
     pub fn count_now(&mut self, budget: u32) -> Result<u64, Refusal>
-        ensures { CountsKeys self.old self.new budget result }
+        ensures told { CountsKeys self.old self.new budget result }
+        ensures aside { self.new.aside ≡ self.old.aside }
     {
         self.share.set().count_now(&mut self.pass, budget)
+    }
+}
+
+impl Member {
+    /// The next key at a cursor with its entry, in at most `budget` steps: `VbrSet::next_named` by its pass.
+    #[inline]
+    pub fn next_named(
+        &mut self,
+        cursor: &mut Cursor,
+        budget: u32,
+    ) -> Result<Option<(u64, Entry)>, Refusal>
+        ensures told { CallsNextNamedKey self.old self.new cursor.old cursor.new budget result }
+        ensures aside { self.new.aside ≡ self.old.aside }
+    {
+        self.share.set().next_named(&mut self.pass, cursor, budget)
     }
 }
 
@@ -47,15 +66,30 @@ impl Member<Entries> {
         cursor: &mut Cursor,
         budget: u32,
     ) -> Result<Option<(u64, u64)>, Refusal>
-        ensures { CallsNextEntry self.old self.new cursor.old cursor.new budget result }
+        ensures told { CallsNextEntry self.old self.new cursor.old cursor.new budget result }
+        ensures aside { self.new.aside ≡ self.old.aside }
     {
         self.share.set().next_entry(&mut self.pass, cursor, budget)
+    }
+
+    /// The next key at a cursor with its entry, in at most `budget` steps: `VbrMap::next_named` by its pass.
+    #[inline]
+    pub fn next_named(
+        &mut self,
+        cursor: &mut Cursor,
+        budget: u32,
+    ) -> Result<Option<(u64, Entry)>, Refusal>
+        ensures told { CallsNextNamedEntry self.old self.new cursor.old cursor.new budget result }
+        ensures aside { self.new.aside ≡ self.old.aside }
+    {
+        self.share.set().next_named(&mut self.pass, cursor, budget)
     }
 
     /// All keys with their values, by calls of at most `budget` steps each: `VbrMap::entries_now` by its
     /// pass.
     pub fn entries_now(&mut self, alloc: Global, budget: u32) -> Result<Vec<(u64, u64)>, ListError>
-        ensures { ListsEntries (λ entries. entries.items) self.old self.new budget result }
+        ensures told { ListsEntries (λ entries. entries.items) self.old self.new budget result }
+        ensures aside { self.new.aside ≡ self.old.aside }
     {
         self.share.set().entries_now(alloc, &mut self.pass, budget)
     }

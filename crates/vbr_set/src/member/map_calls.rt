@@ -1,4 +1,5 @@
 //! The calls of a member of a map: inserts, removes, gets and stores.
+ghost use Rattle.std.specs.Prelude.{◌≡◌};
 ghost use Rattle.vbr_set.specs.MapCalls.{ExchangesEntry, GetsEntry, GetsOrInsertsEntry, InsertsEntry, PutsEntry, RemovesEntry, RemovesIf, ReplacesEntry};
 
 use crate::member::Member;
@@ -20,7 +21,8 @@ impl Member<Entries> {
     /// [`VbrMap::insert`]: crate::VbrMap::insert
     #[inline]
     pub fn insert(&mut self, key: u64, value: u64, budget: u32) -> Result<bool, Refusal>
-        ensures { InsertsEntry self.old self.new key value budget result }
+        ensures told { InsertsEntry self.old self.new key value budget result }
+        ensures aside { self.new.aside ≡ self.old.aside }
     {
         let answer = self.share.set().insert(&mut self.pass, key, value, budget);
         self.balance = self.balance.wrapping_add(one_if_yes(&answer));
@@ -37,7 +39,8 @@ impl Member<Entries> {
     /// [`VbrMap::remove`]: crate::VbrMap::remove
     #[inline]
     pub fn remove(&mut self, key: u64, budget: u32) -> Result<Option<u64>, Refusal>
-        ensures { RemovesEntry self.old self.new key budget result }
+        ensures told { RemovesEntry self.old self.new key budget result }
+        ensures aside { self.new.aside ≡ self.old.aside }
     {
         let answer = self.share.set().remove(&mut self.pass, key, budget);
         self.balance = self
@@ -56,7 +59,8 @@ impl Member<Entries> {
     /// [`VbrMap::get`]: crate::VbrMap::get
     #[inline]
     pub fn get(&mut self, key: u64, budget: u32) -> Result<Option<u64>, Refusal>
-        ensures { GetsEntry self.old self.new key budget result }
+        ensures told { GetsEntry self.old self.new key budget result }
+        ensures aside { self.new.aside ≡ self.old.aside }
     {
         self.share.set().get(&mut self.pass, key, budget)
     }
@@ -77,7 +81,8 @@ impl Member<Entries> {
         expected: u64,
         budget: u32,
     ) -> Result<Option<u64>, Refusal>
-        ensures { RemovesIf self.old self.new key expected budget result }
+        ensures told { RemovesIf self.old self.new key expected budget result }
+        ensures aside { self.new.aside ≡ self.old.aside }
     {
         let answer = self
             .share
@@ -102,7 +107,8 @@ impl Member<Entries> {
     /// [`VbrMap::store`]: crate::VbrMap::store
     #[inline]
     pub fn replace(&mut self, key: u64, value: u64, budget: u32) -> Result<Option<u64>, Refusal>
-        ensures { ReplacesEntry self.old self.new key value budget result }
+        ensures told { ReplacesEntry self.old self.new key value budget result }
+        ensures aside { self.new.aside ≡ self.old.aside }
     {
         self.share.set().replace(&mut self.pass, key, value, budget)
     }
@@ -119,7 +125,8 @@ impl Member<Entries> {
     /// [`VbrMap::store`]: crate::VbrMap::store
     #[inline]
     pub fn put(&mut self, key: u64, value: u64, budget: u32) -> Result<Option<u64>, Refusal>
-        ensures { PutsEntry self.old self.new key value budget result }
+        ensures told { PutsEntry self.old self.new key value budget result }
+        ensures aside { self.new.aside ≡ self.old.aside }
     {
         let answer = self.share.set().put(&mut self.pass, key, value, budget);
         self.balance = self
@@ -146,7 +153,8 @@ impl Member<Entries> {
         value: u64,
         budget: u32,
     ) -> Result<Option<u64>, Refusal>
-        ensures { ExchangesEntry self.old self.new key expected value budget result }
+        ensures told { ExchangesEntry self.old self.new key expected value budget result }
+        ensures aside { self.new.aside ≡ self.old.aside }
     {
         self.share
             .set()
@@ -170,7 +178,8 @@ impl Member<Entries> {
         value: u64,
         budget: u32,
     ) -> Result<Option<u64>, Refusal>
-        ensures { GetsOrInsertsEntry self.old self.new key value budget result }
+        ensures told { GetsOrInsertsEntry self.old self.new key value budget result }
+        ensures aside { self.new.aside ≡ self.old.aside }
     {
         let answer = self
             .share

@@ -23,6 +23,7 @@ impl<N: Nodes> Member<N> {
         ensures set { self.new.set ≡ self.old.set }
         ensures same { other.new ≡ other.old }
         ensures meets { HasMet self.old.pass other.old.pass self.new.pass }
+        ensures aside { self.new.aside ≡ self.old.aside }
     {
         self.share.set().meet(&mut self.pass, &mut other.pass);
     }

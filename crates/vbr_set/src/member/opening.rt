@@ -1,5 +1,5 @@
 //! Opening a set or a map for members.
-ghost use Rattle.std.specs.Prelude.{◌≡◌, ◌<◌, ◌≤◌, ◌↔◌, ◌⊎◌, All, [], length, map, IfOk, IsErrOf};
+ghost use Rattle.std.specs.Prelude.{◌≡◌, ◌<◌, ◌≤◌, ◌↔◌, ◌⊎◌, All, [], length, map, IfOk, IsErrOf, None};
 ghost use Rattle.std.specs.List.Sorted.{IsStrictlyIncreasing};
 ghost use Rattle.vbr_slots.specs.Calls.{made_by};
 ghost use Rattle.vbr_slots.specs.Views.{TableView, new_passes};
@@ -8,7 +8,7 @@ ghost use Rattle.vbr_set.specs.MemberView.{IsMember};
 ghost use Rattle.vbr_set.specs.Balances.{balance_of};
 ghost use Rattle.vbr_set.specs.Members.{AreNew, as_member};
 ghost use Rattle.vbr_set.specs.Seats.{AreSeats};
-ghost use Rattle.vbr_set.specs.Sharing.{HasOthers, IsStake, set_shared};
+ghost use Rattle.vbr_set.specs.Sharing.{HasOthers, IsStake, member_with};
 
 use crate::kind::Kind;
 use crate::member::Member;
@@ -136,14 +136,19 @@ impl<N: Nodes> Member<N> {
     // A member with what it has beside its pass.
     pub(crate) fn of(stake: Stake<N>, pass: Pass) -> Member<N>
         requires { IsStake stake pass }
-        ensures { result ≡ as_member (set_shared stake.share) pass }
+        ensures { result ≡ member_with stake pass }
     {
-        let Stake { share, balance } = stake;
+        let Stake {
+            share,
+            balance,
+            aside,
+        } = stake;
         Member {
             before: [0; 16],
             share,
             pass,
             balance,
+            aside,
             after: [0; 16],
         }
     }
@@ -196,7 +201,8 @@ pub(crate) fn hand_out<N: Nodes>(
     requires all { set.passes ≡ length passes.items }
     requires opened { opened ≡ length set.start.keys }
     ensures { IfOk result (λ members.
-        members.items ≡ map (λ pass. record { set = set; pass = pass }) passes.items) }
+        members.items
+        ≡ map (λ pass. record { set = set; pass = pass; aside = None }) passes.items) }
 {
     if passes.len() > 1 {
         return share_out(alloc, set, passes, opened);
@@ -206,6 +212,7 @@ pub(crate) fn hand_out<N: Nodes>(
         let stake = Stake {
             share: Share::Gathered(set, passes),
             balance: first_balance(&pass, opened),
+            aside: None,
         };
         members.push(Member::of(stake, pass))?;
     }
@@ -223,7 +230,8 @@ fn share_out<N: Nodes>(
     requires others { HasOthers set }
     requires opened { opened ≡ length set.start.keys }
     ensures { IfOk result (λ members.
-        members.items ≡ map (λ pass. record { set = set; pass = pass }) passes.items) }
+        members.items
+        ≡ map (λ pass. record { set = set; pass = pass; aside = None }) passes.items) }
 {
     let (mailboxes, seats) = make_mailboxes(alloc, &set, passes.len())?;
     let mut members = Vec::with_capacity(alloc, passes.len())?;
@@ -244,6 +252,7 @@ fn share_out<N: Nodes>(
         let stake = Stake {
             share: Share::Among(Arc::try_clone(&common)?, seat),
             balance: first_balance(&pass, opened),
+            aside: None,
         };
         members.push(Member::of(stake, pass))?;
     }

@@ -66,7 +66,10 @@ impl<N: Kind> Member<N> {
 }
 
 // What is answered where there is no memory for a report: whether there is room is then what the balances tell.
-fn without_report<N: Kind>(members: Vec<Member<N>>, shape: Shape) -> RenewAllError<Member<N>>
+pub(crate) fn without_report<N: Kind>(
+    members: Vec<Member<N>>,
+    shape: Shape,
+) -> RenewAllError<Member<N>>
     requires { ¬ (AreNotAll members.items) }
     ensures { IsWhyUnrenewed N.kind members.items shape result }
 {
@@ -89,7 +92,7 @@ fn added_balances<N: Nodes>(members: &[Member<N>]) -> i64
 }
 
 // How many members there are, where they are as many as were opened with their set.
-fn count_if_all<N: Nodes>(members: &[Member<N>]) -> Option<u32>
+pub(crate) fn count_if_all<N: Nodes>(members: &[Member<N>]) -> Option<u32>
     ensures all { IfSome result (λ count. (count ≡ length members.now)
         × ¬ (AreNotAll members.now)) }
     ensures missing { result ≡ None → AreNotAll members.now }

@@ -21,6 +21,7 @@ impl<N: Nodes> Member<N> {
         ensures set { self.new.set ≡ self.old.set }
         ensures reserves { (steps : ℕ)
             × Reserves self.old.pass self.new.pass wanted result steps }
+        ensures aside { self.new.aside ≡ self.old.aside }
     {
         self.share.set().reserve(&mut self.pass, wanted)
     }
@@ -40,6 +41,7 @@ impl<N: Nodes> Member<N> {
         ensures set { self.new.set ≡ self.old.set }
         ensures tops_up { (steps : ℕ)
             × TopsUp self.old.pass self.new.pass wanted probes result steps }
+        ensures aside { self.new.aside ≡ self.old.aside }
     {
         self.share.set().top_up(&mut self.pass, wanted, probes)
     }

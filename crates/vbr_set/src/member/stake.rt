@@ -1,5 +1,6 @@
 //! What a member has beside its pass.
 use crate::member::share::Share;
+use vbr_at_table::Aside;
 use vbr_words::Nodes;
 
 /// What a member has beside its pass.
@@ -9,4 +10,6 @@ pub struct Stake<N: Nodes> {
     pub(crate) share: Share<N>,
     /// How many keys its calls have added, less those that they took out.
     pub(crate) balance: i64,
+    /// The slot that it has put aside, if there is one.
+    pub(crate) aside: Option<Aside>,
 }

@@ -51,6 +51,7 @@ impl<N: Nodes> Member<N> {
         requires { token.table ≡ self.old.set.table }
         ensures set { self.new.set ≡ self.old.set }
         ensures catches { CatchesUp self.old.set self.old.pass token self.new.pass }
+        ensures aside { self.new.aside ≡ self.old.aside }
     {
         self.share.set().catch_up(&mut self.pass, token);
     }

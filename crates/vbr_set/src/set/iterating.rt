@@ -1,13 +1,16 @@
 //! Going over the keys of a set, or the entries of a map, while other callers make calls.
 ghost use Rattle.std.specs.Prelude.{◌≡◌, ℕ, ◌++◌, List, [], ◌∷◌, None, true, false};
 ghost use Rattle.vbr_slots.specs.Views.{IsOf};
-ghost use Rattle.vbr_set.specs.Iterating.{AreItemsOf, CallsNext, CallsNextEntry, CallsNextWhere, CountsKeys, Gathers, IsCountOf, ListsEntries, ListsKeys};
-ghost use Rattle.vbr_set.specs.Members.{as_member};
+ghost use Rattle.vbr_set.specs.Iterating.{AreItemsOf, CallsNext, CallsNextEntry, CallsNextNamedEntry, CallsNextNamedKey, CallsNextWhere, CountsKeys, Gathers, IsCountOf, ListsEntries, ListsKeys};
+ghost use Rattle.vbr_set.specs.Members.{as_caller, as_member};
 
 use crate::list_error::ListError;
 use crate::set::VbrSet;
 use std::alloc::Global;
-use vbr_list::{Cursor, Refusal, next_entry_at, next_key_at, next_where_at};
+use vbr_list::{
+    Cursor, Entry, Refusal, next_entry_at, next_key_at, next_named_entry_at, next_named_key_at,
+    next_where_at,
+};
 use vbr_slots::Pass;
 use vbr_words::{Entries, Nodes};
 
@@ -123,7 +126,7 @@ impl<N: Nodes> VbrSet<N> {
     ) -> Result<Option<(u64, u64)>, Refusal>
         requires own { IsOf pass.old.trace self.now }
         requires empty_hand { pass.old.hand ≡ None }
-        ensures { CallsNextWhere (as_member self.now pass.old) (as_member self.now pass.new)
+        ensures { CallsNextWhere (as_caller self.now pass.old) (as_caller self.now pass.new)
             cursor.old cursor.new budget result }
     {
         pass.law();
@@ -187,7 +190,7 @@ impl<N: Nodes> VbrSet<N> {
         requires empty_hand { pass.old.hand ≡ None }
         requires none { G.of [] gathered }
         ensures { Gathers G.of G.MayLack
-            (as_member self.now pass.old) (as_member self.now pass.new) budget result }
+            (as_caller self.now pass.old) (as_caller self.now pass.new) budget result }
     {
         pass.law();
         let mut cursor = Cursor::first();
@@ -213,6 +216,28 @@ impl<N: Nodes> VbrSet<N> {
     }
 }
 
+impl VbrSet {
+    /// The next key at a cursor with its entry, which has the value 0, as [`VbrSet::next_key`] gives the key:
+    /// the entry was in the set at a moment of the call.
+    #[inline]
+    pub fn next_named(
+        &self,
+        pass: &mut Pass,
+        cursor: &mut Cursor,
+        budget: u32,
+    ) -> Result<Option<(u64, Entry)>, Refusal>
+        requires own { IsOf pass.old.trace self.now }
+        requires empty_hand { pass.old.hand ≡ None }
+        ensures { CallsNextNamedKey (as_member self.now pass.old) (as_member self.now pass.new)
+            cursor.old cursor.new budget result }
+    {
+        pass.law();
+        let next = next_named_key_at(&self.slots, pass, cursor, budget);
+        pass.law();
+        next
+    }
+}
+
 impl VbrSet<Entries> {
     /// The next key at a cursor with its value, as [`VbrSet::next_key`] gives the key: the two stood in the
     /// map together at a moment of the call.
@@ -230,6 +255,26 @@ impl VbrSet<Entries> {
     {
         pass.law();
         let next = next_entry_at(&self.slots, pass, cursor, budget);
+        pass.law();
+        next
+    }
+
+    /// The next key at a cursor with its entry, as [`VbrSet::next_key`] gives the key: the entry was in the
+    /// map at a moment of the call, and the key had its value then.
+    #[inline]
+    pub fn next_named(
+        &self,
+        pass: &mut Pass,
+        cursor: &mut Cursor,
+        budget: u32,
+    ) -> Result<Option<(u64, Entry)>, Refusal>
+        requires own { IsOf pass.old.trace self.now }
+        requires empty_hand { pass.old.hand ≡ None }
+        ensures { CallsNextNamedEntry (as_member self.now pass.old) (as_member self.now pass.new)
+            cursor.old cursor.new budget result }
+    {
+        pass.law();
+        let next = next_named_entry_at(&self.slots, pass, cursor, budget);
         pass.law();
         next
     }

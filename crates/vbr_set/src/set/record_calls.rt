@@ -1,48 +1,38 @@
-//! The calls of a map for a program that keeps a record of its own beside each slot.
-ghost use Rattle.std.specs.Prelude.{◌≡◌, true, None, IfOk, IfErr};
+//! The calls for a program that keeps a record of its own beside each slot.
+ghost use Rattle.std.specs.Prelude.{◌≡◌, None, IfOk, IfErr};
+ghost use Rattle.vbr_slots.specs.Calls.{Quiet};
 ghost use Rattle.vbr_slots.specs.Views.{IsOf};
+ghost use Rattle.vbr_at_table.specs.Hands.{IsHandOf};
 ghost use Rattle.vbr_at_table.specs.Refusals.{RefusesTake};
 ghost use Rattle.vbr_at_table.specs.Taking.{Takes};
-ghost use Rattle.vbr_list.specs.Entries.{IsStill};
 ghost use Rattle.vbr_list.specs.Holding.{HoldsSlot};
 ghost use Rattle.vbr_list.specs.Inserting.{HasHandAndRoom};
+ghost use Rattle.vbr_set.specs.Answers.{AnswersAll};
+ghost use Rattle.vbr_set.specs.HeldStores.{PutsByHeld, ReplacesByHeld};
+ghost use Rattle.vbr_set.specs.LettingGo.{ComesBack};
+ghost use Rattle.vbr_set.specs.MapCalls.{MapAnswersAll};
 ghost use Rattle.vbr_set.specs.Members.{as_member};
-ghost use Rattle.vbr_set.specs.RecordCalls.{AsksStill, FindsEntry, InsertsByHeld};
+ghost use Rattle.vbr_set.specs.RecordCalls.{AsksStill, FindsEntry, FindsKey, InsertsByHeld, insert_told, store_told};
+ghost use Rattle.vbr_set.specs.RemovingExactly.{TakesExactly};
 
 use crate::set::VbrSet;
 use vbr_at_table::Hand;
-use vbr_list::{Entry, Refusal, StillInHand, get_entry, hold, insert_entry_held, is_still};
+use vbr_list::{
+    Entry, NotReplaced, Refusal, StillInHand, get_entry, has_entry, hold, insert_entry_held,
+    insert_held, is_still, put_held, remove_exactly, replace_held,
+};
+use vbr_machine::laws::a_run_is_a_map;
 use vbr_slots::Pass;
-use vbr_words::Entries;
+use vbr_slots::pass::POOL;
+use vbr_words::{Entries, Nodes};
 
-impl VbrSet<Entries> {
-    /// As [`VbrMap::get`], which has the source: gives the entry of the key, with its value.
-    ///
-    /// [`VbrMap::get`]: crate::VbrMap::get
-    #[inline]
-    pub fn get_entry(
-        &self,
-        pass: &mut Pass,
-        key: u64,
-        budget: u32,
-    ) -> Result<Option<Entry>, Refusal>
-        requires own { IsOf pass.old.trace self.now }
-        requires empty_hand { pass.old.hand ≡ None }
-        ensures { FindsEntry (as_member self.now pass.old) (as_member self.now pass.new)
-            key budget result }
-    {
-        let answer = get_entry(&self.slots, pass, key, budget);
-        pass.law();
-        answer
-    }
-
-    /// Whether the slot of an entry is known to be its own still, in one step, a load: [`is_still`].
+impl<N: Nodes> VbrSet<N> {
+    /// Whether the slot of an entry shows its birth still, in one step, a load: [`is_still`].
     #[inline]
     pub fn is_still(&self, pass: &mut Pass, entry: &Entry) -> bool
         requires own { IsOf pass.old.trace self.now }
-        ensures asks { AsksStill (as_member self.now pass.old) (as_member self.now pass.new)
-            entry.now }
-        ensures still { result ≡ true → IsStill pass.old pass.new entry.now }
+        ensures { AsksStill (as_member self.now pass.old) (as_member self.now pass.new)
+            entry.now result }
     {
         let still = is_still(&self.slots, pass, entry);
         pass.law();
@@ -62,6 +52,119 @@ impl VbrSet<Entries> {
         hold(&self.slots, pass, budget)
     }
 
+    /// Lets the slot in hand go: into the own pool, which is no step, or where that is full into the shared
+    /// one, in one step.
+    pub fn let_go(&self, pass: &mut Pass, hand: Hand)
+        requires own { IsOf pass.old.trace self.now }
+        requires hand { IsHandOf pass.old hand }
+        ensures comes_back { ComesBack hand.slot pass.old pass.new }
+        ensures hand { pass.new.hand ≡ None }
+        ensures quiet { Quiet pass.old.trace pass.new.trace }
+    {
+        pass.law();
+        if pass.pool().len() < POOL {
+            hand.go_back(pass);
+        } else {
+            self.slots.raise(pass, hand.slot());
+            hand.spent(pass);
+        }
+    }
+}
+
+impl VbrSet {
+    /// As [`VbrSet::has`], which has the source: gives the entry of the key, with the value 0.
+    ///
+    /// [`VbrSet::has`]: crate::VbrSet::has
+    #[inline]
+    pub fn get_entry(
+        &self,
+        pass: &mut Pass,
+        key: u64,
+        budget: u32,
+    ) -> Result<Option<Entry>, Refusal>
+        requires own { IsOf pass.old.trace self.now }
+        requires empty_hand { pass.old.hand ≡ None }
+        ensures { FindsKey (as_member self.now pass.old) (as_member self.now pass.new)
+            key budget result }
+    {
+        pass.law();
+        let answer = has_entry(&self.slots, pass, key, budget);
+        pass.law();
+        answer
+    }
+
+    /// Adds a key by the slot in hand, in at most `budget` steps: [`insert_held`].
+    #[inline]
+    pub fn insert_held(
+        &self,
+        pass: &mut Pass,
+        key: u64,
+        hand: Hand,
+        budget: u32,
+    ) -> Result<(), (Hand, StillInHand)>
+        requires own { IsOf pass.old.trace self.now }
+        requires hand { HasHandAndRoom pass.old hand }
+        ensures { InsertsByHeld AnswersAll (insert_told key) pass.old pass.new
+            key 0 budget hand result }
+    {
+        self.slots.kind();
+        pass.law();
+        let answer = insert_held(&self.slots, pass, key, hand, budget);
+        pass.law();
+        answer
+    }
+}
+
+impl VbrSet<Entries> {
+    /// As [`VbrMap::get`], which has the source: gives the entry of the key, with its value.
+    ///
+    /// [`VbrMap::get`]: crate::VbrMap::get
+    #[inline]
+    pub fn get_entry(
+        &self,
+        pass: &mut Pass,
+        key: u64,
+        budget: u32,
+    ) -> Result<Option<Entry>, Refusal>
+        requires own { IsOf pass.old.trace self.now }
+        requires empty_hand { pass.old.hand ≡ None }
+        ensures { FindsEntry (as_member self.now pass.old) (as_member self.now pass.new)
+            key budget result }
+    {
+        a_run_is_a_map();
+        pass.law();
+        let answer = get_entry(&self.slots, pass, key, budget);
+        pass.law();
+        answer
+    }
+
+    /// Takes a key out where its node is that of this entry, by its slot and its birth, in at most `budget`
+    /// steps, and gives the value that was there: [`remove_exactly`]. Else it makes no call and gives none: at
+    /// a moment of it the map lacked the entry.
+    ///
+    /// Budgets, the refusal and what an answer takes are those of [`VbrMap::remove`].
+    ///
+    /// [`VbrMap::remove`]: crate::VbrMap::remove
+    #[inline]
+    pub fn remove_exactly(
+        &self,
+        pass: &mut Pass,
+        key: u64,
+        entry: &Entry,
+        budget: u32,
+    ) -> Result<Option<u64>, Refusal>
+        requires own { IsOf pass.old.trace self.now }
+        requires empty_hand { pass.old.hand ≡ None }
+        ensures { TakesExactly (as_member self.now pass.old) (as_member self.now pass.new)
+            key entry.now budget result }
+    {
+        a_run_is_a_map();
+        pass.law();
+        let answer = remove_exactly(&self.slots, pass, key, entry, budget);
+        pass.law();
+        answer
+    }
+
     /// Adds a key with its value by the slot in hand, in at most `budget` steps: [`insert_entry_held`].
     #[inline]
     pub fn insert_held(
@@ -74,10 +177,58 @@ impl VbrSet<Entries> {
     ) -> Result<(), (Hand, StillInHand)>
         requires own { IsOf pass.old.trace self.now }
         requires hand { HasHandAndRoom pass.old hand }
-        ensures { InsertsByHeld (as_member self.now pass.old) (as_member self.now pass.new)
+        ensures { InsertsByHeld MapAnswersAll (store_told key value) pass.old pass.new
             key value budget hand result }
     {
+        a_run_is_a_map();
+        self.slots.kind();
+        pass.law();
         let answer = insert_entry_held(&self.slots, pass, key, value, hand, budget);
+        pass.law();
+        answer
+    }
+
+    /// Gives a key a value by the slot in hand, whether the key is there or not, in at most `budget` steps, and
+    /// gives the value that it had: [`put_held`].
+    #[inline]
+    pub fn put_held(
+        &self,
+        pass: &mut Pass,
+        key: u64,
+        value: u64,
+        hand: Hand,
+        budget: u32,
+    ) -> Result<Option<u64>, (Hand, u32)>
+        requires own { IsOf pass.old.trace self.now }
+        requires hand { HasHandAndRoom pass.old hand }
+        ensures { PutsByHeld pass.old pass.new key value budget hand result }
+    {
+        a_run_is_a_map();
+        pass.law();
+        let answer = put_held(&self.slots, pass, key, value, hand, budget);
+        pass.law();
+        answer
+    }
+
+    /// Puts the slot in hand in the place of this entry's node, with a value, in at most `budget` steps:
+    /// [`replace_held`].
+    #[inline]
+    pub fn replace_held(
+        &self,
+        pass: &mut Pass,
+        key: u64,
+        entry: &Entry,
+        value: u64,
+        hand: Hand,
+        budget: u32,
+    ) -> Result<(), (Hand, NotReplaced)>
+        requires own { IsOf pass.old.trace self.now }
+        requires hand { HasHandAndRoom pass.old hand }
+        ensures { ReplacesByHeld pass.old pass.new key value budget hand entry.now result }
+    {
+        a_run_is_a_map();
+        pass.law();
+        let answer = replace_held(&self.slots, pass, key, entry, value, hand, budget);
         pass.law();
         answer
     }

@@ -3,7 +3,7 @@ ghost use Rattle.std.specs.Prelude.{◌≡◌, None};
 ghost use Rattle.vbr_machine.specs.declared.history.Op.TheVariants.{Insert, Remove, Has};
 ghost use Rattle.vbr_slots.specs.Views.{IsOf};
 ghost use Rattle.vbr_set.specs.Meetings.{HasMet};
-ghost use Rattle.vbr_set.specs.Members.{Called};
+ghost use Rattle.vbr_set.specs.Members.{Called, as_member};
 ghost use Rattle.vbr_set.specs.Tokens.{CatchesUp, IsTokenOf};
 
 use crate::set::VbrSet;
@@ -25,7 +25,7 @@ impl<N: Nodes> VbrSet<N> {
     pub fn with_pass(&self, pass: Pass) -> VbrSetRef<'_, N>
         requires own { IsOf pass.trace self.now }
         requires empty_hand { pass.hand ≡ None }
-        ensures { result ≡ record { set = self.now; pass = pass } }
+        ensures { result ≡ as_member self.now pass }
     {
         VbrSetRef { set: self, pass }
     }

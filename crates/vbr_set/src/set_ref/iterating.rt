@@ -1,10 +1,10 @@
 //! Going over the keys of a set, or the entries of a map, by a pass with a reference to it.
-ghost use Rattle.vbr_set.specs.Iterating.{CallsNext, CallsNextEntry, CountsKeys, ListsEntries, ListsKeys};
+ghost use Rattle.vbr_set.specs.Iterating.{CallsNext, CallsNextEntry, CallsNextNamedEntry, CallsNextNamedKey, CountsKeys, ListsEntries, ListsKeys};
 
 use crate::list_error::ListError;
 use crate::set_ref::VbrSetRef;
 use std::alloc::Global;
-use vbr_list::{Cursor, Refusal};
+use vbr_list::{Cursor, Entry, Refusal};
 use vbr_words::{Entries, Nodes};
 
 impl<'s, N: Nodes> VbrSetRef<'s, N> {
@@ -37,6 +37,20 @@ impl<'s, N: Nodes> VbrSetRef<'s, N> {
     }
 }
 
+impl<'s> VbrSetRef<'s> {
+    /// The next key at a cursor with its entry, in at most `budget` steps: `VbrSet::next_named`.
+    #[inline]
+    pub fn next_named(
+        &mut self,
+        cursor: &mut Cursor,
+        budget: u32,
+    ) -> Result<Option<(u64, Entry)>, Refusal>
+        ensures { CallsNextNamedKey self.old self.new cursor.old cursor.new budget result }
+    {
+        self.set.next_named(&mut self.pass, cursor, budget)
+    }
+}
+
 impl<'s> VbrSetRef<'s, Entries> {
     /// The next key at a cursor with its value, in at most `budget` steps: `VbrMap::next_entry`.
     #[inline]
@@ -48,6 +62,18 @@ impl<'s> VbrSetRef<'s, Entries> {
         ensures { CallsNextEntry self.old self.new cursor.old cursor.new budget result }
     {
         self.set.next_entry(&mut self.pass, cursor, budget)
+    }
+
+    /// The next key at a cursor with its entry, in at most `budget` steps: `VbrMap::next_named`.
+    #[inline]
+    pub fn next_named(
+        &mut self,
+        cursor: &mut Cursor,
+        budget: u32,
+    ) -> Result<Option<(u64, Entry)>, Refusal>
+        ensures { CallsNextNamedEntry self.old self.new cursor.old cursor.new budget result }
+    {
+        self.set.next_named(&mut self.pass, cursor, budget)
     }
 
     /// All keys with their values, by calls of at most `budget` steps each: `VbrMap::entries_now`.

@@ -3,7 +3,7 @@
 ghost use Rattle.std.specs.Prelude.{◌≡◌, ◌<◌, true, IsTrue};
 ghost use Rattle.vbr_machine.specs.Acceptance.{IsAtIn};
 ghost use Rattle.vbr_machine.specs.Knowledge.{holds, holds_at};
-ghost use Rattle.vbr_machine.specs.declared.event.Step.TheVariants.{LoadLink, LoadBirth, LoadKey, LoadValue};
+ghost use Rattle.vbr_machine.specs.declared.event.Step.TheVariants.{LoadLink, LoadBirth, LoadKey, LoadValue, PeekBirth};
 ghost use Rattle.vbr_slots.specs.AtTables.{IsSameTable, pass_of, trace_of};
 ghost use Rattle.vbr_slots.specs.Views.{Did, KeepsPool, knows};
 
@@ -41,6 +41,19 @@ impl<N: Nodes> AtTable<'_, N> {
     {
         let (slots, stepper) = (self.slots, &mut *self.stepper);
         slots.load(stepper, Step::LoadBirth { slot }, Place::Birth(slot))
+    }
+
+    /// Loads the birth of a slot, whoever has it, in one step. The pass learns nothing by it: it tells which
+    /// incarnation was born there last.
+    #[inline]
+    pub fn peek_birth(&mut self, slot: u32) -> u64
+        requires slot { slot < self.old.slots.now.start.shape.slots }
+        ensures table { IsSameTable self.old self.new }
+        ensures step { Did (PeekBirth slot) (trace_of self.old) (trace_of self.new) result }
+        ensures pool { KeepsPool (pass_of self.old) (pass_of self.new) }
+    {
+        let (slots, stepper) = (self.slots, &mut *self.stepper);
+        slots.load(stepper, Step::PeekBirth { slot }, Place::Birth(slot))
     }
 
     /// Loads the key of a held slot, in one step.

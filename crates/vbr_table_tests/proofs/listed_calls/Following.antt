@@ -15,7 +15,8 @@ use Rattle.vbr_machine.specs.Runs.{world_after}
 use Rattle.vbr_machine.specs.declared.event.Effect.{Effect}
 use Rattle.vbr_machine.specs.declared.event.Effect.TheVariants.{Value, Won, Lost, Answered}
 use Rattle.vbr_machine.specs.declared.event.Step.{Step}
-use Rattle.vbr_machine.specs.declared.event.Step.TheVariants.{ReadEpoch, Advance, LoadStamp, StoreStamp, Raise}
+use Rattle.vbr_machine.specs.declared.event.Step.TheVariants.{ReadEpoch, Advance, LoadStamp, PeekBirth, StoreStamp}
+use Rattle.vbr_machine.specs.declared.event.Step.TheVariants.{Raise}
 use Rattle.vbr_machine.specs.declared.event.Step.TheVariants.{TakeFlag, StoreBirth, StoreKey, StoreValue, StoreLink}
 use Rattle.vbr_machine.specs.declared.event.Step.TheVariants.{LoadLink, LoadBirth, LoadKey, LoadValue, Publish, Mark}
 use Rattle.vbr_machine.specs.declared.event.Step.TheVariants.{Replace, Unlink, ConfirmPresent, ConfirmAbsent}
@@ -158,6 +159,7 @@ same_teaches : (step : Step) (m n stamp : ℕ) (know : Know) → effect_of step 
 same_teaches ReadEpoch m n stamp know same = ap (λ v. learn ReadEpoch v stamp know) (ap value_in same)
 same_teaches (Advance from) m n stamp know same = refl
 same_teaches (LoadStamp s) m n stamp know same = refl
+same_teaches (PeekBirth s) m n stamp know same = refl
 same_teaches (StoreStamp s new) m n stamp know same = refl
 same_teaches (Raise s) m n stamp know same = refl
 same_teaches (TakeFlag s) m n stamp know same =

@@ -49,6 +49,7 @@ pub fn is_in_shape(start: &Start, step: Step) -> bool
     match step {
         Step::ReadEpoch | Step::Advance { .. } => true,
         Step::LoadStamp { slot } => slot < start.slots(),
+        Step::PeekBirth { slot } => slot < start.slots(),
         Step::StoreStamp { slot, .. } => slot < start.slots(),
         Step::Raise { slot } => slot < start.slots(),
         Step::TakeFlag { slot } => slot < start.slots(),
@@ -100,6 +101,7 @@ pub fn place_of_step(step: Step) -> Place
         Step::LoadStamp { slot } | Step::StoreStamp { slot, .. } => Place::Stamp(slot),
         Step::Raise { slot } | Step::TakeFlag { slot } => Place::Flags(word_of_flag(slot)),
         Step::StoreBirth { slot, .. } | Step::LoadBirth { slot } => Place::Birth(slot),
+        Step::PeekBirth { slot } => Place::Birth(slot),
         Step::StoreKey { slot, .. } | Step::LoadKey { slot } => Place::Key(slot),
         Step::StoreValue { slot, .. } | Step::LoadValue { slot } => Place::Value(slot),
         Step::StoreLink { slot, .. } | Step::Mark { slot, .. } => Place::LinkOf(slot),
@@ -188,5 +190,6 @@ pub fn effect_of(step: Step, found: u64) -> Effect
         Step::LoadBirth { .. } | Step::LoadKey { .. } | Step::LoadValue { .. } => {
             Effect::Value(found)
         }
+        Step::PeekBirth { .. } => Effect::Value(found),
     }
 }

@@ -140,6 +140,7 @@ impl Lists {
             Step::Unlink { pred, slot, .. } => self.unlink(event.pass, pred, link, slot),
             Step::ReadEpoch | Step::LoadStamp { .. } | Step::LoadLink { .. } => {}
             Step::LoadBirth { .. } | Step::LoadKey { .. } | Step::LoadValue { .. } => {}
+            Step::PeekBirth { .. } => {}
             Step::ConfirmPresent { .. } | Step::ConfirmAbsent { .. } => {}
         }
     }

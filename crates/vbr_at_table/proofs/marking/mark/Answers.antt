@@ -8,6 +8,7 @@ use Rattle.vbr_at_table.proofs.Accepted.{accepted_checked, mark_accepted}
 use Rattle.vbr_at_table.proofs.WonExchanges.{mark_keeps}
 use Rattle.vbr_at_table.proofs.MadeCalls.{mark_adds_none, mark_failed}
 use Rattle.vbr_at_table.proofs.ExchangeCalls.{mark_told}
+use Rattle.vbr_at_table.proofs.Records.{marked_entry}
 use Rattle.vbr_at_table.proofs.marking.mark.Goals as goal
 
 pub mark-requires-clause-slot : goal.mark-requires-clause-slot
@@ -27,7 +28,7 @@ pub returns-in-Ok-clause-keeps : goal.returns-in-Ok-clause-keeps
 returns-in-Ok-clause-keeps g c = record {
   took = search rules;
   own = search rules;
-  takes_no_slot = did_none c.in-Ok.ensures.found.did refl c.in-Ok.ensures.found.keeps;
+  takes_no_slot = did_none c.in-Ok.ensures.found.did refl tt c.in-Ok.ensures.found.keeps;
   keeps = mark_keeps c.in-Ok.ensures.found.did;
 }
 
@@ -35,7 +36,7 @@ pub returns-in-Err-clause-keeps : goal.returns-in-Err-clause-keeps
 returns-in-Err-clause-keeps g c = record {
   took = search rules;
   own = search rules;
-  takes_no_slot = did_none c.in-Err.ensures.other.did refl c.in-Err.ensures.other.keeps;
+  takes_no_slot = did_none c.in-Err.ensures.other.did refl tt c.in-Err.ensures.other.keeps;
   keeps = search rules;
 }
 
@@ -51,3 +52,7 @@ returns-in-Err-clause-lost g c = record {
       (did_same c.in-Err.ensures.other.did) (did_seen c.in-Err.ensures.other.did)
       (mark_adds_none c.in-Err.ensures.other.did c.in-Err.ensures.other.unexpected);
 }
+
+pub returns-in-Ok-clause-there : goal.returns-in-Ok-clause-there
+returns-in-Ok-clause-there g c = marked_entry c.args.held.now c.in-Slot.slot c.law.ensures.start c.in-Slot.is
+    c.requires.node.held c.requires.node.unmarked c.in-Ok.ensures.found.did

@@ -1,3 +1,4 @@
+use Rattle.std.proofs.Common.{inr}
 use Rattle.std.proofs.Common.{ℕ, Some, sym, ap, ◌∙◌, subst, refl, rules}
 use Rattle.vbr_machine.specs.Start.{Start, IsStart}
 use Rattle.vbr_words.specs.Words.{link_of}
@@ -92,7 +93,9 @@ returns-in-Ok-clause-published g c =
 pub returns-in-Err-clause-stores : goal.returns-in-Err-clause-stores
 returns-in-Err-clause-stores g c =
     let lost = c.in-Err.ensures.other in
-    stores_lost c.fill.ensures.stores lost refl (replace_lost_keeps lost.did lost.unexpected)
+    stores_lost c.fill.ensures.stores lost refl
+    (inr (c.fill.ensures.fills.fills.hand ∙ c.requires.hand.slot ∙ ap Some (sym c.slot-new.ensures)))
+    (replace_lost_keeps lost.did lost.unexpected)
 
 pub returns-in-Err-clause-lost : goal.returns-in-Err-clause-lost
 returns-in-Err-clause-lost g c = record {

@@ -13,7 +13,8 @@ loop-slot-preserved-in-Ok g c =
       reserving_won c.keep.new.self.stepper.now c.behind.result c.loop-slot.invariant.1
           (subst IsStart (sym c.args.at.now.own.1) c.shape.ensures.is_start) c.loop-slot-test.true c.if-used-probes.true
           (subst (λ (xs : List ℕ). length xs < c.args.most) c.pool.ensures.pool c.if-pool-most.true) won.did
-          c.keep.ensures.trace (takes_won won.did won.there won.keeps c.keep.ensures.trace c.keep.ensures.pool hand)
+          c.keep.ensures.trace (takes_won won.did won.there (subst IsStart won.did.same.1 c.law.ensures.start)
+          won.keeps c.keep.ensures.trace c.keep.ensures.pool hand)
           (c.keep.ensures.pool ∙ ap (λ (xs : List ℕ). xs ++ c.loop-slot.slot ∷ []) won.keeps.0) c.behind.ensures,
     )
 

@@ -1,3 +1,4 @@
+use Rattle.std.proofs.Common.{inr}
 use Rattle.std.proofs.Common.{◌≡◌, ℕ, ◌+◌, ◌==◌, Bool, Option, Some, sym, ap, ◌∙◌, subst, refl}
 use Rattle.vbr_machine.specs.Start.{Start}
 use Rattle.vbr_words.specs.Words.{link_of, word_of}
@@ -79,6 +80,7 @@ returns-clause-stores g c =
     let p = c.args.at.now.stepper.now in
     let key = c.store_key.ensures.step in
     let put = c.put_value.ensures in
+    let hand : p.hand ≡ Some c.slot-slot.result = c.requires.hand.slot ∙ ap Some (sym c.slot-slot.ensures) in
     let values : c.store_key.new.self.stepper.now.trace.start.shape.values ≡ p.trace.start.shape.values =
     ap (λ (d : Start). d.shape.values) key.same.1 in
     let P : Bool → Type 0 =
@@ -86,9 +88,9 @@ returns-clause-stores g c =
     let stored = subst P values put.stores in
     let link = c.store_link.ensures.step in
     let first = stores_one key (key_stored_keeps key) c.store_key.ensures.pool.0
-    (did_none key refl c.store_key.ensures.pool) in
+    (did_none key refl (inr hand) c.store_key.ensures.pool) in
     let last = stores_one link (link_stored_keeps link) c.store_link.ensures.pool.0
-    (did_none link refl c.store_link.ensures.pool) in
+    (did_none link refl (inr (put.puts.hand ∙ c.store_key.ensures.pool.1 ∙ hand)) c.store_link.ensures.pool) in
     stores_on (1 + steps_to_value p.trace.start.shape.values) 1
     (stores_on 1 (steps_to_value p.trace.start.shape.values) first stored) last
 

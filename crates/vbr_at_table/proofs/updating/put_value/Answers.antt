@@ -1,3 +1,4 @@
+use Rattle.std.proofs.Common.{inr}
 use Rattle.std.proofs.Common.{◌≡◌, ◌==◌, Bool, true, refl, sym, ap, ◌∙◌, subst}
 use Rattle.vbr_machine.specs.Start.{Start}
 use Rattle.vbr_slots.specs.Views.{knows}
@@ -17,7 +18,7 @@ returns-then-VALUES-clause-stores g c =
     λ values. StoresIn c.args.at.now.stepper.now c.store_value.new.self.stepper.now (steps_to_value values) in
     subst P (sym has)
     (stores_one c.store_value.ensures.step (value_stored_keeps c.store_value.ensures.step) c.store_value.ensures.pool.0
-    (did_none c.store_value.ensures.step refl c.store_value.ensures.pool))
+    (did_none c.store_value.ensures.step refl (inr c.requires.in_hand) c.store_value.ensures.pool))
 
 pub returns-then-VALUES-clause-puts : goal.returns-then-VALUES-clause-puts
 returns-then-VALUES-clause-puts g c =

@@ -1,3 +1,4 @@
+use Rattle.std.proofs.Common.{inr}
 use Rattle.std.proofs.Common.{ℕ, Some, sym, ap, ◌∙◌, subst, refl, rules}
 use Rattle.vbr_machine.specs.Start.{Start}
 use Rattle.vbr_words.specs.Words.{link_of}
@@ -60,7 +61,9 @@ returns-in-Ok-clause-stores g c =
 pub returns-in-Err-clause-stores : goal.returns-in-Err-clause-stores
 returns-in-Err-clause-stores g c =
     let lost = c.in-Err.ensures.other in
-    stores_lost c.fill.ensures.stores lost refl (publish_lost_keeps lost.did lost.unexpected)
+    stores_lost c.fill.ensures.stores lost refl
+    (inr (c.fill.ensures.fills.fills.hand ∙ c.requires.hand.slot ∙ ap Some (sym c.slot-slot.ensures)))
+    (publish_lost_keeps lost.did lost.unexpected)
 
 pub returns-in-Ok-clause-inserted : goal.returns-in-Ok-clause-inserted
 returns-in-Ok-clause-inserted g c =

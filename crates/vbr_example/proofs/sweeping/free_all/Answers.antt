@@ -33,7 +33,7 @@ loop-next-init c =
 pub returns-in_default : goal.returns-in_default
 returns-in_default c =
     let x = c.loop-next.invariant in
-    let y = rw c.in_default.is at c.in_ok-next.ensures in
+    let y = rw c.in_default.is at c.in_ok-next.ensures.told in
     let p = c.args.member.now.pass.trace in
     let d = c.next_key.new.cursor in
     let on = c.an_iteration_goes_on.ensures p c.loop-next.member.pass.trace c.next_key.new.self.pass.trace
@@ -52,8 +52,8 @@ returns-in_default c =
 pub loop-next-preserved : goal.loop-next-preserved
 loop-next-preserved c =
     let x = c.loop-next.invariant in
-    let y = rw c.in-Some.is at c.in_ok-next.ensures in
-    let z = c.in_ok-remove.ensures.answers in
+    let y = rw c.in-Some.is at c.in_ok-next.ensures.told in
+    let z = c.in_ok-remove.ensures.told.answers in
     let p = c.args.member.now.pass.trace in
     let r = c.next_key.new.self.pass.trace in
     let d = c.next_key.new.cursor in

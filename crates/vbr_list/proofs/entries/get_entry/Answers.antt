@@ -1,4 +1,4 @@
-use Rattle.vbr_list.proofs.Names.{ap, rules, ◌∙◌}
+use Rattle.vbr_list.proofs.Names.{ap, rules, true, ◌∙◌}
 use Rattle.vbr_list.proofs.Names.{Get, Start}
 use Rattle.vbr_list.specs.Entries.{FindsNamedEntry, value_of_entry}
 use Rattle.vbr_list.proofs.Told.{calls_as, calls_entry, given_kept, look_up_as}
@@ -9,7 +9,7 @@ returns c =
     let p = c.args.pass.now in
     let q = c.during.new.self in
     let answer = c.during.result in
-    let found : FindsNamedEntry p q c.args.key c.args.budget answer = search rules in
+    let found : FindsNamedEntry true p q c.args.key c.args.budget answer = search rules in
     let same = given_kept p.trace Get c.args.key
     (ap (λ (d : Start). d.shape.values) c.requires.own.1 ∙ c.kind.ensures) in
     record {

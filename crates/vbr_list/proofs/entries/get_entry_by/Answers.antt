@@ -1,4 +1,4 @@
-use Rattle.vbr_list.proofs.Names.{true, rules, ◌≡◌, ◌+◌, refl, ◌∙◌, arith, ap}
+use Rattle.vbr_list.proofs.Names.{rules, ◌≡◌, ◌+◌, refl, ◌∙◌, arith, ap}
 use Rattle.vbr_list.proofs.Names.{adds_on, bucket_of, counts_on, loads_on, no_room, none_on, quiet_on, same_on}
 use Rattle.vbr_list.proofs.Names.{same_refl, Start, took_all, TookWithin}
 use Rattle.vbr_list.proofs.Going.{call_on, call_refl, goes_on, within_call, within_of}
@@ -19,11 +19,11 @@ use Rattle.vbr_list.specs.Entries.{value_of_entry}
 use Rattle.vbr_list.proofs.EntryAnswers.{there_since, tires_entry}
 use Rattle.vbr_list.proofs.entries.get_entry_by.Goals as goal
 
-pub settle_entry-requires-clause-values : goal.settle_entry-requires-clause-values
-settle_entry-requires-clause-values g c =
+pub settle_entry-requires-clause-asked : goal.settle_entry-requires-clause-asked
+settle_entry-requires-clause-asked g c = λ gives.
     ap (λ (d : Start). d.shape.values)
     ((quiet_on c.loop-sight.invariant.3.tries.goes.quiet c.look.ensures.goes.goes.quiet).same.start ∙ c.requires.own.1)
-    ∙ c.requires.values
+    ∙ c.requires.asked gives
 
 pub loop-sight-preserved : goal.loop-sight-preserved
 loop-sight-preserved g c =
@@ -53,7 +53,7 @@ loop-sight-preserved g c =
           let ok = run_at p r whole.same (whole.is_run c.law.ensures.is_run) in
           let own = unchanged_at p p r (bucket_of p.start.shape c.args.key) c.law.ensures.start ok (same_refl p)
           whole.same whole.seen adds in
-          round_on p q m r c.law.ensures.start ok c.args.key (steps_to_answer true) first.same two.same
+          round_on p q m r c.law.ensures.start ok c.args.key (steps_to_answer c.args.gives) first.same two.same
           whole.same first.seen a.seen b.seen own (sighted c.in-Some.sight) c.loop-sight.invariant.4
           c.in-Some.ensures.sight.fresh looks c.settle_entry.ensures.few
           c.in_default-settle_entry.ensures.rolls.loses),
@@ -65,7 +65,7 @@ loop-sight-init g c = (
   refl,
   refl,
   peeks_refl c.args.stepper.now 0 c.args.budget (omega arith),
-  repeated_none 5 c.args.stepper.now.trace c.args.key (3 + steps_to_answer true) 0,
+  repeated_none 5 c.args.stepper.now.trace c.args.key (3 + steps_to_answer c.args.gives) 0,
 )
 
 pub returns-in_default-clause-took : goal.returns-in_default-clause-took
@@ -94,7 +94,7 @@ returns-in_default-clause-finds g c =
     rw c.loop-sight.invariant.2 at (within_call (call_on c.loop-sight.invariant.0 c.look.ensures.goes.call)) in
     rw same (tires_entry (look_up_tires c.law.ensures c.args.key c.loop-sight.invariant.3.tries c.look.ensures.goes.goes
     within (rw (c.loop-sight.invariant.0.budget ∙ c.loop-sight.invariant.2) at tired.tired) (search rules)
-    (few_to_answer true) c.loop-sight.invariant.3.observes c.look.ensures.observes c.loop-sight.invariant.4
+    (few_to_answer c.args.gives) c.loop-sight.invariant.3.observes c.look.ensures.observes c.loop-sight.invariant.4
     looks))
 
 pub returns-then-not-affords-clause-finds : goal.returns-then-not-affords-clause-finds
@@ -107,7 +107,7 @@ returns-then-not-affords-clause-finds g c =
     let within =
     rw c.loop-sight.invariant.2 at (within_call (call_on c.loop-sight.invariant.0 c.look.ensures.goes.call)) in
     rw same (tires_entry (look_up_tires c.law.ensures c.args.key c.loop-sight.invariant.3.tries c.look.ensures.goes.goes
-    within (rw budget at short) (search rules) (few_to_answer true) c.loop-sight.invariant.3.observes
+    within (rw budget at short) (search rules) (few_to_answer c.args.gives) c.loop-sight.invariant.3.observes
     c.look.ensures.observes c.loop-sight.invariant.4
     (looked_again c.law.ensures c.loop-sight.invariant.3.tries.goes.quiet c.look.ensures.goes.goes.quiet looks)))
 
@@ -116,7 +116,7 @@ returns-in-Ok-clause-finds g c =
     let same : c.stepper-in-Ok-1.given.0 ≡ c.settle_entry.new.self.at.stepper.now = search rules in
     let p = c.args.stepper.now in
     let r = c.settle_entry.new.self.at.stepper.now in
-    let op = look_up_op true in
+    let op = look_up_op c.args.gives in
     let first = quiet_on c.loop-sight.invariant.3.tries.goes.quiet c.look.ensures.goes.goes.quiet in
     let call = call_on (call_on c.loop-sight.invariant.0 c.look.ensures.goes.call)
     c.settle_entry.ensures.settles.call in
@@ -133,12 +133,12 @@ returns-in-Ok-clause-finds g c =
     let ok_r = run_at p.trace r.trace (same_on first.same answered.same) answered.is_run in
     let looks = looked_again c.law.ensures begun c.look.ensures.goes.goes.quiet sight in
     let all = call_paid p.trace loop.trace c.look.new.self.at.stepper.now.trace r.trace c.law.ensures.start ok_r
-    c.args.key (3 + steps_to_answer true) begun c.look.ensures.goes.goes.quiet answered.seen
+    c.args.key (3 + steps_to_answer c.args.gives) begun c.look.ensures.goes.goes.quiet answered.seen
     (omega arith, omega arith) c.loop-sight.invariant.4 looks c.settle_entry.new.self.used
-    (steps_to_answer true) c.settle_entry.ensures.few in
+    (steps_to_answer c.args.gives) c.settle_entry.ensures.few in
     let n = listed_for p.trace c.args.key in
     let paid : TookWithin p.trace r.trace
-    (costs_among n (disturbed p.trace r.trace c.args.key) (steps_where true)) =
+    (costs_among n (disturbed p.trace r.trace c.args.key) (steps_where c.args.gives)) =
     within_of c.settle_entry.new.self.used _ (omega (arith, all)) counts in
     rw same (record {
       calls = call_answered c.in-Ok.answer c.law.ensures made (search rules) counts
@@ -154,8 +154,9 @@ returns-in-Ok-clause-finds g c =
             refused = tt;
             within = tt;
             disturbed_within = tt;
-            costs = took_alone (λ t. costs_among n t (steps_where true)) c.args.key paid (omega arith);
+            costs = took_alone (λ t. costs_among n t (steps_where c.args.gives)) c.args.key paid (omega arith);
             disturbed_costs = paid;
           });
       there = there_since r.trace c.args.key first c.in-Ok.answer (rw key at c.in-Ok.ensures.answers.there);
+      zero = c.in-Ok.ensures.answers.zero;
     })

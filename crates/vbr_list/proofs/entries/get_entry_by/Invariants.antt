@@ -1,4 +1,4 @@
-use Rattle.vbr_list.proofs.Names.{◌≡◌, ◌+◌, ◌-◌, true}
+use Rattle.vbr_list.proofs.Names.{◌≡◌, ◌+◌, ◌-◌}
 use Rattle.vbr_list.specs.Pieces.{IsSameCall, Peeks}
 use Rattle.vbr_list.specs.LookUpPieces.{steps_to_answer}
 use Rattle.vbr_list.proofs.Walking.{HasRepeated}
@@ -7,7 +7,7 @@ use Rattle.vbr_list.proofs.entries.get_entry_by.Given as goal
 abbrev pub invariant-loop-sight : goal.invariant-loop-sight
 invariant-loop-sight g l = IsSameCall l.initial.call l.call × (l.initial.call.key ≡ l.key) ×
     (l.initial.call.budget ≡ l.budget) × Peeks l.fn.stepper l.call.at.stepper.now 0 l.call.used l.budget ×
-    HasRepeated 5 l.fn.stepper.trace l.call.at.stepper.now.trace l.key (3 + steps_to_answer true) 0 l.call.used
+    HasRepeated 5 l.fn.stepper.trace l.call.at.stepper.now.trace l.key (3 + steps_to_answer l.fn.gives) 0 l.call.used
 
 abbrev pub decreases-loop-sight : goal.decreases-loop-sight
 decreases-loop-sight g l = l.call.budget - l.call.used

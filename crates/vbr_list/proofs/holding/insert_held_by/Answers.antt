@@ -14,6 +14,7 @@ returns-clause-inserts g c =
       steps = within_all c.link_held-outcome.ensures.counts;
       takes_no_slot = c.link_held-outcome.ensures.takes_no_slot;
       since = c.link_held-outcome.new.self.used;
+      took = took_all c.link_held-outcome.ensures.counts.counts;
       published = c.link_held-outcome.ensures.linked;
       kept = c.link_held-outcome.ensures.kept;
     })

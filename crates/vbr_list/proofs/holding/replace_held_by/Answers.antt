@@ -1,6 +1,4 @@
-use Rattle.vbr_list.proofs.Names.{◌≡◌, IfOk, rules, took_all}
-use Rattle.vbr_list.specs.Holding.{TakesPlace}
-use Rattle.vbr_list.proofs.Going.{ok_as}
+use Rattle.vbr_list.proofs.Names.{◌≡◌, rules, took_all}
 use Rattle.vbr_list.proofs.Preparing.{within_all}
 use Rattle.vbr_list.proofs.holding.replace_held_by.Goals as goal
 
@@ -15,9 +13,8 @@ returns-clause-replaces g c =
     rw same (record {
       steps = within_all c.replace_entry-outcome.ensures.counts;
       takes_no_slot = c.replace_entry-outcome.ensures.takes_no_slot;
-      replaced =
-          ok_as c.replace_entry-outcome.result
-          (λ value x. record { old = x.old; made = x.stores.made; spent = x.stores.spent; slot = x.slot })
-          c.replace_entry-outcome.ensures.replaced;
+      since = c.replace_entry-outcome.new.self.used;
+      took = took_all c.replace_entry-outcome.ensures.counts.counts;
+      replaced = c.replace_entry-outcome.ensures.replaced;
       kept = c.replace_entry-outcome.ensures.kept;
     })

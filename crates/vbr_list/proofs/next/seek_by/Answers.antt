@@ -1,4 +1,4 @@
-use Rattle.vbr_list.proofs.Names.{◌≡◌, ℕ, ◌+◌, ◌*◌, ◌<◌, ◌≤◌, Result, Ok, Err, Option, Some, None, IfErr, IfOk, ap, ◌∙◌}
+use Rattle.vbr_list.proofs.Names.{ℕ, ◌+◌, ◌*◌, ◌<◌, ◌≤◌, Result, Ok, Err, Option, Some, None, IfErr, IfOk}
 use Rattle.vbr_list.proofs.Names.{subst, arith, mul-le}
 use Rattle.vbr_list.proofs.Names.{begins_refl, IsAlone, OutOfSteps, PassLaw, PassView, Refusal, took_all, TookWithin}
 use Rattle.vbr_list.specs.Budgets.{nodes_listed_in, steps_to_value_of}
@@ -84,19 +84,10 @@ module _ {p q : PassView} (law : PassLaw p) {bucket from since budget : ℕ} whe
       (λ alone. let lone = subst (λ t. budget < enough_among n t) (undisturbed_in p.trace q.trace bucket alone) lacks in
       omega (arith, lone)) tt tt
 
-pub returns-in-Some-Some-clause-seeks : goal.returns-in-Some-Some-clause-seeks
-returns-in-Some-Some-clause-seeks g c =
-    let whole : c.seek_in-found.result.0 ≡ Some (Some c.in-Some-Some.node) =
-    c.in-Some-Some.is ∙ ap Some (rw c.in-Some-Some.is at c.in-Some-Some.field-0-is) in
-    let x = rw whole at c.seek_in-found.ensures.sought in
-    seeks_told c.law.ensures (Some c.in-Some-Some.node) _ x x.next.tells.0
-
-pub returns-in-Some-None-clause-seeks : goal.returns-in-Some-None-clause-seeks
-returns-in-Some-None-clause-seeks g c =
-    let whole : c.seek_in-found.result.0 ≡ Some None =
-    c.in-Some-None.is ∙ ap Some (rw c.in-Some-None.is at c.in-Some-None.field-0-is) in
-    let x = rw whole at c.seek_in-found.ensures.sought in
-    seeks_told c.law.ensures None _ x x.next.tells
+pub returns-in-Some-clause-seeks : goal.returns-in-Some-clause-seeks
+returns-in-Some-clause-seeks g c =
+    let x = rw c.in-Some.is at c.seek_in-found.ensures.sought in
+    seeks_told c.law.ensures c.in-Some.next _ x x.next.tells
 
 pub returns-in-None-clause-seeks : goal.returns-in-None-clause-seeks
 returns-in-None-clause-seeks g c = seeks_short c.law.ensures (rw c.in-None.is at c.seek_in-found.ensures.sought)

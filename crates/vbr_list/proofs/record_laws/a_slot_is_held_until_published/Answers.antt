@@ -1,5 +1,5 @@
-use Rattle.vbr_list.proofs.HeldSlots.{held_throughout, held_until_published}
+use Rattle.vbr_list.proofs.HeldSlots.{held_throughout, held_until_placed, held_until_published}
 use Rattle.vbr_list.proofs.record_laws.a_slot_is_held_until_published.Goals as goal
 
 pub returns : goal.returns
-returns c = record { published = held_until_published; kept = held_throughout }
+returns c = record { published = held_until_published; placed = held_until_placed; kept = held_throughout }

@@ -122,11 +122,12 @@ returns-in-Ok-Beyond-clause-next g c =
     let met = rw c.in-Ok-Beyond.field-0-is at c.in-Ok-Beyond.ensures.met in
     let steps = steps_read c.steps_to_value_of.ensures c.value_if_any-read.new.at.own.1 w.reads.quiet.same.start in
     record {
-      tells = tells_next c.value_if_any-read.new.at.stepper.now
-          (record { key = c.in-Ok-Beyond.key; value = c.in-Ok-read.value; is_last = c.is_none-is_last.result })
+      tells = tells_next c.value_if_any-read.new.at.stepper.now c.in-Ok-Beyond.key c.in-Ok-read.value
+          c.named-entry.result c.is_none-is_last.result
           c.in-Ok-Beyond.node c.law.ensures.start i v.looks.goes.quiet met w.reads.quiet c.in-Ok-read.ensures.value
           (is_last_so c.is_none-is_last.result c.decode-in-Ok-Beyond.result.slot c.is_none-is_last.ensures
-          ∙ ap (λ (l : Link). is_none l.slot) c.decode-in-Ok-Beyond.ensures.link);
+          ∙ ap (λ (l : Link). is_none l.slot) c.decode-in-Ok-Beyond.ensures.link)
+          c.named-entry.ensures;
       paid = value_paid c.law.ensures i v.looks v.used (c.affords-in-loop-here.ensures.0 c.if-not-affords-2.false) met
           w.reads steps;
     }

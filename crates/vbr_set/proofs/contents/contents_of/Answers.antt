@@ -1,6 +1,4 @@
-use Rattle.std.proofs.Common.{◌≡◌, Bool, List, length, sym, ap, ◌∙◌, subst, arith}
-use Rattle.std.specs.Prelude.{slice_index}
-use Rattle.vbr_words.specs.declared.place.Place.TheVariants as place
+use Rattle.std.proofs.Common.{◌≡◌, Bool, List, length, sym, ◌∙◌, subst, arith}
 use Rattle.vbr_machine.specs.Accounts.{incarnations_after}
 use Rattle.vbr_slots.proofs.Lemmas.{whole}
 use Rattle.vbr_slots.specs.Rule.{with_opened}
@@ -13,15 +11,7 @@ returns g c = λ opened run x.
     let a = incarnations_after start run in
     let long : c.args.notes.len ≡ length c.note_lists.new.notes =
     (let l = c.args.notes.ok in let k = c.note_lists.auto.notes in let m = c.deref_mut.ensures.len in omega arith) in
-    let told = c.gather-live.ensures.gathered opened run x
+    c.contents_by.ensures opened run x
     (subst (λ (l : List Bool). NotesLists start a l)
     (sym (c.deref.ensures.value ∙ whole c.args.notes.len c.note_lists.new.notes _ long))
-    (c.note_lists.ensures opened run x)) in
-    record {
-      listed = told.0;
-      epoch = ap (slice_index c.args.words.now) c.place_index.ensures.index ∙ x.are.each place.Epoch tt;
-      live = told.1;
-      one_each = c.gather-live.ensures.each;
-      marked = told.2;
-      free = (let fit = c.gather-live.ensures.fit in let slots = c.slots.ensures.slots in omega arith);
-    }
+    (c.note_lists.ensures opened run x))

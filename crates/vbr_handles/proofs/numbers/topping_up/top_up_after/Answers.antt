@@ -16,4 +16,5 @@ returns-then-lacks_slots g c = λ p counted.
     let lacking : (c.args.has_added && lacks_slots m) ≡ true =
     (λ i. c.if-has_added.true i && (sym c.lacks_slots.ensures ∙ c.if-lacks_slots.true) i) in
     subst (λ (b : Bool). TopsUpWhere b c.args.budget p m n) (sym lacking)
-    (topped c.top_up.ensures.set law counted left c.reserve_of-wanted.ensures c.min.ensures c.top_up.ensures.tops_up.1)
+    (topped c.top_up.ensures.set c.top_up.ensures.aside law counted left c.reserve_of-wanted.ensures c.min.ensures
+    c.top_up.ensures.tops_up.1)

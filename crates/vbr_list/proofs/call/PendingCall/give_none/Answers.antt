@@ -1,7 +1,10 @@
-use Rattle.vbr_list.proofs.Names.{rules, refl, None, true}
+use Rattle.vbr_list.proofs.Names.{rules, refl, subst, sym, false, None}
+use Rattle.vbr_list.proofs.Names.{Insert, Op, set_call}
+use Rattle.vbr_at_table.specs.Answering.{IsAnswered}
+use Rattle.vbr_at_table.specs.Values.{IsOtherIn}
 use Rattle.vbr_list.proofs.Disturbing.{loses_link}
 use Rattle.vbr_list.proofs.Going.{settles_step}
-use Rattle.vbr_list.proofs.Sights.{answers_bare}
+use Rattle.vbr_list.proofs.Sights.{answers_bare, none_given, op_gets, op_other}
 use Rattle.vbr_list.proofs.call.PendingCall.give_none.Goals as goal
 
 pub confirm_absent-outcome-requires-clause-gap : goal.confirm_absent-outcome-requires-clause-gap
@@ -10,7 +13,13 @@ confirm_absent-outcome-requires-clause-gap g c =
     record { held = s.0.held; behind = s.0.behind; before = s.1; unmarked = s.0.unmarked }
 
 pub confirm_absent-outcome-requires-clause-op : goal.confirm_absent-outcome-requires-clause-op
-confirm_absent-outcome-requires-clause-op g c = record { other = λ e. absurd (cc); asked = λ get. c.requires.values }
+confirm_absent-outcome-requires-clause-op g c =
+    let start = c.args.self.now.at.stepper.now.trace.start in
+    subst (IsOtherIn start Insert) (sym c.look_up_op.ensures)
+    (record {
+      other = op_other c.args.gives;
+      asked = λ get. c.requires.asked (op_gets c.args.gives get);
+    })
 
 pub returns-in-Ok-clause-settles : goal.returns-in-Ok-clause-settles
 returns-in-Ok-clause-settles g c = settles_step (search rules) refl c.confirm_absent-outcome.ensures.keeps.keeps
@@ -20,7 +29,14 @@ returns-in-Err-clause-settles g c = settles_step (search rules) refl c.confirm_a
 
 pub returns-in-Ok-clause-answers : goal.returns-in-Ok-clause-answers
 returns-in-Ok-clause-answers g c =
-    record { answers = answers_bare true None refl c.in-Ok.ensures.answers; none = refl }
+    let p = c.args.self.now.at.stepper.now.trace in
+    let q = c.confirm_absent-outcome.new.at.stepper.now.trace in
+    let P : Op → Type 0 = λ op. IsAnswered p q (set_call p.who op c.args.self.now.key false) in
+    record {
+      answers = answers_bare c.args.gives None (none_given c.args.gives)
+          (subst P c.look_up_op.ensures c.in-Ok.ensures.answers);
+      none = refl;
+    }
 
 pub returns-in-Err-clause-rolls : goal.returns-in-Err-clause-rolls
 returns-in-Err-clause-rolls g c =

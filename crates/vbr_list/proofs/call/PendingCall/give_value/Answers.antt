@@ -105,7 +105,8 @@ returns-in-Ok-clause-answers g c =
             (answer_on (λ who. given_call who Get key (Some value)) reads.quiet.same reads.adds_none answers.adds);
       };
       value = value;
-      gives = refl;
+      is = refl;
+      zero = λ bare. absurd (cc);
       shows = λ s at_slot. held_entry_since reads.quiet (c.in-Ok.ensures.there.shows s key at_slot keyed);
     }
 

@@ -1,20 +1,15 @@
-use Rattle.vbr_list.proofs.Names.{◌≡◌, ◌+◌, ◌≤◌, ℕ, Bool, true, false, Some, refl, rules, sym, ap, ◌∙◌, subst, arith}
+use Rattle.vbr_list.proofs.Names.{◌≡◌, ◌+◌, ◌≤◌, ℕ, Bool, false, Some, rules, sym, ap, ◌∙◌, subst, arith}
 use Rattle.vbr_list.proofs.Names.{inl}
-use Rattle.vbr_list.proofs.Names.{Ghosts, had_grown, HandView, Insert, knows, Made, set_call, Start, steps_to_update}
-use Rattle.vbr_list.proofs.Names.{Trace}
+use Rattle.vbr_list.proofs.Names.{had_grown, HandView, Insert, knows, Made, set_call, Start, steps_to_update}
 use Rattle.vbr_list.specs.Inserting.{denied}
-use Rattle.vbr_list.specs.Pieces.{IsSameCall}
-use Rattle.vbr_list.specs.declared.call.PendingCall.{PendingCall}
 use Rattle.vbr_list.proofs.Disturbing.{lost_place}
-use Rattle.vbr_list.proofs.HeldInserts.{held_call, held_counts, held_denied, held_linked, held_none, held_tired}
+use Rattle.vbr_list.proofs.HeldInserts.{held_counts, held_denied, held_linked, held_none, held_tired}
 use Rattle.vbr_list.proofs.Inserts.{later, same_later}
-use Rattle.vbr_list.proofs.Linking.{TakesOn, begun, counts_until, denied_then, gap_found, has_denied, has_until}
+use Rattle.vbr_list.proofs.Linking.{counts_until, denied_then, gap_found, has_denied, has_until}
 use Rattle.vbr_list.proofs.Linking.{lost_then, none_until, succ_found, takes_on}
 use Rattle.vbr_list.proofs.Preparing.{if_failed, if_went}
-use Rattle.vbr_list.proofs.Stores.{hand_kept}
 use Rattle.vbr_list.proofs.Told.{told_as, told_bare}
 use Rattle.vbr_list.proofs.ValueReads.{few_to_update}
-use Rattle.vbr_list.proofs.call.PendingCall.link_held.Given.{Over}
 use Rattle.vbr_list.proofs.call.PendingCall.link_held.Goals as goal
 
 -- the steps that an update makes

@@ -1,6 +1,7 @@
 use Rattle.vbr_list.proofs.Names.{refl, ◌≡◌, ◌+◌, ℕ, true, false, Some, rules, arith, sym, ap, ◌∙◌, subst, inl, inr}
 use Rattle.vbr_list.proofs.Names.{◌⊎◌}
-use Rattle.vbr_list.proofs.Names.{At, counts_on, Get, held_kept, KeyAt, knows, made_then, Names, no_room, quiet_on}
+use Rattle.vbr_list.proofs.Names.{At, begins_refl, counts_on, Get, held_kept, KeyAt, knows, made_then, Names, no_room}
+use Rattle.vbr_list.proofs.Names.{quiet_on}
 use Rattle.vbr_list.proofs.Names.{Start}
 use Rattle.vbr_list.specs.Pieces.{Goes}
 use Rattle.vbr_list.specs.Told.{given_call}
@@ -14,7 +15,7 @@ use Rattle.vbr_list.proofs.KeptHands.{hand_on}
 use Rattle.vbr_list.proofs.Marks.{apart, marks_behind}
 use Rattle.vbr_list.proofs.Moments.{cur_is, key_found, key_found_since}
 use Rattle.vbr_list.proofs.FoundValues.{located_on, value_found}
-use Rattle.vbr_list.proofs.Marking.{mark_made, mark_told, pred_marked}
+use Rattle.vbr_list.proofs.Marking.{mark_made, mark_told, marked_found, pred_marked}
 use Rattle.vbr_list.proofs.ReadFirst.{cur_lost_since, found_lost_since}
 use Rattle.vbr_list.proofs.Reaching.{key_kept, slot_same}
 use Rattle.vbr_list.proofs.Sufficing.{any_error}
@@ -146,6 +147,7 @@ returns-then-not-takes_out-clause-answers g c =
           ((λ i. given_call (reads.quiet.same.who i) Get key there)
           ∙ sym (given_kept p Get key (c.requires.expects some) there)
           ∙ told_op p key there (sym (kept_gets c.args.expected there some kept))) c.in_ok-tell_found.ensures.told;
+      marks = λ yes. absurd (let no : true ≡ false = sym yes ∙ kept in cc);
       unlists = λ yes room. absurd (let no : true ≡ false = sym yes ∙ kept in cc);
       paid = inl (record {
         few = omega (arith, steps, one);
@@ -209,6 +211,8 @@ returns-then-affords-clause-answers g c =
       made = told_as
           (told_op c.args.self.now.at.stepper.now.trace c.args.self.now.key (Some c.in_ok-value.value) (sym taken))
           (made_then told then);
+      marks = λ yes. marked_found c.requires.locates c.in-Some.is c.requires.present reads read removed
+          c.in_ok-marked.ensures.there then.seen;
       paid = by_either {C = E} c.unlink_marked.ensures.paid
           (λ soon. inl
           (record {
@@ -253,6 +257,9 @@ returns-else-affords-clause-answers g c =
       made = told_as
           (told_op c.args.self.now.at.stepper.now.trace c.args.self.now.key (Some c.in_ok-value.value) (sym taken))
           told;
+      marks = λ yes. marked_found c.requires.locates c.in-Some.is c.requires.present reads c.in_ok-value.ensures.value
+          c.in_ok-marked.ensures.removed c.in_ok-marked.ensures.there
+          (begins_refl c.mark-outcome.new.at.stepper.now.trace.seen);
       paid = inl (record {
         few = omega (arith, steps);
         leaves = λ yes room. absurd (omega (arith, steps, short, room));

@@ -3,6 +3,9 @@ use Rattle.vbr_list.proofs.Names.{had_taken, HandView, Refusal, RefusesTake}
 use Rattle.vbr_list.proofs.Preparing.{spent_rest}
 use Rattle.vbr_list.proofs.call.PendingCall.provide.Goals as goal
 
+-- ---- a slot is in hand
+
+-- what the pass had it has still
 pub returns-in-Ok-clause-prepares : goal.returns-in-Ok-clause-prepares
 returns-in-Ok-clause-prepares g c = record {
   call = search rules;
@@ -14,6 +17,9 @@ returns-in-Ok-clause-prepares g c = record {
   wins = search rules;
 }
 
+-- ---- none is
+
+-- the epoch is spent
 pub returns-in-EpochSpent-clause-refused : goal.returns-in-EpochSpent-clause-refused
 returns-in-EpochSpent-clause-refused g c =
     let p = c.args.self.now.at.stepper.now in

@@ -1,10 +1,17 @@
-use Rattle.vbr_list.proofs.Names.{◌≡◌, ◌+◌, ℕ, Bool, true, false, Option, Some, None, arith, sym, subst, ◌∙◌}
-use Rattle.vbr_list.proofs.Names.{counts_on, Ghosts, had_grown, had_on, Know, MadeTwo, none_on, quiet_on, Remove}
-use Rattle.vbr_list.proofs.Names.{Trace, two_before}
+use Rattle.vbr_list.proofs.Names.{◌≡◌, ℕ, true, false, Option, Some, None, arith, refl, sym, subst, ◌∙◌}
+use Rattle.vbr_list.proofs.Names.{inl, inr, ⊎_elim}
+use Rattle.vbr_list.proofs.Names.{counts_on, Ghosts, had_grown, had_on, IsRun, IsSame, IsStart, KeyAt, knows, MadeTwo}
+use Rattle.vbr_list.proofs.Names.{none_on}
+use Rattle.vbr_list.proofs.Names.{Quiet, quiet_on, Remove, Slot, Start, two_before}
 use Rattle.vbr_at_table.specs.Records.{PublishesSlot}
-use Rattle.vbr_list.specs.Replacing.{MayStoreNode}
-use Rattle.vbr_list.specs.Settling.{MaySettle}
-use Rattle.vbr_list.specs.Telling.{IsThere, KnowsThere}
+use Rattle.vbr_at_table.specs.declared.held.Marked.{Marked}
+use Rattle.vbr_list.specs.OtherEntries.{ReplacedEntry}
+use Rattle.vbr_list.specs.Leaving.{LeavesReplaced}
+use Rattle.vbr_list.specs.Pieces.{trace_in}
+use Rattle.vbr_list.specs.Removing.{SearchesOn}
+use Rattle.vbr_list.specs.Replacing.{MayStoreNode, ReplacesFound, UnlinksAtOnce, UnlinksReplaced}
+use Rattle.vbr_list.specs.Settling.{MaySettle, SettlesIn}
+use Rattle.vbr_list.specs.Telling.{KnowsThere}
 use Rattle.vbr_list.specs.Told.{given_call, stored_call}
 use Rattle.vbr_list.specs.declared.call.PendingCall.{PendingCall}
 use Rattle.vbr_list.specs.declared.found.Found.{Found}
@@ -12,8 +19,10 @@ use Rattle.vbr_list.proofs.FoundValues.{few_where, read_goes}
 use Rattle.vbr_list.proofs.Going.{call_on}
 use Rattle.vbr_list.proofs.Publishing.{published_since}
 use Rattle.vbr_list.proofs.ReadFirst.{found_lost_since}
-use Rattle.vbr_list.proofs.Settled.{settles_after}
+use Rattle.vbr_list.proofs.ReplacedEntries.{entry_since}
+use Rattle.vbr_list.proofs.Settled.{settles_after, settles_since}
 use Rattle.vbr_list.proofs.Stores.{all_but_then, two_since, unless_since}
+use Rattle.vbr_list.proofs.Sweeping.{leaves_replaced, leaves_replaced_since}
 use Rattle.vbr_list.proofs.call.PendingCall.replace_by_held.Goals as goal
 
 -- a piece that stores a node may have settled the call
@@ -22,8 +31,8 @@ stores_settled a = record { call = a.call; counts = a.counts; more = a.more; tak
 
 -- what was found present has a value there
 value_there : {N : Type 0} {kind : Ghosts N} {c : PendingCall N kind} (found : Found) (there : Option ℕ) →
-    found.present ≡ true → KnowsThere c found there → (old : ℕ) × KnowsThere c found (Some old)
-value_there found (Some old) present k = (old, k)
+    found.present ≡ true → KnowsThere c found there → (old : ℕ) × KnowsThere c found (Some old) × (there ≡ Some old)
+value_there found (Some old) present k = (old, k, refl)
 value_there found None present k = absurd (let no : found.present ≡ false = k.is in cc)
 
 pub returns-in_default-clause-had : goal.returns-in_default-clause-had
@@ -57,12 +66,15 @@ returns-in-Err-clause-back g c =
     let used = read.used in
     let more = c.replace_found.ensures.tries.few in
     record {
-      given = record {
-        quiet = quiet_on read.reads.quiet back.quiet;
-        hand = back.hand;
-        loses = found_lost_since c.args.found.now c.law.ensures read.reads c.in-Ok.ensures.found.keeps back.loses;
+      settles = record {
+        given = record {
+          quiet = quiet_on read.reads.quiet back.quiet;
+          hand = back.hand;
+          loses = found_lost_since c.args.found.now c.law.ensures read.reads c.in-Ok.ensures.found.keeps back.loses;
+        };
+        few = omega (arith, few, used, more);
       };
-      few = omega (arith, few, used, more);
+      same = rw c.in-Err.is at c.replace_found.ensures.by;
     }
 
 pub returns-clause-settles : goal.returns-clause-settles
@@ -93,33 +105,87 @@ returns-clause-had g c =
     (all_but_then p q r (rw c.in-Ok-replace_found.is at c.replace_found.ensures.had)
     (had_grown q r b.takes_no_slot.grows b.hand))
 
+-- what the unlinking cost, after the replacement
+replaced_paid : {N : Type 0} {kind : Ghosts N} {c d e : PendingCall N kind} (value : ℕ) (found : Found)
+    (gone : Marked) → IsStart (trace_in c).start → MayStoreNode c d → ReplacesFound value c d found gone →
+    IsSame (trace_in c) (trace_in d) → IsRun (trace_in d).start (trace_in d).passes (trace_in d).seen →
+    Quiet (trace_in d) (trace_in e) → UnlinksReplaced d e found.pred gone.slot → SettlesIn 6 true c e found
+replaced_paid {c = c} {d = d} {e = e} value found gone start first x same run then paid =
+    let p = trace_in c in
+    let q = trace_in d in
+    let r = trace_in e in
+    let key = first.call.key in
+    let low = first.few in
+    let budget = first.call.budget in
+    let K : ℕ → Type 0 = KeyAt (knows q) (Slot gone.slot) in
+    ⊎_elim (λ (soon : UnlinksAtOnce d e gone.slot). inl (record {
+      few = (let few = soon.few in omega (arith, few, low));
+      leaves = λ yes room.
+          leaves_replaced p q r gone.slot c.key start same run x.replaced (subst K key x.old.key) then
+          (soon.leaves (omega (arith, room, low, budget)));
+    }))
+    (λ (on : SearchesOn q r d.key d.used e.used found.pred). (
+    let S : ℕ → Type 0 = λ k. SearchesOn q r k d.used e.used found.pred in
+    inr (record { marked = q; marks = x.marks; used = d.used; few = low; searches = subst S key on })))
+    paid
+
 pub returns-clause-replaced : goal.returns-clause-replaced
 returns-clause-replaced g c =
-    let o = c.args.self.now.at.stepper.now.trace in
+    let b = c.args.self.now in
+    let d = c.replace_found.new.self in
+    let e = c.unlink_replaced.new.self in
+    let f = c.args.found.now in
+    let o = b.at.stepper.now.trace in
     let p = c.read_found.new.self.at.stepper.now.trace in
-    let q = c.replace_found.new.self.at.stepper.now.trace in
-    let r = c.unlink_replaced.new.self.at.stepper.now.trace in
+    let q = d.at.stepper.now.trace in
+    let r = e.at.stepper.now.trace in
     let read = c.read_found.ensures in
+    let went = read_goes {c = b} {d = c.read_found.new.self} _ read.call read.used read.reads in
     let quiet = read.reads.quiet in
-    let there = value_there {c = c.read_found.new.self} c.args.found.now c.in-Ok._there c.requires.found.present
+    let there = value_there {c = c.read_found.new.self} f c.in-Ok.there c.requires.found.present
     c.in-Ok.ensures.found.known in
-    let stores = c.in-Ok-replace_found.ensures.replaced.stores there.0 there.1 in
+    let x = c.in-Ok-replace_found.ensures.replaced in
+    let stores = x.stores there.0 there.1 in
     let later = c.unlink_replaced.ensures.goes.goes.quiet in
+    let key = read.call.key in
     let M : ℕ → Type 0 =
-    λ key. MadeTwo (given_call p.who Remove key (Some there.0)) (stored_call p.who key c.args.value true) p q in
-    let made = subst M read.call.key stores.made in
-    let S : ℕ → Type 0 = λ key. PublishesSlot o q c.args.hand.slot c.args.hand.birth key in
+    λ k. MadeTwo (given_call p.who Remove k (Some there.0)) (stored_call p.who k c.args.value true) p q in
+    let made = subst M key stores.made in
+    let S : ℕ → Type 0 = λ k. PublishesSlot o q c.args.hand.slot c.args.hand.birth k in
+    let few = few_where f.present in
+    let used = read.used in
+    let T : Start → Type 0 = IsStart in
+    let own = subst T (sym quiet.same.start) c.law.ensures.start in
     record {
       old = there.0;
+      is = there.2;
       stores = record {
-        made = two_before (two_since quiet made) later;
-        spent = c.unlink_replaced.ensures.goes.goes.hand.hand ∙ stores.spent;
+        stores = record {
+          stores = record {
+            made = two_before (two_since quiet made) later;
+            spent = c.unlink_replaced.ensures.goes.goes.hand.hand ∙ stores.spent;
+          };
+          leaves = λ yes room.
+              let L : ℕ → Type 0 = LeavesReplaced p r in
+              leaves_replaced_since r b.key c.law.ensures.start quiet
+              (subst L key (leaves_replaced p q r c.in-Ok-replace_found.marked.slot c.read_found.new.self.key own
+              stores.made.same stores.made.is_run x.replaced
+              (rw c.replace_found.ensures.tries.call.key at x.old.key) later (c.unlink_replaced.ensures.leaves room)));
+        };
+        slot = record {
+          ended = q;
+          same = (two_since quiet made).same;
+          to = later.seen;
+          published = subst S key
+              (published_since quiet (rw c.in-Ok-replace_found.is at c.replace_found.ensures.by));
+        };
+        paid = settles_since b c.read_found.new.self e f c.law.ensures went (omega (arith, used, few))
+            read.reads.adds_none c.in-Ok.ensures.found.keeps true
+            (replaced_paid {c = c.read_found.new.self} {d = d} {e = e} c.args.value f c.in-Ok-replace_found.marked own
+            c.replace_found.ensures.tries x stores.made.same stores.made.is_run later
+            c.unlink_replaced.ensures.paid);
       };
-      slot = record {
-        ended = q;
-        same = (two_since quiet made).same;
-        to = later.seen;
-        published = subst S read.call.key
-            (published_since quiet (rw c.in-Ok-replace_found.is at c.replace_found.ensures.by));
-      };
+      gone = λ node is s place.
+          let E : ℕ → Type 0 = λ k. ReplacedEntry p.start p.seen q.seen p.who s node.birth k there.0 in
+          entry_since q r quiet later.seen (subst E key (x.entry there.0 there.1 node is s place));
     }

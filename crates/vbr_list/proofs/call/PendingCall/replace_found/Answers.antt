@@ -2,9 +2,13 @@ use Rattle.vbr_list.proofs.Names.{◌≡◌, ℕ, ◌+◌, ◌<◌, ◌≤◌, B
 use Rattle.vbr_list.proofs.Names.{ap, ◌∙◌, subst}
 use Rattle.vbr_list.proofs.Names.{At, counts_on, CountsSteps, Ghosts, had_spent, HandView, held_kept, IsRun, keeps_on}
 use Rattle.vbr_list.proofs.Names.{key_on, KeyAt, knows, Names, none_on, PassView, POOL, quiet_on, ReadsIn}
-use Rattle.vbr_list.proofs.Names.{replaced_since, Start, steps_to_birth, steps_to_update, steps_to_value, value_on}
+use Rattle.vbr_list.proofs.Names.{replaced_since, ReplacedAt, Slot, Start, steps_to_birth, steps_to_update}
+use Rattle.vbr_list.proofs.Names.{steps_to_value, value_on}
 use Rattle.vbr_list.proofs.Going.{counts_step, goes_counted, took_same}
+use Rattle.vbr_machine.specs.Membership.{BirthAt}
 use Rattle.vbr_at_table.specs.Exchanges.{StoresIn}
+use Rattle.vbr_at_table.specs.Values.{ValueAt}
+use Rattle.vbr_at_table.specs.declared.held.Held.{Held}
 use Rattle.vbr_list.specs.Pieces.{IsSameCall, pass_in, trace_in}
 use Rattle.vbr_list.specs.Replacing.{MayStoreNode}
 use Rattle.vbr_list.specs.declared.call.PendingCall.{PendingCall}
@@ -16,7 +20,11 @@ use Rattle.vbr_list.proofs.Reaching.{key_kept, pred_on, slot_same}
 use Rattle.vbr_list.proofs.ReadFirst.{cur_lost_since}
 use Rattle.vbr_list.proofs.Stores.{had_same, hand_kept, two_since}
 use Rattle.vbr_list.proofs.Publishing.{published_since}
+use Rattle.vbr_list.proofs.ReplacedEntries.{gone_entry}
 use Rattle.vbr_list.proofs.call.PendingCall.replace_found.Goals as goal
+
+some_same : {A : Type 0} (x y : A) → Some x ≡ Some y → x ≡ y
+some_same x y e = cc
 
 pub birth_after-named-requires : goal.birth_after-named-requires
 birth_after-named-requires g c = record { held = (cur_is c.requires.read.1.locates c.in-Some.is).held }
@@ -133,6 +141,7 @@ returns-in-Ok-replace-clause-replaced g c =
     let R : IsRun p.start p.passes r.seen = run_at p r two.same two.is_run in
     let steps = reads.takes_no_slot.count in
     let steps_last = c.replace.ensures.stores.takes_no_slot.count in
+    let old_node = replaced_since p q r c.law.ensures.start quiet told.old in
     record {
       stores = λ old known. record {
         made = two_since quiet
@@ -150,12 +159,25 @@ returns-in-Ok-replace-clause-replaced g c =
         key = subst K (sym told.place) (key_kept c.in-Some.cur.at k keeps there);
         behind = pred.behind;
       };
-      replaced = replaced_since p q r c.law.ensures.start quiet told.old;
+      replaced = old_node;
       marks = marks_behind p q r k f.pred c.in-Some.cur c.law.ensures.start R quiet reads.adds_none made_now.same
           told.leaves
           (apart p c.law.ensures.start c.law.ensures.is_run f.pred.at c.in-Some.cur.at k first.locates.pred.behind
           there)
           keeps.epoch (steps_last ∙ steps) pred.held pred.unmarked pred.inside;
+      entry = λ old known node found s at_slot.
+          let same : c.in-Some.cur ≡ node = some_same c.in-Some.cur node (sym c.in-Some.is ∙ found) in
+          let here : c.in-Some.cur.at ≡ Slot s = ap (λ (h : Held). h.at) same ∙ at_slot in
+          let slot : c.in-Ok-replace.marked.slot ≡ s =
+          sym (slot_same c.in-Ok-replace.marked.slot s (told.place ∙ here)) in
+          let O : ℕ → Type 0 = ReplacedAt p.start p.seen r.seen p.who (knows r).epoch in
+          let V : At → Type 0 = λ place. ValueAt (knows r) place old in
+          let B : Held → Type 0 = λ h. BirthAt (knows r) h.at h.birth in
+          let A : At → Type 0 = λ place. BirthAt (knows r) place node.birth in
+          gone_entry p r c.law.ensures.start two.same R two.seen s node.birth k old (subst O slot old_node)
+          (subst A at_slot (subst B same (held_kept c.in-Some.cur keeps y.held).birth))
+          (subst K here (key_kept c.in-Some.cur.at k keeps there))
+          (subst V here (value_on c.in-Some.cur.at old keeps (known.is.known c.in-Some.cur c.in-Some.is)));
     }
 
 pub returns-in-Ok-replace-clause-had : goal.returns-in-Ok-replace-clause-had

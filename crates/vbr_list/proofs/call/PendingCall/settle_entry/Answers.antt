@@ -1,4 +1,4 @@
-use Rattle.vbr_list.proofs.Names.{◌≡◌, sym, subst, Option, knows}
+use Rattle.vbr_list.proofs.Names.{sym, subst, Option, knows}
 use Rattle.vbr_list.specs.Entries.{EntryAnswers}
 use Rattle.vbr_list.specs.LookUpPieces.{IsSightFor}
 use Rattle.vbr_list.specs.declared.entries.Entry.{Entry}
@@ -10,7 +10,7 @@ pub returns-in-Ok-clause-answers : goal.returns-in-Ok-clause-answers
 returns-in-Ok-clause-answers g c =
     let P : Sight → Type 0 = IsSightFor c.args.self.now in
     let sight = subst P c.in-Present.is c.requires.sight in
-    let E : Option Entry → Type 0 = EntryAnswers c.args.self.now c.give_value.new.self in
+    let E : Option Entry → Type 0 = EntryAnswers c.args.gives c.args.self.now c.give_node.new.self in
     subst E (sym c.entry_of.ensures)
-    (entry_answers c.in-Present.node c.in-Ok.value (knows c.args.self.now.at.stepper.now.trace) c.args.self.now.key
-    sight.2 c.in-Ok.ensures.answers)
+    (entry_answers c.in-Present.node c.in-Ok.value c.args.gives (knows c.args.self.now.at.stepper.now.trace)
+    c.args.self.now.key sight.2 c.in-Ok.ensures.answers)

@@ -15,8 +15,8 @@ pub give_none-requires-clause-sight : goal.give_none-requires-clause-sight
 give_none-requires-clause-sight g c =
     let P : Sight → Type 0 = IsSightFor c.args.self.now in subst P c.in-Absent.is c.requires.sight
 
-pub give_none-requires-clause-values : goal.give_none-requires-clause-values
-give_none-requires-clause-values g c = c.requires.asked c.if-not-gives.false
+pub give_none-requires-clause-asked : goal.give_none-requires-clause-asked
+give_none-requires-clause-asked g c = λ _. c.requires.asked c.if-not-gives.false
 
 pub returns-then-not-gives-clause-few : goal.returns-then-not-gives-clause-few
 returns-then-not-gives-clause-few g c =
@@ -31,7 +31,7 @@ returns-in-Present-clause-few g c =
 pub returns-in-Absent-clause-few : goal.returns-in-Absent-clause-few
 returns-in-Absent-clause-few g c =
     let P : Bool → Type 0 = λ gives. c.give_none.new.self.used ≤ c.args.self.now.used + steps_to_answer gives in
-    subst P (sym c.if-not-gives.false) c.give_none.ensures.few
+    subst P (sym c.if-not-gives.false) (let one = c.give_none.ensures.few in omega (arith, one))
 
 pub returns-then-not-gives-clause-answers : goal.returns-then-not-gives-clause-answers
 returns-then-not-gives-clause-answers g c =

@@ -3,6 +3,7 @@ use Rattle.std.specs.Int.{w64}
 use Rattle.std.proofs.lemmas.Int.{to_z-of_z}
 use Rattle.vbr_slots.specs.Views.{IsOf, PassView}
 use Rattle.vbr_set.specs.Balances.{balance_of}
+use Rattle.vbr_at_table.specs.Aside.{HasAside}
 use Rattle.vbr_set.specs.Members.{as_member}
 use Rattle.vbr_set.specs.Sharing.{AreOthers, ArePassesOf}
 use Rattle.vbr_set.proofs.Ends.{all_of, out_again, with_own}
@@ -26,14 +27,15 @@ of-last-requires g c =
             subst (λ (ps : List PassView). ArePassesOf c.args.set ps × AreOthers c.args.set ps) (sym passes)
             (c.requires.passes, c.requires.others);
       };
-      counted = to_z-of_z w64 c.args.balance (search rules) ∙ c.requires.counted
+      counted = to_z-of_z w64 c.args.balance (search rules) ∙ c.requires.kept.0
           ∙ sym (ap (λ (p : PassView). balance_of (as_member c.args.set p)) pass);
+      put_aside = subst (λ (p : PassView). HasAside p c.args.aside) (sym pass) c.requires.kept.1;
     }
 
 pub returns-in-Ok-clause-same : goal.returns-in-Ok-clause-same
 returns-in-Ok-clause-same g c =
     let pass : c.remove-pass.result ≡ c.args.pass = search rules in
-    c.of-last.ensures ∙ ap (as_member c.args.set) pass
+    c.of-last.ensures ∙ ap (λ (p : PassView). record { set = c.args.set; pass = p; aside = c.args.aside }) pass
 
 pub returns-in-Ok-clause-ended : goal.returns-in-Ok-clause-ended
 returns-in-Ok-clause-ended g c = record {

@@ -1,6 +1,6 @@
 use Rattle.std.proofs.Common.{◌≡◌, ◌^◌, ◌<◌, [], Some, None, Ok, sym, ap, ◌∙◌, subst, arith}
 use Rattle.vbr_list.specs.declared.cursor.Cursor.{Cursor}
-use Rattle.vbr_set.specs.Members.{as_member}
+use Rattle.vbr_set.specs.Members.{as_caller}
 use Rattle.vbr_set.proofs.Listing.{GathersAs, answered_as, gone_over, goes_over, later_bucket, gathered_later}
 use Rattle.vbr_set.proofs.Listing.{gathered_on, lists_none, nearer, nearer_later, stands_short, stood, stood_not}
 use Rattle.vbr_set.proofs.set.VbrSet.go_over.Given as given
@@ -9,8 +9,8 @@ use Rattle.vbr_set.proofs.set.VbrSet.go_over.Goals as goal
 pub loop-key-init : goal.loop-key-init
 loop-key-init g c =
     let P : Cursor → Type 0 =
-    λ d. GathersAs g.G.Gathered.of (as_member c.args.self.now c.args.pass.now)
-    (as_member c.args.self.now c.args.pass.now) d c.args.budget c.args.gathered × (d.from < 2 ^ 64) in
+    λ d. GathersAs g.G.Gathered.of (as_caller c.args.self.now c.args.pass.now)
+    (as_caller c.args.self.now c.args.pass.now) d c.args.budget c.args.gathered × (d.from < 2 ^ 64) in
     subst P (sym c.first-cursor.ensures) (
       record {
         entries = [];

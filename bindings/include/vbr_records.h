@@ -1,0 +1,234 @@
+/* Records beside the entries of a set or a map, one for each slot: for values of any size, in fixed memory.
+
+       struct account { char owner[32]; uint64_t balance; };
+       static vbr_records accounts;
+       if (vbr_records_open(&accounts, vbr_map_slots(&map[0]), sizeof(struct account), NULL) != VBR_OK) return 1;
+
+       if (vbr_map_hold(&map[0], &slot) != VBR_YES) return 1;   // the slot is this handle's alone
+       vbr_records_write(&accounts, slot, &mine);               // and so is its record
+       vbr_answer added = vbr_map_insert_held(&map[0], 5, 0);   // VBR_YES: both are those of key 5
+
+       vbr_answer there = vbr_map_records_read(&map[1], &accounts, 5, &seen, &at); // VBR_YES: seen is that record, whole
+
+   A record is written while its slot is held, and then never again, so an entry has one record for as long as it is there. To change the
+   record of a key, hold another slot, write the whole record there, and put that slot in the place of the entry that was read, by
+   vbr_map_replace_held. The old record stays as it is for those who still read it. Nobody frees it: it goes where its slot goes.
+
+   A reader copies a record, and then asks whether the slot is the entry's own still. If it isn't, it finds the key again. So it holds
+   nobody up, takes no memory, and begins anew only where others took the entry out, or changed it, while it copied. Which record
+   belongs to which entry is proved of the calls of vbr.h; that copies are whole is argued, and this header is tested.
+
+   The words of records are atomic: a writer stores each with release, and a reader loads each with acquire. That costs nothing on x86-64.
+   Fences would do too, but ThreadSanitizer doesn't know them. No pointer that a call is given is null, but where it is said.
+   It is written for GCC and Clang, in C99 to C23 and C++11 to C++23. */
+#ifndef VBR_RECORDS_H
+#define VBR_RECORDS_H
+
+#include "vbr.h"
+
+#include <stdlib.h>
+#include <string.h>
+
+#ifdef __cplusplus
+#define VBR_RECORDS_AS(type, pointer) static_cast<type>(pointer)
+#else
+#define VBR_RECORDS_AS(type, pointer) ((type)(pointer))
+#endif
+
+/* A record for each slot of a set or a map. All zero: none. Many threads may use it at a time. It is opened, closed and renewed by one
+   that no other is beside.
+
+       static vbr_records accounts; */
+typedef struct vbr_records {
+    uint64_t *words;
+    size_t bytes;   /* of each record */
+    size_t each;    /* how many words that is */
+    uint32_t slots; /* how many records */
+    uint32_t is_given;
+} vbr_records;
+
+/* How many bytes the records of so many slots take, where each has so many: whole words of 8 bytes. SIZE_MAX where no block is so large.
+
+       size_t size = vbr_records_size(vbr_map_slots(&map[0]), sizeof(struct account)); */
+VBR_NODISCARD static inline size_t vbr_records_size(uint32_t slots, size_t bytes) VBR_NOEXCEPT {
+    size_t each = bytes / 8 + (bytes % 8 != 0);
+    return slots && each > SIZE_MAX / 8 / slots ? SIZE_MAX : 8 * each * slots;
+}
+
+/* Opens records of so many bytes each, one for each of these slots, which are those of the set or the map: VBR_OK. They are all zero. The
+   memory is taken by malloc's kin where `block` is null. Else it is that block of vbr_records_size bytes, which are zero, and aligned
+   as words of 64 bits are. It stays the program's. So records may lie in memory that processes share. Else VBR_IN_USE, where they are
+   open; VBR_BAD_SHAPE, where slots or bytes is 0; or VBR_NO_MEMORY.
+
+       if (vbr_records_open(&accounts, vbr_map_slots(&map[0]), sizeof(struct account), NULL) != VBR_OK) return 1; */
+VBR_NODISCARD static inline vbr_answer vbr_records_open(vbr_records *records, uint32_t slots, size_t bytes, void *block) VBR_NOEXCEPT {
+    size_t size = vbr_records_size(slots, bytes);
+    if (records->words) return VBR_IN_USE;
+    if (!slots || !bytes) return VBR_BAD_SHAPE;
+    void *words = block;
+    if (!block && size < SIZE_MAX) words = calloc(size / 8, 8);
+    if (!words) return VBR_NO_MEMORY;
+    records->words = VBR_RECORDS_AS(uint64_t *, words);
+    records->bytes = bytes;
+    records->each = size / 8 / slots;
+    records->slots = slots;
+    records->is_given = block ? 1 : 0;
+    return VBR_OK;
+}
+
+/* Frees the memory of records, unless it was given, and leaves them all zero.
+
+       vbr_records_close(&accounts); */
+VBR_NONNULL static inline void vbr_records_close(vbr_records *records) VBR_NOEXCEPT {
+    if (!records->is_given) free(records->words);
+    memset(records, 0, sizeof *records);
+}
+
+/* Writes the record of a slot that is held, from `data`, which has as many bytes as a record. Whoever finds the entry that is then made
+   of the slot finds the record, too. It may be written several times before that, and not after it.
+
+       vbr_records_write(&accounts, slot, &mine); */
+VBR_NONNULL static inline void vbr_records_write(vbr_records *records, uint32_t slot, const void *data) VBR_NOEXCEPT {
+    const unsigned char *from = VBR_RECORDS_AS(const unsigned char *, data);
+    uint64_t *to = &records->words[slot * records->each], word = 0;
+    size_t left = records->bytes;
+    for (; left >= 8; left -= 8, from += 8) {
+        memcpy(&word, from, 8);
+        __atomic_store_n(to++, word, __ATOMIC_RELEASE); /* who loads it sees that the slot has come into a hand */
+    }
+    if (!left) return;
+    word = 0;
+    memcpy(&word, from, left);
+    __atomic_store_n(to, word, __ATOMIC_RELEASE);
+}
+
+/* Copies the record of a slot to `data`. Of a slot that is held it is what was written. Of another one the copy counts for nothing until
+   vbr_is_still or vbr_map_is_still has said yes to the entry that was found there before. It may be of two records until then: follow
+   no pointer and no index that is in it. vbr_records_read and its kin do all that.
+
+       vbr_records_copy(&accounts, at.slot, &seen);
+       if (vbr_map_is_still(&map[1], &at) == VBR_YES) copied++; // else it was changed meanwhile: find the key again */
+VBR_NONNULL static inline void vbr_records_copy(const vbr_records *records, uint32_t slot, void *data) VBR_NOEXCEPT {
+    unsigned char *to = VBR_RECORDS_AS(unsigned char *, data);
+    const uint64_t *from = &records->words[slot * records->each];
+    size_t left = records->bytes;
+    uint64_t word;
+    for (; left >= 8; left -= 8, to += 8) {
+        word = __atomic_load_n(from++, __ATOMIC_ACQUIRE); /* so the question comes after it, and after what its writer did before */
+        memcpy(to, &word, 8);
+    }
+    if (!left) return;
+    word = __atomic_load_n(from, __ATOMIC_ACQUIRE);
+    memcpy(to, &word, left);
+}
+
+/* Reads the record of a key of a set: VBR_YES if it is there, and `*data` is then its record, as it was written before the key was
+   inserted, and `*at` its entry, which was there at a moment of the call; VBR_NO if it is absent. Else VBR_OUT_OF_STEPS or VBR_NO_HANDLE.
+   Unless it answers VBR_YES, `*data` is zero, byte by byte, and what is in `*at` means nothing. It looks up, copies, and asks. It does so
+   again only where the slot was handed out anew while it copied. Each look-up has the budget of the handle. All its steps are loads.
+
+       vbr_answer there = vbr_records_read(&handle[1], &accounts, 5, &seen, &at); // VBR_YES: seen is that record, whole */
+VBR_NODISCARD VBR_NONNULL static inline vbr_answer vbr_records_read(vbr_handle *handle, const vbr_records *records, uint64_t key,
+                                                                    void *data, vbr_incarnation *at) VBR_NOEXCEPT {
+    vbr_answer told;
+    while ((told = vbr_get_entry(handle, key, at)) == VBR_YES) {
+        vbr_records_copy(records, at->slot, data);
+        if (vbr_is_still(handle, at) == VBR_YES) return VBR_YES;
+    }
+    memset(data, 0, records->bytes);
+    return told;
+}
+
+/* Reads the record of a key of a map, as vbr_records_read does of a set. Its value is in `at->value`, and is free for other use: a length,
+   or what is read more often than the record.
+
+       vbr_answer there = vbr_map_records_read(&map[1], &accounts, 5, &seen, &at); // VBR_YES: seen is that record, whole */
+VBR_NODISCARD VBR_NONNULL static inline vbr_answer vbr_map_records_read(vbr_map_handle *handle, const vbr_records *records, uint64_t key,
+                                                                        void *data, vbr_incarnation *at) VBR_NOEXCEPT {
+    vbr_answer told;
+    while ((told = vbr_map_get_entry(handle, key, at)) == VBR_YES) {
+        vbr_records_copy(records, at->slot, data);
+        if (vbr_map_is_still(handle, at) == VBR_YES) return VBR_YES;
+    }
+    memset(data, 0, records->bytes);
+    return told;
+}
+
+/* Gives the next key of a walk with its record, as vbr_map_next_at gives one with its entry: VBR_YES, and the key had this entry and this
+   record at a moment of the call; VBR_NO at the end. Else VBR_OUT_OF_STEPS, and the cursor keeps how far it has come, or VBR_NO_HANDLE.
+   Unless it answers VBR_YES, `*data` is zero, byte by byte, and what is in `*key` and `*at` means nothing.
+
+       do {
+           told = vbr_map_records_next(&map[0], &cursor, &accounts, &key, &seen, &at);
+           if (told == VBR_YES) sum += seen.balance; // the key had this record during the call
+       } while (told == VBR_YES || told == VBR_OUT_OF_STEPS); // at the end it is VBR_NO */
+VBR_NODISCARD VBR_NONNULL static inline vbr_answer vbr_map_records_next(vbr_map_handle *handle, vbr_cursor *cursor,
+                                                                        const vbr_records *records, uint64_t *key, void *data,
+                                                                        vbr_incarnation *at) VBR_NOEXCEPT {
+    vbr_answer told;
+    vbr_cursor before = *cursor;
+    while ((told = vbr_map_next_at(handle, cursor, key, at)) == VBR_YES) {
+        vbr_records_copy(records, at->slot, data);
+        if (vbr_map_is_still(handle, at) == VBR_YES) return VBR_YES;
+        told = vbr_map_records_read(handle, records, *key, data, at); /* it was changed meanwhile, or is gone */
+        if (told < 0) *cursor = before;
+        if (told != VBR_NO) return told;
+        before = *cursor;
+    }
+    memset(data, 0, records->bytes);
+    return told;
+}
+
+/* What both renewals do at the end: the records go with their entries, to the first `count` slots. It is no part of the interface. */
+VBR_NONNULL static inline void vbr_records_carry(vbr_records *records, vbr_records *fresh, const uint32_t *slots, uint32_t count) VBR_NOEXCEPT {
+    for (uint32_t i = 0; i < count; i++)
+        memcpy(&fresh->words[i * fresh->each], &records->words[slots[i] * records->each], 8 * fresh->each);
+    vbr_records_close(records);
+    *records = *fresh;
+}
+
+/* Renews a set as vbr_renew_all does, and carries its records over to the slots that its keys have then: VBR_OK. Where `block` is null the
+   memory of the fresh records is taken by malloc's kin; else it is another block than the old one, as vbr_records_open takes it. Else the
+   set and its records are as they were, and it answers what vbr_renew_all answers. It takes 12 bytes for each slot besides, while it
+   runs. No other thread uses the set or the records meanwhile.
+
+       vbr_answer renewed = vbr_records_renew(handle, 2, 2048 + 2 * 64, 2048, VBR_MAX_EPOCH, &accounts, NULL); // VBR_OK: twice as large */
+VBR_NODISCARD static inline vbr_answer vbr_records_renew(vbr_handle *handles, size_t count, uint32_t slots, uint32_t buckets,
+                                                         uint64_t last_epoch, vbr_records *records, void *block) VBR_NOEXCEPT {
+    vbr_records fresh;
+    vbr_report report;
+    memset(&fresh, 0, sizeof fresh), memset(&report, 0, sizeof report);
+    vbr_answer told = vbr_records_open(&fresh, slots, records->bytes, block);
+    if (told != VBR_OK) return told;
+    uint64_t *keys = VBR_RECORDS_AS(uint64_t *, calloc(records->slots, sizeof *keys));
+    uint32_t *old = VBR_RECORDS_AS(uint32_t *, calloc(records->slots, sizeof *old));
+    told = keys && old ? vbr_report_slots(handles, count, keys, old, records->slots, &report) : VBR_NO_MEMORY;
+    if (told == VBR_YES) told = vbr_renew_all(handles, count, slots, buckets, last_epoch);
+    if (told == VBR_OK) vbr_records_carry(records, &fresh, old, report.live);
+    else vbr_records_close(&fresh);
+    free(keys), free(old);
+    return told;
+}
+
+/* Renews a map as vbr_map_renew_all does, and carries its records over, as vbr_records_renew does of a set. It takes 20 bytes for each
+   slot besides, while it runs.
+
+       vbr_answer renewed = vbr_map_records_renew(map, 2, 2048 + 2 * 64, 2048, VBR_MAX_EPOCH, &accounts, NULL); // VBR_OK: twice as large */
+VBR_NODISCARD static inline vbr_answer vbr_map_records_renew(vbr_map_handle *handles, size_t count, uint32_t slots, uint32_t buckets,
+                                                             uint64_t last_epoch, vbr_records *records, void *block) VBR_NOEXCEPT {
+    vbr_records fresh;
+    vbr_report report;
+    memset(&fresh, 0, sizeof fresh), memset(&report, 0, sizeof report);
+    vbr_answer told = vbr_records_open(&fresh, slots, records->bytes, block);
+    if (told != VBR_OK) return told;
+    vbr_entry *entries = VBR_RECORDS_AS(vbr_entry *, calloc(records->slots, sizeof *entries));
+    uint32_t *old = VBR_RECORDS_AS(uint32_t *, calloc(records->slots, sizeof *old));
+    told = entries && old ? vbr_map_report_slots(handles, count, entries, old, records->slots, &report) : VBR_NO_MEMORY;
+    if (told == VBR_YES) told = vbr_map_renew_all(handles, count, slots, buckets, last_epoch);
+    if (told == VBR_OK) vbr_records_carry(records, &fresh, old, report.live);
+    else vbr_records_close(&fresh);
+    free(entries), free(old);
+    return told;
+}
+
+#endif

@@ -1,0 +1,439 @@
+//! Slots in hand, and what stands in slots: for records beside the entries.
+use crate::library::{
+    code, looked_up, updated, vbr_insert_held_within, vbr_map_insert_held_within, vbr_map_put_held_within,
+    vbr_map_remove_entry_within, vbr_map_replace_held_within, with_value, Stands,
+};
+use crate::{order, Bits, Entries, Keys, Kind, OutOfSteps, PassOf, Refusal, Steps};
+use core::fmt;
+use core::marker::PhantomData;
+use core::mem::ManuallyDrop;
+use core::ops::Deref;
+
+/// Where an entry stands: its slot, and the birth of its node; of a map also its value. No other node that was ever in that slot has
+/// this birth, so it names one entry, which may have left meanwhile, and no later one of the same key. It is good until the set is
+/// renewed or closed.
+///
+/// ```
+/// # use vbr::{Map, Shape};
+/// let handle = Map::handles_with(Shape::for_keys(8, 1), &[(5, 70)])?.remove(0);
+/// let at = handle.get_entry(5)?.expect("5 is there");
+/// assert_eq!((at.slot(), at.value()), (0, 70));
+/// assert!(handle.is_still(&at));
+/// # Ok::<(), Box<dyn std::error::Error>>(())
+/// ```
+pub struct Incarnation<T: Kind = Keys> {
+    pub(crate) stands: Stands,
+    kind: PhantomData<fn() -> T>,
+}
+
+impl<T: Kind> Incarnation<T> {
+    /// The slot, which is below [`PassOf::slots`].
+    ///
+    /// ```
+    /// # use vbr::{Set, Shape};
+    /// let handle = Set::handles_with(Shape::for_keys(8, 1), &[5, 7])?.remove(0);
+    /// assert_eq!(handle.get_entry(7)?.map(|at| at.slot()), Some(1));
+    /// # Ok::<(), Box<dyn std::error::Error>>(())
+    /// ```
+    #[inline]
+    #[must_use]
+    pub fn slot(&self) -> u32 {
+        self.stands.slot
+    }
+
+    /// The birth of the node.
+    ///
+    /// ```
+    /// # use vbr::{Map, Shape};
+    /// let mut handle = Map::handles_with(Shape::new(2, 1, 100), &[(5, 70)])?.remove(0);
+    /// let before = handle.get_entry(5)?.expect("5 is there");
+    /// for value in 0..4 {
+    ///     handle.put(5, value)?;
+    /// }
+    /// let after = handle.get_entry(5)?.expect("5 is there");
+    /// assert!(before.slot() == after.slot() && before.birth() < after.birth() && before != after);
+    /// # Ok::<(), Box<dyn std::error::Error>>(())
+    /// ```
+    #[inline]
+    #[must_use]
+    pub fn birth(&self) -> u64 {
+        self.stands.birth
+    }
+}
+
+impl<K: Bits, V: Bits> Incarnation<Entries<K, V>> {
+    /// The value of the entry.
+    ///
+    /// ```
+    /// # use vbr::{Map, Shape};
+    /// let handle = Map::handles_with(Shape::for_keys(8, 1), &[(5, 'k')])?.remove(0);
+    /// assert_eq!(handle.get_entry(5)?.map(|at| at.value()), Some('k'));
+    /// # Ok::<(), Box<dyn std::error::Error>>(())
+    /// ```
+    #[inline]
+    #[must_use]
+    pub fn value(&self) -> V {
+        V::from_bits(self.stands.value)
+    }
+}
+
+impl<T: Kind> Clone for Incarnation<T> {
+    #[inline]
+    fn clone(&self) -> Self {
+        *self
+    }
+}
+
+impl<T: Kind> Copy for Incarnation<T> {}
+
+/// It is the same entry.
+impl<T: Kind> PartialEq for Incarnation<T> {
+    #[inline]
+    fn eq(&self, other: &Self) -> bool {
+        (self.slot(), self.birth()) == (other.slot(), other.birth())
+    }
+}
+
+impl<T: Kind> Eq for Incarnation<T> {}
+
+impl<T: Kind> fmt::Debug for Incarnation<T> {
+    fn fmt(&self, f: &mut fmt::Formatter<'_>) -> fmt::Result {
+        f.debug_struct("Incarnation").field("slot", &self.slot()).field("birth", &self.birth()).finish()
+    }
+}
+
+/// Slots in hand, and where entries stand.
+impl<T: Kind> PassOf<T> {
+    /// Takes a slot in hand. Until a call makes it the node of a key, or it is dropped, nobody else has it: so what a program keeps
+    /// beside slots may be written there, as [`Records`](crate::Records) does. It is one of the 64 slots that are counted for each
+    /// handle. A [`Held`] borrows the pass, and looks up by it.
+    ///
+    /// ```
+    /// # use vbr::{Map, Shape};
+    /// let mut handle = Map::handles(Shape::for_keys(8, 1))?.remove(0);
+    /// let held = handle.hold()?;
+    /// let slot = held.slot();
+    /// assert!(held.try_insert(5, 70)?.is_ok());
+    /// assert_eq!(handle.get_entry(5)?.map(|at| at.slot()), Some(slot));
+    /// # Ok::<(), Box<dyn std::error::Error>>(())
+    /// ```
+    ///
+    /// # Errors
+    ///
+    /// [`Refusal::OutOfSteps`], [`Refusal::NoSlot`] and [`Refusal::EpochSpent`], as of an insert of an absent key.
+    #[inline]
+    pub fn hold(&mut self) -> Result<Held<'_, T>, Refusal> {
+        self.hold_within(self.steps())
+    }
+
+    /// As [`PassOf::hold`], with a budget of its own.
+    ///
+    /// ```
+    /// # use vbr::{Refusal, Set, Shape, Steps};
+    /// let mut handle = Set::<u64>::handles(Shape::for_keys(8, 1))?.remove(0);
+    /// assert_eq!(handle.hold_within(Steps::new(1)).err(), Some(Refusal::OutOfSteps));
+    /// # Ok::<(), vbr::OpenError>(())
+    /// ```
+    ///
+    /// # Errors
+    ///
+    /// Those of [`PassOf::hold`].
+    #[inline]
+    pub fn hold_within(&mut self, steps: Steps) -> Result<Held<'_, T>, Refusal> {
+        let mut slot = 0;
+        // SAFETY: `&mut` is exclusive, and nothing else has the number.
+        let mut told = unsafe { T::HOLD(self.raw(), &mut slot, steps.count()) };
+        if told == code::HELD {
+            // that of one that was forgotten
+            // SAFETY: as above.
+            told = unsafe { (T::LET_GO(self.raw()), T::HOLD(self.raw(), &mut slot, steps.count())).1 };
+        }
+        updated(told)?;
+        Ok(Held { pass: self, slot })
+    }
+
+    /// Looks a key up, and tells where it stands. Its steps are those of [`PassOf::has`], or of a map's `get`: all loads.
+    ///
+    /// ```
+    /// # use vbr::{Set, Shape};
+    /// let handle = Set::handles_with(Shape::for_keys(8, 1), &[5])?.remove(0);
+    /// assert!(handle.get_entry(5)?.is_some() && handle.get_entry(6)?.is_none());
+    /// # Ok::<(), Box<dyn std::error::Error>>(())
+    /// ```
+    ///
+    /// # Errors
+    ///
+    /// [`OutOfSteps`]. No call was made then.
+    #[inline]
+    pub fn get_entry(&self, key: T::Key) -> Result<Option<Incarnation<T>>, OutOfSteps> {
+        self.get_entry_within(key, self.steps())
+    }
+
+    /// As [`PassOf::get_entry`], with a budget of its own.
+    ///
+    /// ```
+    /// # use vbr::{OutOfSteps, Set, Shape, Steps};
+    /// let handle = Set::handles_with(Shape::for_keys(8, 1), &[5])?.remove(0);
+    /// assert_eq!(handle.get_entry_within(5, Steps::new(1)), Err(OutOfSteps));
+    /// # Ok::<(), vbr::OpenError>(())
+    /// ```
+    ///
+    /// # Errors
+    ///
+    /// [`OutOfSteps`]. No call was made then.
+    #[inline]
+    pub fn get_entry_within(&self, key: T::Key, steps: Steps) -> Result<Option<Incarnation<T>>, OutOfSteps> {
+        let (key, mut stands) = (key.to_bits(), Stands::default());
+        // SAFETY: one thread at a time has the pass, which is not `Sync`, and the call lends it to nobody; nothing else has what is
+        // written.
+        let told = order::finds(key, || unsafe { T::GET_ENTRY(self.raw(), key, &mut stands, steps.count()) });
+        Ok(looked_up(told)?.then_some(Incarnation { stands, kind: PhantomData }))
+    }
+
+    /// Whether a slot is still that of the entry that was found there, in one step, a load. If so, at each moment since the entry was
+    /// found no other node was in the slot, and nobody had it in hand. So what was copied from beside it since then is of that entry,
+    /// whole; [`Records::read`](crate::Records::read) copies and asks. The entry itself may have been taken out meanwhile.
+    ///
+    /// ```
+    /// # use vbr::{Map, Shape};
+    /// let mut handle = Map::handles_with(Shape::new(1, 1, 100), &[(5, 70)])?.remove(0);
+    /// let at = handle.get_entry(5)?.expect("5 is there");
+    /// handle.remove(5)?;
+    /// assert!(handle.is_still(&at)); // it has left, and its slot is as it was
+    /// let held = handle.hold()?;
+    /// assert!(held.slot() == at.slot() && !held.is_still(&at));
+    /// # Ok::<(), Box<dyn std::error::Error>>(())
+    /// ```
+    #[inline]
+    #[must_use]
+    pub fn is_still(&self, at: &Incarnation<T>) -> bool {
+        // SAFETY: as for `get_entry_within`.
+        unsafe { T::IS_STILL(self.raw(), &at.stands) == code::YES }
+    }
+}
+
+/// Calls of maps on one entry.
+impl<K: Bits, V: Bits> PassOf<Entries<K, V>> {
+    /// Takes a key out if it still has the very entry that was found, and says whether it had. Else nothing was changed.
+    ///
+    /// ```
+    /// # use vbr::{Map, Shape};
+    /// let mut handle = Map::handles_with(Shape::for_keys(8, 1), &[(5, 70)])?.remove(0);
+    /// let before = handle.get_entry(5)?.expect("5 is there");
+    /// handle.replace(5, 70)?;
+    /// assert!(!handle.remove_entry(5, &before)?); // it has another entry, of the same value
+    /// let now = handle.get_entry(5)?.expect("5 is there");
+    /// assert!(handle.remove_entry(5, &now)?);
+    /// # Ok::<(), Box<dyn std::error::Error>>(())
+    /// ```
+    ///
+    /// # Errors
+    ///
+    /// [`OutOfSteps`]. No call was made then.
+    #[inline]
+    pub fn remove_entry(&mut self, key: K, at: &Incarnation<Entries<K, V>>) -> Result<bool, OutOfSteps> {
+        self.remove_entry_within(key, at, self.steps())
+    }
+
+    /// As [`MapPass::remove_entry`](PassOf::remove_entry), with a budget of its own.
+    ///
+    /// ```
+    /// # use vbr::{Map, OutOfSteps, Shape, Steps};
+    /// let mut handle = Map::handles_with(Shape::for_keys(8, 1), &[(5, 70)])?.remove(0);
+    /// let at = handle.get_entry(5)?.expect("5 is there");
+    /// assert_eq!(handle.remove_entry_within(5, &at, Steps::new(1)), Err(OutOfSteps));
+    /// # Ok::<(), Box<dyn std::error::Error>>(())
+    /// ```
+    ///
+    /// # Errors
+    ///
+    /// [`OutOfSteps`]. No call was made then.
+    #[inline]
+    pub fn remove_entry_within(&mut self, key: K, at: &Incarnation<Entries<K, V>>, steps: Steps) -> Result<bool, OutOfSteps> {
+        let key = key.to_bits();
+        // SAFETY: `&mut` is exclusive.
+        looked_up(order::removes(key, || unsafe { vbr_map_remove_entry_within(self.raw(), key, &at.stands, steps.count()) }))
+    }
+}
+
+/// A slot in hand, by [`PassOf::hold`]. Nobody else has it until it is made the node of a key, or dropped, which puts it back. It
+/// derefs to its pass, for look-ups.
+///
+/// The calls that spend it take it, so its record can't be written once it is published. Where they don't do what they are asked
+/// for, they give it back.
+///
+/// ```
+/// # use vbr::{Map, Shape};
+/// let mut handle = Map::handles_with(Shape::for_keys(8, 1), &[(5, 70)])?.remove(0);
+/// let held = handle.hold()?;
+/// assert_eq!(held.get(5)?, Some(70));
+/// let held = held.try_insert(5, 71)?.expect_err("5 is there, so the slot is held still");
+/// assert_eq!(held.put(5, 71)?, Some(70));
+/// # Ok::<(), Box<dyn std::error::Error>>(())
+/// ```
+///
+/// ```compile_fail,E0382
+/// # use vbr::{Map, Records, Shape};
+/// # let mut handle = Map::handles(Shape::for_keys(8, 1)).unwrap().remove(0);
+/// let records: Records<u64> = Records::open(handle.slots()).unwrap();
+/// let mut held = handle.hold().unwrap();
+/// held.put(5, 71).unwrap();
+/// records.write(&mut held, &7); // it is published by now
+/// ```
+#[must_use = "a slot that is dropped is put back"]
+pub struct Held<'p, T: Kind = Keys> {
+    pass: &'p mut PassOf<T>,
+    slot: u32,
+}
+
+impl<'p, T: Kind> Held<'p, T> {
+    /// The slot, which is below [`PassOf::slots`].
+    ///
+    /// ```
+    /// # use vbr::{Set, Shape};
+    /// let mut handle = Set::<u64>::handles(Shape::for_keys(8, 1))?.remove(0);
+    /// let slots = handle.slots();
+    /// assert!(handle.hold()?.slot() < slots);
+    /// # Ok::<(), Box<dyn std::error::Error>>(())
+    /// ```
+    #[inline]
+    #[must_use]
+    pub fn slot(&self) -> u32 {
+        self.slot
+    }
+
+    /// Makes a call by the slot, which is spent where this answers yes, and put back where it is refused.
+    #[inline]
+    fn spent_by(self, call: impl FnOnce(&mut PassOf<T>) -> i32) -> Result<Result<(), Held<'p, T>>, OutOfSteps> {
+        if looked_up(call(self.pass))? {
+            let _spent = ManuallyDrop::new(self);
+            return Ok(Ok(()));
+        }
+        Ok(Err(self))
+    }
+}
+
+impl<'p, K: Bits> Held<'p, Keys<K>> {
+    /// Adds a key, which stands in this slot then. If it was there, the slot comes back.
+    ///
+    /// ```
+    /// # use vbr::{Set, Shape};
+    /// let mut handle = Set::handles_with(Shape::for_keys(8, 1), &[5])?.remove(0);
+    /// let held = handle.hold()?.insert(5)?.expect_err("5 is there, so the slot is held still");
+    /// assert!(held.insert(6)?.is_ok());
+    /// # Ok::<(), Box<dyn std::error::Error>>(())
+    /// ```
+    ///
+    /// # Errors
+    ///
+    /// [`OutOfSteps`]. No call was made then, and the slot is put back.
+    #[inline]
+    pub fn insert(self, key: K) -> Result<Result<(), Held<'p, Keys<K>>>, OutOfSteps> {
+        let (key, steps) = (key.to_bits(), self.steps());
+        // SAFETY: `&mut` is exclusive.
+        self.spent_by(|pass| order::adds(key, || unsafe { vbr_insert_held_within(pass.raw(), key, steps.count()) }))
+    }
+}
+
+impl<'p, K: Bits, V: Bits> Held<'p, Entries<K, V>> {
+    /// Adds a key with its value, which stands in this slot then. If it was there, the slot comes back.
+    ///
+    /// ```
+    /// # use vbr::{Map, Shape};
+    /// let mut handle = Map::handles_with(Shape::for_keys(8, 1), &[(5, 70)])?.remove(0);
+    /// let held = handle.hold()?.try_insert(5, 71)?.expect_err("5 is there, so the slot is held still");
+    /// assert!(held.try_insert(6, 71)?.is_ok());
+    /// # Ok::<(), Box<dyn std::error::Error>>(())
+    /// ```
+    ///
+    /// # Errors
+    ///
+    /// [`OutOfSteps`]. No call was made then, and the slot is put back.
+    #[inline]
+    pub fn try_insert(self, key: K, value: V) -> Result<Result<(), Held<'p, Entries<K, V>>>, OutOfSteps> {
+        let (key, value, steps) = (key.to_bits(), value.to_bits(), self.steps());
+        self.spent_by(|pass| {
+            // SAFETY: `&mut` is exclusive.
+            order::adds(key, || unsafe { vbr_map_insert_held_within(pass.raw(), key, value, steps.count()) })
+        })
+    }
+
+    /// Gives a key this value, in place of the very entry that was found: it stands in this slot then. If the key is absent or has
+    /// another entry by now, nothing is changed, and the slot comes back.
+    ///
+    /// ```
+    /// # use vbr::{Map, Shape};
+    /// let mut handle = Map::handles_with(Shape::for_keys(8, 1), &[(5, 70)])?.remove(0);
+    /// let before = handle.get_entry(5)?.expect("5 is there");
+    /// assert!(handle.hold()?.replace(5, &before, 71)?.is_ok());
+    /// assert!(handle.hold()?.replace(5, &before, 72)?.is_err()); // it has another entry
+    /// assert_eq!(handle.get(5)?, Some(71));
+    /// # Ok::<(), Box<dyn std::error::Error>>(())
+    /// ```
+    ///
+    /// # Errors
+    ///
+    /// [`OutOfSteps`]. No call was made then, and the slot is put back.
+    #[inline]
+    pub fn replace(
+        self,
+        key: K,
+        at: &Incarnation<Entries<K, V>>,
+        value: V,
+    ) -> Result<Result<(), Held<'p, Entries<K, V>>>, OutOfSteps> {
+        let (key, value, steps) = (key.to_bits(), value.to_bits(), self.steps());
+        self.spent_by(|pass| {
+            order::changes(key, || {
+                // SAFETY: `&mut` is exclusive.
+                unsafe { vbr_map_replace_held_within(pass.raw(), key, &at.stands, value, steps.count()) }
+            })
+        })
+    }
+
+    /// Gives a key this value, whether it is there or not, and gives the one that it had: it stands in this slot then.
+    ///
+    /// ```
+    /// # use vbr::{Map, Shape};
+    /// let mut handle = Map::handles(Shape::for_keys(8, 1))?.remove(0);
+    /// assert_eq!(handle.hold()?.put(5, 70)?, None);
+    /// assert_eq!(handle.hold()?.put(5, 71)?, Some(70));
+    /// # Ok::<(), Box<dyn std::error::Error>>(())
+    /// ```
+    ///
+    /// # Errors
+    ///
+    /// [`OutOfSteps`]. No call was made then, and the slot is put back.
+    #[inline]
+    pub fn put(self, key: K, value: V) -> Result<Option<V>, OutOfSteps> {
+        let (key, value, steps) = (key.to_bits(), value.to_bits(), self.steps());
+        let told = with_value(looked_up, |found| {
+            // SAFETY: `&mut` is exclusive, and nothing else has what is found.
+            order::changes(key, || unsafe { vbr_map_put_held_within(self.pass.raw(), key, value, found, steps.count()) })
+        })?;
+        let _spent = ManuallyDrop::new(self);
+        Ok(told)
+    }
+}
+
+impl<T: Kind> Deref for Held<'_, T> {
+    type Target = PassOf<T>;
+
+    #[inline]
+    fn deref(&self) -> &PassOf<T> {
+        self.pass
+    }
+}
+
+impl<T: Kind> Drop for Held<'_, T> {
+    #[inline]
+    fn drop(&mut self) {
+        // SAFETY: `&mut` is exclusive.
+        unsafe { T::LET_GO(self.pass.raw()) };
+    }
+}
+
+impl<T: Kind> fmt::Debug for Held<'_, T> {
+    fn fmt(&self, f: &mut fmt::Formatter<'_>) -> fmt::Result {
+        f.debug_struct("Held").field("slot", &self.slot).finish_non_exhaustive()
+    }
+}

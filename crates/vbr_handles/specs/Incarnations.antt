@@ -1,0 +1,51 @@
+-- What a call that names an entry by where it stands tells through a handle.
+use Rattle.std.specs.Prelude.{◌≡◌, ℕ, ℤ, Bool, Option, None, Some, Result, Ok}
+use Rattle.vbr_at_table.specs.declared.refusal.Refusal.{Refusal}
+use Rattle.vbr_list.specs.Told.{is_yes}
+use Rattle.vbr_list.specs.declared.entries.Entry.{Entry}
+use Rattle.vbr_set.specs.Members.{MemberView as Member}
+use Rattle.vbr_set.specs.RecordCalls.{AsksStill, FindsEntry, FindsKey}
+use Rattle.vbr_set.specs.RemovingExactly.{TakesExactly}
+use Rattle.vbr_handles.specs.Codes.{call_code, empty_code}
+use Rattle.vbr_handles.specs.ValueCalls.{GivesBy}
+use Rattle.vbr_handles.specs.declared.incarnation.Incarnation.{Incarnation}
+
+-- the entry that stands there
+abbrev pub entry_named : Incarnation → Entry
+entry_named at = record { slot = at.slot; birth = at.birth; value = at.value }
+
+-- a get that gives the entry tells it, which is written where the key is there
+abbrev pub TellsGetNamed : Option Member → Option Member → ℕ → ℕ → Entry → Entry → ℤ → Type 0
+TellsGetNamed m n key budget old new code = GivesBy (λ m n answer. FindsEntry m n key budget answer) m n old new code
+
+-- and so it is of a look-up of a set
+abbrev pub TellsHasNamed : Option Member → Option Member → ℕ → ℕ → Entry → Entry → ℤ → Type 0
+TellsHasNamed m n key budget old new code = GivesBy (λ m n answer. FindsKey m n key budget answer) m n old new code
+
+-- the member took the entry out or didn't, the code is that of the answer, and a slot that it holds it holds still
+pub record TakesNamed (m n : Member) (key : ℕ) (entry : Entry) (budget : ℕ) (code : ℤ) : Type 0 where
+  pub answer : Result (Option ℕ) Refusal
+  pub is : code ≡ call_code (is_yes answer)
+  pub takes : TakesExactly m n key entry budget answer
+  pub aside : n.aside ≡ m.aside
+
+-- so it is of a full handle, and an empty one stays so, and has a code of its own
+abbrev pub TellsRemoveNamed : Option Member → Option Member → ℕ → Entry → ℕ → ℤ → Type 0
+TellsRemoveNamed None None key entry budget code = code ≡ empty_code
+TellsRemoveNamed None (Some n) key entry budget code = ⊥
+TellsRemoveNamed (Some m) None key entry budget code = ⊥
+TellsRemoveNamed (Some m) (Some n) key entry budget code = TakesNamed m n key entry budget code
+
+-- the member asked whether the slot of an entry shows its birth still, and a slot that it holds it holds still
+pub record TellsWhetherStill (m n : Member) (entry : Entry) (code : ℤ) : Type 0 where
+  pub answer : Bool
+  pub is : code ≡ call_code (Ok answer)
+  pub asks : AsksStill m n entry answer
+  pub aside : n.aside ≡ m.aside
+
+-- so it is of a full handle, and an empty one stays so, and has a code of its own
+abbrev pub TellsIfStill : Option Member → Option Member → Entry → ℤ → Type 0
+TellsIfStill None None entry code = code ≡ empty_code
+TellsIfStill None (Some n) entry code = ⊥
+TellsIfStill (Some m) None entry code = ⊥
+TellsIfStill (Some m) (Some n) entry code = TellsWhetherStill m n entry code

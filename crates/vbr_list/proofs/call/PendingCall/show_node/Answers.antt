@@ -1,0 +1,38 @@
+use Rattle.vbr_list.proofs.Names.{rules, refl, false, Some}
+use Rattle.vbr_list.proofs.Disturbing.{loses_link}
+use Rattle.vbr_list.proofs.Going.{settles_step}
+use Rattle.vbr_list.proofs.Sights.{answers_bare}
+use Rattle.vbr_list.proofs.call.PendingCall.show_node.Goals as goal
+
+pub confirm_present-outcome-requires-clause-node : goal.confirm_present-outcome-requires-clause-node
+confirm_present-outcome-requires-clause-node g c =
+    let s = c.requires.sight in record { held = s.0; key = (c.args.self.now.key, s.2); unmarked = s.1 }
+
+pub confirm_present-outcome-requires-clause-op : goal.confirm_present-outcome-requires-clause-op
+confirm_present-outcome-requires-clause-op g c = λ e. absurd (cc)
+
+pub confirm_present-outcome-requires-clause-asked : goal.confirm_present-outcome-requires-clause-asked
+confirm_present-outcome-requires-clause-asked g c = λ get. absurd (cc)
+
+pub returns-in-Ok-clause-settles : goal.returns-in-Ok-clause-settles
+returns-in-Ok-clause-settles g c = settles_step (search rules) refl c.confirm_present-outcome.ensures.keeps.keeps
+
+pub returns-in-Err-clause-settles : goal.returns-in-Err-clause-settles
+returns-in-Err-clause-settles g c = settles_step (search rules) refl c.confirm_present-outcome.ensures.keeps.keeps
+
+pub returns-in-Ok-clause-answers : goal.returns-in-Ok-clause-answers
+returns-in-Ok-clause-answers g c =
+    let key = c.args.self.now.key in
+    let keyed = c.requires.sight.2 in
+    record {
+      answers = answers_bare false (Some 0) refl (c.in-Ok.ensures.answers.answers key 0 keyed (λ get. absurd (cc)));
+      value = 0;
+      is = refl;
+      zero = λ bare. refl;
+      shows = λ s at_slot. c.in-Ok.ensures.there.shows s key at_slot keyed;
+    }
+
+pub returns-in-Err-clause-rolls : goal.returns-in-Err-clause-rolls
+returns-in-Err-clause-rolls g c =
+    let lost = c.in-Err.ensures.lost in
+    record { quiet = lost.quiet; adds_none = lost.adds_none; loses = loses_link c.args.node.now _ lost.lost }

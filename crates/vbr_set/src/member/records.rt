@@ -1,0 +1,330 @@
+//! The calls of a member for a program that keeps a record of its own beside each slot. A member holds one
+//! slot at most: then it is in the hand of its pass alone, until it is published or let go, whatever calls
+//! the member makes meanwhile, and the program may write its record.
+ghost use Rattle.std.specs.Prelude.{◌≡◌, None, is_some};
+ghost use Rattle.vbr_set.specs.Answers.{AnswersAll};
+ghost use Rattle.vbr_set.specs.HeldStores.{PutsHeldBy, ReplacesHeldBy, answer_unreplaced};
+ghost use Rattle.vbr_set.specs.LettingGo.{LetsGo};
+ghost use Rattle.vbr_set.specs.MapCalls.{MapAnswersAll};
+ghost use Rattle.vbr_set.specs.RecordCalls.{AsksStill, FindsEntry, TakesAside, InsertsHeldBy, answer_held, insert_told, slot_aside, store_told, FindsKey};
+ghost use Rattle.vbr_set.specs.RemovingExactly.{TakesExactly};
+
+use crate::member::Member;
+use crate::member::counting::one_if_wanted;
+use crate::record_refusals::{HeldRefusal, HoldRefusal};
+use vbr_at_table::Aside;
+use vbr_list::{Entry, NotReplaced, Refusal, StillInHand, Wanted};
+use vbr_slots::pass::POOL;
+use vbr_words::{Entries, Nodes};
+
+impl<N: Nodes> Member<N> {
+    /// Takes a slot and holds it, in at most `budget` steps, and tells which it is. A slot is taken as an
+    /// insert takes one, [`VbrSet::hold`] by its pass.
+    ///
+    /// # Errors
+    ///
+    /// - Held: the member holds a slot already, and has done nothing.
+    /// - Refused: none was taken, as an insert is refused. The member holds none, and can go on at once.
+    ///
+    /// [`VbrSet::hold`]: crate::VbrSet::hold
+    pub fn hold(&mut self, budget: u32) -> Result<u32, HoldRefusal>
+        ensures set { self.new.set ≡ self.old.set }
+        ensures holds { TakesAside self.old self.new budget result }
+    {
+        if self.aside.is_some() {
+            return Err(HoldRefusal::Held);
+        }
+        match self.share.set().hold(&mut self.pass, budget) {
+            Ok(hand) => {
+                let aside = Aside::of(hand, &mut self.pass);
+                self.aside = Some(aside);
+                Ok(aside.slot)
+            }
+            Err(refusal) => Err(HoldRefusal::Refused(refusal)),
+        }
+    }
+
+    /// The slot that the member holds, if it holds one.
+    #[inline]
+    pub fn held(&self) -> Option<u32>
+        ensures { result ≡ slot_aside self.now.aside }
+    {
+        match self.aside {
+            Some(aside) => Some(aside.slot),
+            None => None,
+        }
+    }
+
+    /// Lets go of the slot that the member holds, and says whether it held one. The slot goes into the own
+    /// pool, which is no step, or where that is full into the shared one, in one step. It makes no call, and
+    /// can't fail.
+    pub fn let_go(&mut self) -> bool
+        ensures set { self.new.set ≡ self.old.set }
+        ensures lets_go { LetsGo self.old.aside self.old.pass self.new.pass }
+        ensures none { self.new.aside ≡ None }
+        ensures told { result ≡ is_some self.old.aside }
+    {
+        let Some(aside) = self.aside else {
+            return false;
+        };
+        let hand = aside.take_up(&mut self.pass);
+        self.share.set().let_go(&mut self.pass, hand);
+        self.aside = None;
+        true
+    }
+
+    /// Whether the slot of an entry shows its birth still, in one step: [`VbrSet::is_still`] by its pass.
+    ///
+    /// [`VbrSet::is_still`]: crate::VbrSet::is_still
+    #[inline]
+    pub fn is_still(&mut self, entry: &Entry) -> bool
+        ensures asks { AsksStill self.old self.new entry.now result }
+        ensures aside { self.new.aside ≡ self.old.aside }
+    {
+        self.share.set().is_still(&mut self.pass, entry)
+    }
+}
+
+impl Member {
+    /// The entry of a key, if the key is there, in at most `budget` steps: [`VbrSet::get_entry`] by its pass.
+    ///
+    /// # Errors
+    ///
+    /// OutOfSteps alone. The member has made no call then, and can go on at once.
+    ///
+    /// [`VbrSet::get_entry`]: crate::VbrSet::get_entry
+    #[inline]
+    pub fn get_entry(&mut self, key: u64, budget: u32) -> Result<Option<Entry>, Refusal>
+        ensures finds { FindsKey self.old self.new key budget result }
+        ensures aside { self.new.aside ≡ self.old.aside }
+    {
+        self.share.set().get_entry(&mut self.pass, key, budget)
+    }
+
+    /// Adds a key by the slot that the member holds, in at most `budget` steps, and says whether the key was
+    /// absent: [`VbrSet::insert_held`] by its pass. Where it was, this very slot is the key's node then, and
+    /// the member holds none. Else it holds the slot still.
+    ///
+    /// # Errors
+    ///
+    /// NotHeld and Full, where nothing was done, and OutOfSteps. After each the member has made no call, and
+    /// can go on at once.
+    ///
+    /// [`VbrSet::insert_held`]: crate::VbrSet::insert_held
+    pub fn insert_held(&mut self, key: u64, budget: u32) -> Result<bool, HeldRefusal>
+        ensures set { self.new.set ≡ self.old.set }
+        ensures inserts { InsertsHeldBy AnswersAll (insert_told key) self.old self.new
+            key 0 budget result }
+    {
+        let Some(aside) = self.aside else {
+            return Err(HeldRefusal::NotHeld);
+        };
+        if self.pass.pool().len() >= POOL {
+            return Err(HeldRefusal::Full);
+        }
+        let hand = aside.take_up(&mut self.pass);
+        match self
+            .share
+            .set()
+            .insert_held(&mut self.pass, key, hand, budget)
+        {
+            Ok(()) => {
+                self.aside = None;
+                self.balance = self.balance.wrapping_add(1);
+                Ok(true)
+            }
+            Err((hand, why)) => {
+                let _still = Aside::of(hand, &mut self.pass);
+                answer_held(why)
+            }
+        }
+    }
+}
+
+impl Member<Entries> {
+    /// The entry of a key, if the key is there, in at most `budget` steps: [`VbrMap::get_entry`] by its pass.
+    ///
+    /// # Errors
+    ///
+    /// OutOfSteps alone. The member has made no call then, and can go on at once.
+    ///
+    /// [`VbrMap::get_entry`]: crate::VbrMap::get_entry
+    #[inline]
+    pub fn get_entry(&mut self, key: u64, budget: u32) -> Result<Option<Entry>, Refusal>
+        ensures finds { FindsEntry self.old self.new key budget result }
+        ensures aside { self.new.aside ≡ self.old.aside }
+    {
+        self.share.set().get_entry(&mut self.pass, key, budget)
+    }
+
+    /// Takes a key out where its node is that of this entry, in at most `budget` steps, and gives the value
+    /// that was there: [`VbrMap::remove_exactly`] by its pass. Else it makes no call and gives none: the map
+    /// lacked the entry at a moment of it.
+    ///
+    /// # Errors
+    ///
+    /// OutOfSteps alone. The member has made no call then, and can go on at once.
+    ///
+    /// [`VbrMap::remove_exactly`]: crate::VbrMap::remove_exactly
+    #[inline]
+    pub fn remove_exactly(
+        &mut self,
+        key: u64,
+        entry: &Entry,
+        budget: u32,
+    ) -> Result<Option<u64>, Refusal>
+        ensures takes { TakesExactly self.old self.new key entry.now budget result }
+        ensures aside { self.new.aside ≡ self.old.aside }
+    {
+        let answer = self
+            .share
+            .set()
+            .remove_exactly(&mut self.pass, key, entry, budget);
+        self.balance = self
+            .balance
+            .wrapping_sub(one_if_wanted(&answer, Wanted::Present));
+        answer
+    }
+
+    /// Adds a key with its value by the slot that the member holds, as [`crate::Member`]'s `insert_held` adds
+    /// a key, which has the errors: [`VbrMap::insert_held`] by its pass.
+    ///
+    /// [`VbrMap::insert_held`]: crate::VbrMap::insert_held
+    pub fn insert_held(&mut self, key: u64, value: u64, budget: u32) -> Result<bool, HeldRefusal>
+        ensures set { self.new.set ≡ self.old.set }
+        ensures inserts { InsertsHeldBy MapAnswersAll (store_told key value) self.old self.new
+            key value budget result }
+    {
+        let Some(aside) = self.aside else {
+            return Err(HeldRefusal::NotHeld);
+        };
+        if self.pass.pool().len() >= POOL {
+            return Err(HeldRefusal::Full);
+        }
+        let hand = aside.take_up(&mut self.pass);
+        match self
+            .share
+            .set()
+            .insert_held(&mut self.pass, key, value, hand, budget)
+        {
+            Ok(()) => {
+                self.aside = None;
+                self.balance = self.balance.wrapping_add(1);
+                Ok(true)
+            }
+            Err((hand, why)) => {
+                let _still = Aside::of(hand, &mut self.pass);
+                answer_held(why)
+            }
+        }
+    }
+
+    /// Gives a key a value by the slot that the member holds, whether the key is there or not, in at most
+    /// `budget` steps, and gives the value that it had: [`VbrMap::put_held`] by its pass. This very slot is the
+    /// key's node then, and the member holds none.
+    ///
+    /// # Errors
+    ///
+    /// NotHeld and Full, where nothing was done, and OutOfSteps. After each the member has made no call, and
+    /// can go on at once.
+    ///
+    /// [`VbrMap::put_held`]: crate::VbrMap::put_held
+    pub fn put_held(
+        &mut self,
+        key: u64,
+        value: u64,
+        budget: u32,
+    ) -> Result<Option<u64>, HeldRefusal>
+        ensures set { self.new.set ≡ self.old.set }
+        ensures puts { PutsHeldBy self.old self.new key value budget result }
+    {
+        let Some(aside) = self.aside else {
+            return Err(HeldRefusal::NotHeld);
+        };
+        if self.pass.pool().len() >= POOL {
+            return Err(HeldRefusal::Full);
+        }
+        let hand = aside.take_up(&mut self.pass);
+        match self
+            .share
+            .set()
+            .put_held(&mut self.pass, key, value, hand, budget)
+        {
+            Ok(there) => {
+                self.aside = None;
+                self.balance = self
+                    .balance
+                    .wrapping_add(one_if_wanted(&Ok(there), Wanted::Absent));
+                Ok(there)
+            }
+            Err((hand, used)) => {
+                let _still = Aside::of(hand, &mut self.pass);
+                Err(HeldRefusal::OutOfSteps { used })
+            }
+        }
+    }
+
+    /// Puts the slot that the member holds in the place of this entry's node, by its slot and its birth, with
+    /// a value, in at most `budget` steps, and says whether it did: [`VbrMap::replace_held`] by its pass. Where
+    /// it did, the member holds none. Else the key was absent at a moment of the call, or had another node; no
+    /// call was made, and the member holds the slot still.
+    ///
+    /// # Errors
+    ///
+    /// NotHeld and Full, where nothing was done, and OutOfSteps. After each the member has made no call, and
+    /// can go on at once.
+    ///
+    /// [`VbrMap::replace_held`]: crate::VbrMap::replace_held
+    pub fn replace_held(
+        &mut self,
+        key: u64,
+        entry: &Entry,
+        value: u64,
+        budget: u32,
+    ) -> Result<bool, HeldRefusal>
+        ensures set { self.new.set ≡ self.old.set }
+        ensures replaces { ReplacesHeldBy self.old self.new key value budget entry.now result }
+    {
+        let Some(aside) = self.aside else {
+            return Err(HeldRefusal::NotHeld);
+        };
+        if self.pass.pool().len() >= POOL {
+            return Err(HeldRefusal::Full);
+        }
+        let hand = aside.take_up(&mut self.pass);
+        match self
+            .share
+            .set()
+            .replace_held(&mut self.pass, key, entry, value, hand, budget)
+        {
+            Ok(()) => {
+                self.aside = None;
+                Ok(true)
+            }
+            Err((hand, why)) => {
+                let _still = Aside::of(hand, &mut self.pass);
+                answer_unreplaced(why)
+            }
+        }
+    }
+}
+
+// The answer where the slot that a member holds didn't take an entry's place.
+fn answer_unreplaced(why: NotReplaced) -> Result<bool, HeldRefusal>
+    ensures { result ≡ answer_unreplaced why }
+{
+    match why {
+        NotReplaced::Other => Ok(false),
+        NotReplaced::OutOfSteps { used } => Err(HeldRefusal::OutOfSteps { used }),
+    }
+}
+
+// The answer where the slot that a member holds wasn't published.
+fn answer_held(why: StillInHand) -> Result<bool, HeldRefusal>
+    ensures { result ≡ answer_held why }
+{
+    match why {
+        StillInHand::Present => Ok(false),
+        StillInHand::OutOfSteps { used } => Err(HeldRefusal::OutOfSteps { used }),
+    }
+}

@@ -1,0 +1,8 @@
+use Rattle.vbr_slots.proofs.Calls.{did_took}
+use Rattle.vbr_slots.proofs.Counting.{exact}
+use Rattle.vbr_slots.proofs.slots.Slots.peek_birth.Goals as goal
+
+pub invariant_of-pass : goal.invariant_of-pass
+invariant_of-pass g c =
+    exact c.at.ensures.pass c.pass.invariant.steps c.steps_after-pass-inside.ensures
+    (did_took c.peek_birth.ensures.step)
