@@ -138,8 +138,9 @@ static int check_slots(void) {
     static vbr_handle handle[HANDLES], none;
     static uint64_t block[SLOTS];
     uint32_t slot = SLOTS, slots[KEYS] = {0};
-    uint64_t keys[KEYS] = {0}, mine = 70, seen = 0;
+    uint64_t keys[KEYS] = {0}, key = 0, mine = 70, seen = 0;
     vbr_incarnation at = {0, 0, 0};
+    vbr_cursor cursor = VBR_CURSOR_BEGIN, again = VBR_CURSOR_BEGIN;
     vbr_records records = EMPTY;
     vbr_report report = EMPTY;
     THROWS_NONE(vbr_hold(&none, &slot), vbr_records_read(&none, &records, 5, &seen, &at));
@@ -153,9 +154,13 @@ static int check_slots(void) {
     vbr_records_copy(&records, at.slot, &seen);
     CHECK(vbr_is_still(&handle[1], &at) == VBR_YES && seen == 70 && vbr_is_still(&none, &at) == VBR_NO_HANDLE);
     CHECK(vbr_records_read(&handle[1], &records, 5, &seen, &at) == VBR_YES && vbr_records_read(&none, &records, 5, &seen, &at) == VBR_NO_HANDLE);
-    CHECK(vbr_report_slots(handle, HANDLES, keys, slots, KEYS, &report) == VBR_YES && slots[0] == slot && seen == 0);
+    CHECK(seen == 0 && vbr_next_at(&handle[1], &cursor, &key, &at) == VBR_YES && key == 5);
+    CHECK(vbr_next_at_within(&handle[1], &cursor, &key, &at, 500) == VBR_NO);
+    CHECK(vbr_records_next(&handle[1], &again, &records, &key, &seen, &at) == VBR_YES && key == 5 && seen == 70);
+    CHECK(vbr_report_slots(handle, HANDLES, keys, slots, KEYS, &report) == VBR_YES && slots[0] == slot && keys[0] == 5);
     CHECK(vbr_records_renew(handle, HANDLES, SLOTS, KEYS, VBR_MAX_EPOCH, &records, NULL) == VBR_OK && records.words != block);
     CHECK(vbr_records_read(&handle[0], &records, 5, &seen, &at) == VBR_YES && seen == 70);
+    CHECK(vbr_remove_entry(&handle[1], 5, &at) == VBR_YES && vbr_remove_entry_within(&handle[1], 5, &at, 500) == VBR_NO);
     vbr_end_all(handle, HANDLES), vbr_records_close(&records);
     return 0;
 }

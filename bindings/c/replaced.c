@@ -5,8 +5,8 @@
 
    Two threads write records, each once, and give a key their numbers, by replace, put and compare_exchange in turns; one of the
    first comes by get_or_insert. Who takes a number out of the map reads that record, and so do two others, who get values. With FAULT 1
-   a reader reads a record whose number nobody told it, and with 2 a record is written once more behind its call: programs that are
-   wrong, for ThreadSanitizer to find. */
+   a reader reads the record that comes next, whose number no call returned to it, and with 2 a record is written once more after its
+   call: programs that are wrong, for ThreadSanitizer to find. */
 #include "vbr.h"
 
 #include <pthread.h>
@@ -79,7 +79,7 @@ static void read_records(struct worker *w) {
         vbr_answer there = vbr_map_get(w->map, key, &number);
         if (there == VBR_YES) read_record(w, key, number);
         else sched_yield();
-        if (fault == 1) w->read += records[turn % (uint64_t)count].number == turn; /* no call returned this number */
+        if (fault == 1) w->read += records[(number + WRITERS) % (uint64_t)count].key == key; /* the writer's next: no call returned it */
     }
 }
 

@@ -4,23 +4,25 @@
 #include "vbr_records.h"
 #include "vbr_shared.h"
 
+#include <pthread.h>
 #include <stdio.h>
 #include <sys/mman.h>
 #include <sys/wait.h>
 #include <unistd.h>
 
-#define CHECK(x) do { if (!(x)) { fprintf(stderr, "slot_calls.c:%d: %s\n", __LINE__, #x); return 1; } } while (0)
+#define CHECK(x) do { if (!(x)) { fprintf(stderr, "slot_calls.c:%d: FAILED: %s\n", __LINE__, #x); return 1; } } while (0)
 
 enum { SLOTS = 1024 + 2 * 64 };
 
 static uint64_t beside[SLOTS];
 
 static int of_a_set(void) {
-    int added = 0, there = 0, copied = 0, let_go = 0;
+    int added = 0, there = 0, copied = 0, taken = 0, let_go = 0;
     uint32_t slot = 0;
     vbr_handle handle[2] = {{0}};
     if (vbr_open(handle, 2, SLOTS, 1024, VBR_MAX_EPOCH) != VBR_OK) return 1;
     vbr_incarnation at = {0, 0, 0}; // what a call that finds the key writes
+    vbr_incarnation before = at, nowhere = {1, 0, SLOTS};
     CHECK(vbr_let_go(&handle[0]) == VBR_HELD && vbr_insert_held(&handle[0], 5) == VBR_HELD);
     if (vbr_hold(&handle[0], &slot) == VBR_YES) beside[slot] = 7; // nobody else writes there
     CHECK(slot < SLOTS && vbr_hold(&handle[0], &slot) == VBR_HELD && vbr_insert(&handle[0], 6) == VBR_HELD);
@@ -32,6 +34,12 @@ static int of_a_set(void) {
     if (vbr_is_still(&handle[1], &at) == VBR_YES) copied++; // what was copied since at was found is of this entry
     CHECK(copied == 1 && vbr_get_entry(&handle[1], 8, &at) == VBR_NO);
     CHECK(vbr_hold(&handle[0], &slot) == VBR_YES && slot != at.slot);
+    before = at; // and then 5 is taken out and added anew
+    CHECK(vbr_remove(&handle[1], 5) == VBR_YES && vbr_insert(&handle[1], 5) == VBR_YES && vbr_get_entry(&handle[1], 5, &at) == VBR_YES);
+    CHECK(vbr_remove_entry(&handle[0], 5, &before) == VBR_NO && vbr_remove_entry(&handle[0], 6, &at) == VBR_NO); // while a slot is held, too
+    CHECK(vbr_remove_entry(&handle[0], 5, &nowhere) == VBR_NO && vbr_has(&handle[1], 5) == VBR_YES && vbr_has(&handle[1], 6) == VBR_YES);
+    if (vbr_remove_entry(&handle[0], 5, &at) == VBR_YES) taken++; // 5 stood in at.slot all the while since it was found
+    CHECK(taken == 1 && vbr_has(&handle[1], 5) == VBR_NO && vbr_remove_entry(&handle[0], 5, &at) == VBR_NO);
     if (vbr_let_go(&handle[0]) == VBR_YES) let_go++; // and its record isn't written any more
     CHECK(let_go == 1 && vbr_insert(&handle[0], 8) == VBR_YES);
     vbr_answer told;
@@ -42,8 +50,12 @@ static int of_a_set(void) {
     told = vbr_get_entry_within(&handle[1], 7, &at, 500); // at most 500 steps
     CHECK(told == VBR_YES && at.slot == slot);
     CHECK(vbr_hold_within(&handle[0], &slot, 1) == VBR_OUT_OF_STEPS && vbr_get_entry_within(&handle[1], 7, &at, 1) == VBR_OUT_OF_STEPS);
+    CHECK(vbr_remove_entry_within(&handle[0], 7, &at, 1) == VBR_OUT_OF_STEPS);
+    told = vbr_remove_entry_within(&handle[0], 7, &at, 500); // at most 500 steps
+    CHECK(told == VBR_YES && vbr_has(&handle[1], 7) == VBR_NO && vbr_balance(&handle[0]) == 1 && vbr_balance(&handle[1]) == 1); // 8, and 6
     vbr_end_all(handle, 2);
     CHECK(vbr_hold(&handle[0], &slot) == VBR_NO_HANDLE && vbr_is_still(&handle[0], &at) == VBR_NO_HANDLE);
+    CHECK(vbr_remove_entry(&handle[0], 7, &at) == VBR_NO_HANDLE);
     return 0;
 }
 
@@ -106,6 +118,55 @@ static int handed_out_anew(void) {
     CHECK(vbr_map_insert_held(&map[0], 5, 70) == VBR_YES && vbr_map_is_still(&map[0], &at) == VBR_NO);
     CHECK(vbr_map_remove_entry(&map[0], 5, &at) == VBR_NO && vbr_map_has(&map[0], 5) == VBR_YES);
     vbr_map_drop(&map[0]);
+    return 0;
+}
+
+/* The same of a set: its only slot has the key again, with another birth. */
+static int handed_out_anew_in_a_set(void) {
+    uint32_t slot = 1;
+    vbr_handle handle[1] = {{0}};
+    vbr_incarnation before = {0, 0, 0}, at = {0, 0, 0};
+    if (vbr_open(handle, 1, 1, 1, VBR_MAX_EPOCH) != VBR_OK) return 1;
+    CHECK(vbr_insert(&handle[0], 5) == VBR_YES && vbr_get_entry(&handle[0], 5, &before) == VBR_YES && before.slot == 0);
+    CHECK(vbr_remove(&handle[0], 5) == VBR_YES && vbr_is_still(&handle[0], &before) == VBR_YES);
+    CHECK(vbr_remove_entry(&handle[0], 5, &before) == VBR_NO); // it has left
+    CHECK(vbr_hold(&handle[0], &slot) == VBR_YES && slot == 0 && vbr_is_still(&handle[0], &before) == VBR_NO);
+    CHECK(vbr_insert_held(&handle[0], 5) == VBR_YES && vbr_is_still(&handle[0], &before) == VBR_NO);
+    CHECK(vbr_remove_entry(&handle[0], 5, &before) == VBR_NO && vbr_get_entry(&handle[0], 5, &at) == VBR_YES);
+    CHECK(at.slot == 0 && at.birth != before.birth && vbr_remove_entry(&handle[0], 5, &at) == VBR_YES && vbr_has(&handle[0], 5) == VBR_NO);
+    vbr_drop(&handle[0]);
+    return 0;
+}
+
+/* A walk over the keys 1, 4, 7 and so on, of which number i stands in slot i, as in each set that opens with keys. */
+static int walked_over_a_set(void) {
+    enum { KEYS = 40 };
+    vbr_handle handle[2] = {{0}};
+    vbr_answer told;
+    uint64_t walked = 0, key = 0, some[KEYS];
+    vbr_incarnation at = {0, 0, 0}, same = {0, 0, 0};
+    for (uint64_t i = 0; i < KEYS; i++) some[i] = 3 * i + 1;
+    if (vbr_open_with(handle, 2, SLOTS, 1024, VBR_MAX_EPOCH, some, KEYS) != VBR_OK) return 1;
+    vbr_cursor cursor = VBR_CURSOR_BEGIN; // before the first key
+    do {
+        told = vbr_next_at(&handle[0], &cursor, &key, &at);
+        if (told == VBR_YES) walked += key; // the key stood in at.slot
+    } while (told == VBR_YES || told == VBR_OUT_OF_STEPS); // at the end it is VBR_NO
+    CHECK(told == VBR_NO && walked == 2380);
+    key = 77, at.birth = 78, at.slot = 79;
+    CHECK(vbr_next_at(&handle[0], &cursor, &key, &at) == VBR_NO && key == 77 && at.birth == 78 && at.slot == 79);
+    vbr_cursor again = VBR_CURSOR_BEGIN;
+    CHECK(vbr_next_at_within(&handle[0], &again, &key, &at, 1) == VBR_OUT_OF_STEPS && key == 77 && at.birth == 78 && at.slot == 79);
+    cursor = again;
+    told = vbr_next_at_within(&handle[0], &cursor, &key, &at, 5000); // at most 5000 steps
+    for (int i = 0; i < KEYS; i++, told = vbr_next_at(&handle[0], &cursor, &key, &at)) {
+        CHECK(told == VBR_YES && key == 3 * at.slot + 1 && at.value == 0 && vbr_is_still(&handle[1], &at) == VBR_YES);
+        CHECK(vbr_get_entry(&handle[1], key, &same) == VBR_YES && same.slot == at.slot && same.birth == at.birth && same.value == 0);
+        CHECK(vbr_remove_entry(&handle[1], key, &at) == VBR_YES); // and so it isn't given again
+    }
+    CHECK(told == VBR_NO && vbr_balance(&handle[1]) == -KEYS);
+    vbr_end_all(handle, 2);
+    CHECK(vbr_next_at(&handle[0], &cursor, &key, &at) == VBR_NO_HANDLE);
     return 0;
 }
 
@@ -255,6 +316,93 @@ static int beside_a_set(void) {
     return 0;
 }
 
+/* A walk over the records of a set. */
+static int walked_beside_a_set(void) {
+    uint32_t slot = 0;
+    uint64_t key = 0, sum = 0;
+    vbr_handle handle[2] = {{0}};
+    vbr_incarnation at = {0, 0, 0};
+    struct account mine = {"somebody", 0}, seen = {"", 0};
+    static vbr_records accounts;
+    if (vbr_open(handle, 2, SLOTS, 1024, VBR_MAX_EPOCH) != VBR_OK) return 1;
+    CHECK(vbr_records_open(&accounts, vbr_slots(&handle[0]), sizeof(struct account), NULL) == VBR_OK);
+    for (uint64_t other = 20; other < 30; other++) {
+        mine.balance = 3 * other;
+        CHECK(vbr_hold(&handle[other % 2], &slot) == VBR_YES);
+        vbr_records_write(&accounts, slot, &mine);
+        CHECK(vbr_insert_held(&handle[other % 2], other) == VBR_YES);
+    }
+    vbr_answer told;
+    vbr_cursor cursor = VBR_CURSOR_BEGIN, again = VBR_CURSOR_BEGIN;
+    do {
+        told = vbr_records_next(&handle[0], &cursor, &accounts, &key, &seen, &at);
+        if (told == VBR_YES) sum += seen.balance; // the key had this record during the call
+    } while (told == VBR_YES || told == VBR_OUT_OF_STEPS); // at the end it is VBR_NO
+    CHECK(told == VBR_NO && sum == 3 * 245 && seen.balance == 0 && seen.owner[0] == 0);
+    for (int i = 0; i < 10; i++) {
+        CHECK(vbr_records_next(&handle[1], &again, &accounts, &key, &seen, &at) == VBR_YES && seen.balance == 3 * key && seen.owner[7] == 'y');
+        CHECK(vbr_remove_entry(&handle[1], key, &at) == VBR_YES);
+    }
+    CHECK(vbr_records_next(&handle[1], &again, &accounts, &key, &seen, &at) == VBR_NO);
+    vbr_end_all(handle, 2);
+    CHECK(vbr_records_next(&handle[1], &again, &accounts, &key, &seen, &at) == VBR_NO_HANDLE && seen.balance == 0);
+    vbr_records_close(&accounts);
+    return 0;
+}
+
+/* Walks over four keys of a set, and of a map, while another thread takes them out and adds them anew, each time with a record of another
+   round, in six slots: each record that a walk gives is whole, and of its key. FOR is nothing for a set and map_ for a map. */
+enum { ROUNDS = 100000, WORDS = 32 };
+
+static int is_over;
+
+#define WALKS_MEANWHILE(FOR, ...) \
+    static vbr_##FOR##handle FOR##both[2]; \
+    static vbr_records FOR##rounds; \
+    static void *FOR##write_rounds(void *wrong) { \
+        for (uint64_t round = 0; round < ROUNDS; round++) { \
+            uint64_t key = round % 4, words[WORDS]; \
+            uint32_t slot = 0; \
+            vbr_incarnation at = {0, 0, 0}; \
+            for (int i = 0; i < WORDS; i++) words[i] = 4 * round + key; \
+            if (round >= 4 && vbr_##FOR##get_entry(&FOR##both[0], key, &at) != VBR_YES) return wrong; \
+            if (round >= 4 && vbr_##FOR##remove_entry(&FOR##both[0], key, &at) != VBR_YES) return wrong; \
+            if (vbr_##FOR##hold(&FOR##both[0], &slot) != VBR_YES) return wrong; \
+            vbr_records_write(&FOR##rounds, slot, words); \
+            if (vbr_##FOR##insert_held(&FOR##both[0], __VA_ARGS__) != VBR_YES) return wrong; \
+        } \
+        return NULL; \
+    } \
+    static void *FOR##write_and_end(void *wrong) { \
+        wrong = FOR##write_rounds(wrong); \
+        __atomic_store_n(&is_over, 1, __ATOMIC_RELAXED); \
+        return wrong; \
+    } \
+    static int FOR##walks_meanwhile(void) { \
+        pthread_t writer; \
+        void *wrong = NULL; \
+        uint64_t words[WORDS], key = 0; \
+        vbr_incarnation at = {0, 0, 0}; \
+        CHECK(vbr_##FOR##open(FOR##both, 2, 6, 4, VBR_MAX_EPOCH) == VBR_OK); \
+        CHECK(vbr_records_open(&FOR##rounds, 6, sizeof words, NULL) == VBR_OK); \
+        __atomic_store_n(&is_over, 0, __ATOMIC_RELAXED); \
+        CHECK(!pthread_create(&writer, NULL, FOR##write_and_end, words)); \
+        while (!__atomic_load_n(&is_over, __ATOMIC_RELAXED)) { \
+            vbr_cursor cursor = VBR_CURSOR_BEGIN; \
+            vbr_answer told; \
+            while ((told = vbr_##FOR##records_next(&FOR##both[1], &cursor, &FOR##rounds, &key, words, &at)) == VBR_YES) \
+                for (int i = 0; i < WORDS; i++) CHECK(key < 4 && words[i] % 4 == key && words[i] == words[0]); \
+            CHECK(told == VBR_NO); \
+        } \
+        CHECK(!pthread_join(writer, &wrong) && !wrong); \
+        vbr_##FOR##end_all(FOR##both, 2); \
+        vbr_records_close(&FOR##rounds); \
+        return 0; \
+    }
+
+WALKS_MEANWHILE(, key)
+WALKS_MEANWHILE(map_, key, round)
+
 /* Records in memory that processes share: one of them writes a record, and ends with another slot in hand. */
 static int between_processes(void) {
     vbr_shared_handle *handle = NULL;
@@ -288,8 +436,9 @@ static int between_processes(void) {
 }
 
 int main(void) {
-    if (of_a_set() || of_a_map() || handed_out_anew() || walked() || reported() || reported_of_a_map()) return 1;
-    if (beside_a_map() || beside_a_set() || between_processes()) return 1;
+    if (of_a_set() || of_a_map() || handed_out_anew() || handed_out_anew_in_a_set()) return 1;
+    if (walked() || walked_over_a_set() || reported() || reported_of_a_map()) return 1;
+    if (beside_a_map() || beside_a_set() || walked_beside_a_set() || walks_meanwhile() || map_walks_meanwhile() || between_processes()) return 1;
     puts("examples of each call on slots in hand and records in C: passed");
     return 0;
 }

@@ -1,5 +1,5 @@
-/* The library with one fault of what stands in slots, whose number FAULT names in the environment: slot_records has to find it. Link
-   with -Wl,--wrap=NAME for each __wrap_NAME of the object.
+/* The library with one fault of what stands in slots of sets, or with -DOF_MAPS of maps, whose number FAULT names in the environment:
+   slot_calls has to find those of sets, and slot_records those of maps. Link with -Wl,--wrap=NAME for each __wrap_NAME of the object.
 
     1 the question whether a slot is an entry's own still is answered yes, whatever stands there
     2 a replacement by a slot in hand takes the place of whatever entry is there
@@ -8,19 +8,37 @@
     5 a hold now and then gives the number of a slot that an entry stands in
     6 a look-up now and then names the entry that the one before it of its thread found
     7 a walk now and then names the entry that its call before found
-    8 a report tells the slots of two entries the other way round */
+    8 a report tells the slots of two entries the other way round
+
+   The second and the fourth are of maps alone. */
 #include "faulty.h"
 #include "vbr.h"
 
 #include <sched.h>
 
-vbr_answer __real_vbr_map_is_still(vbr_map_handle *handle, const vbr_incarnation *at);
-vbr_answer __real_vbr_map_replace_held_within(vbr_map_handle *handle, uint64_t key, const vbr_incarnation *at, uint64_t value, uint32_t steps);
-vbr_answer __real_vbr_map_remove_entry_within(vbr_map_handle *handle, uint64_t key, const vbr_incarnation *at, uint32_t steps);
-vbr_answer __real_vbr_map_hold_within(vbr_map_handle *handle, uint32_t *slot, uint32_t steps);
-vbr_answer __real_vbr_map_get_entry_within(vbr_map_handle *handle, uint64_t key, vbr_incarnation *at, uint32_t steps);
-vbr_answer __real_vbr_map_next_at_within(vbr_map_handle *handle, vbr_cursor *cursor, uint64_t *key, vbr_incarnation *at, uint32_t steps);
-vbr_answer __real_vbr_map_report_slots(vbr_map_handle *handles, size_t count, vbr_entry *entries, uint32_t *slots, size_t room, vbr_report *report);
+/* WITH names what only calls on maps have. */
+#ifdef OF_MAPS
+typedef vbr_map_handle a_handle;
+typedef vbr_entry an_item;
+#define CALL(call) vbr_map_##call
+#define REAL(call) __real_vbr_map_##call
+#define WRAP(call) __wrap_vbr_map_##call
+#define WITH(value) , value
+#else
+typedef vbr_handle a_handle;
+typedef uint64_t an_item;
+#define CALL(call) vbr_##call
+#define REAL(call) __real_vbr_##call
+#define WRAP(call) __wrap_vbr_##call
+#define WITH(value)
+#endif
+
+vbr_answer REAL(is_still)(a_handle *handle, const vbr_incarnation *at);
+vbr_answer REAL(remove_entry_within)(a_handle *handle, uint64_t key, const vbr_incarnation *at, uint32_t steps);
+vbr_answer REAL(hold_within)(a_handle *handle, uint32_t *slot, uint32_t steps);
+vbr_answer REAL(get_entry_within)(a_handle *handle, uint64_t key, vbr_incarnation *at, uint32_t steps);
+vbr_answer REAL(next_at_within)(a_handle *handle, vbr_cursor *cursor, uint64_t *key, vbr_incarnation *at, uint32_t steps);
+vbr_answer REAL(report_slots)(a_handle *handles, size_t count, an_item *items, uint32_t *slots, size_t room, vbr_report *report);
 
 /* What this thread found last, by a look-up and by a walk. */
 static _Thread_local vbr_incarnation found, walked;
@@ -31,45 +49,49 @@ static void gives_one_before(int number, vbr_incarnation *at, vbr_incarnation *b
     else *before = *at;
 }
 
-vbr_answer __wrap_vbr_map_is_still(vbr_map_handle *handle, const vbr_incarnation *at) {
-    vbr_answer told = __real_vbr_map_is_still(handle, at);
+vbr_answer WRAP(is_still)(a_handle *handle, const vbr_incarnation *at) {
+    vbr_answer told = REAL(is_still)(handle, at);
     return told == VBR_NO && fault() == 1 ? VBR_YES : told;
 }
 
-vbr_answer __wrap_vbr_map_replace_held_within(vbr_map_handle *handle, uint64_t key, const vbr_incarnation *at, uint64_t value, uint32_t steps) {
-    if (now(4)) return vbr_map_let_go(handle);
-    vbr_answer told = __real_vbr_map_replace_held_within(handle, key, at, value, steps);
-    if (told != VBR_NO || fault() != 2 || vbr_map_has_within(handle, key, steps) != VBR_YES) return told;
-    return vbr_map_put_held_within(handle, key, value, NULL, steps) >= 0 ? VBR_YES : VBR_OUT_OF_STEPS;
-}
+#ifdef OF_MAPS
+vbr_answer REAL(replace_held_within)(a_handle *handle, uint64_t key, const vbr_incarnation *at, uint64_t value, uint32_t steps);
 
-vbr_answer __wrap_vbr_map_remove_entry_within(vbr_map_handle *handle, uint64_t key, const vbr_incarnation *at, uint32_t steps) {
+vbr_answer WRAP(replace_held_within)(a_handle *handle, uint64_t key, const vbr_incarnation *at, uint64_t value, uint32_t steps) {
+    if (now(4)) return CALL(let_go)(handle);
+    vbr_answer told = REAL(replace_held_within)(handle, key, at, value, steps);
+    if (told != VBR_NO || fault() != 2 || CALL(has_within)(handle, key, steps) != VBR_YES) return told;
+    return CALL(put_held_within)(handle, key, value, NULL, steps) >= 0 ? VBR_YES : VBR_OUT_OF_STEPS;
+}
+#endif
+
+vbr_answer WRAP(remove_entry_within)(a_handle *handle, uint64_t key, const vbr_incarnation *at, uint32_t steps) {
     if (fault() == 3) sched_yield(); /* so that others change the entry more often */
-    vbr_answer told = __real_vbr_map_remove_entry_within(handle, key, at, steps);
-    return told == VBR_NO && fault() == 3 ? vbr_map_remove_within(handle, key, NULL, steps) : told;
+    vbr_answer told = REAL(remove_entry_within)(handle, key, at, steps);
+    return told == VBR_NO && fault() == 3 ? CALL(remove_within)(handle, key WITH(NULL), steps) : told;
 }
 
-vbr_answer __wrap_vbr_map_hold_within(vbr_map_handle *handle, uint32_t *slot, uint32_t steps) {
-    vbr_answer told = __real_vbr_map_hold_within(handle, slot, steps);
+vbr_answer WRAP(hold_within)(a_handle *handle, uint32_t *slot, uint32_t steps) {
+    vbr_answer told = REAL(hold_within)(handle, slot, steps);
     if (told == VBR_YES && found.birth && now(5)) *slot = found.slot;
     return told;
 }
 
-vbr_answer __wrap_vbr_map_get_entry_within(vbr_map_handle *handle, uint64_t key, vbr_incarnation *at, uint32_t steps) {
-    vbr_answer told = __real_vbr_map_get_entry_within(handle, key, at, steps);
+vbr_answer WRAP(get_entry_within)(a_handle *handle, uint64_t key, vbr_incarnation *at, uint32_t steps) {
+    vbr_answer told = REAL(get_entry_within)(handle, key, at, steps);
     if (told == VBR_YES) gives_one_before(6, at, &found);
     if (fault() == 1) sched_yield(); /* so that the slot is handed out anew more often */
     return told;
 }
 
-vbr_answer __wrap_vbr_map_next_at_within(vbr_map_handle *handle, vbr_cursor *cursor, uint64_t *key, vbr_incarnation *at, uint32_t steps) {
-    vbr_answer told = __real_vbr_map_next_at_within(handle, cursor, key, at, steps);
+vbr_answer WRAP(next_at_within)(a_handle *handle, vbr_cursor *cursor, uint64_t *key, vbr_incarnation *at, uint32_t steps) {
+    vbr_answer told = REAL(next_at_within)(handle, cursor, key, at, steps);
     if (told == VBR_YES) gives_one_before(7, at, &walked);
     return told;
 }
 
-vbr_answer __wrap_vbr_map_report_slots(vbr_map_handle *handles, size_t count, vbr_entry *entries, uint32_t *slots, size_t room, vbr_report *report) {
-    vbr_answer told = __real_vbr_map_report_slots(handles, count, entries, slots, room, report);
+vbr_answer WRAP(report_slots)(a_handle *handles, size_t count, an_item *items, uint32_t *slots, size_t room, vbr_report *report) {
+    vbr_answer told = REAL(report_slots)(handles, count, items, slots, room, report);
     if (told == VBR_YES && report->live > 1 && fault() == 8) {
         uint32_t first = slots[0];
         slots[0] = slots[1], slots[1] = first;

@@ -21,7 +21,7 @@
 enum { PAIRS = 2, THREADS = 2 * PAIRS, SLOTS = 12, WORDS = 16 };
 
 static uint64_t messages[SLOTS][WORDS]; /* one for each slot */
-static vbr_map_handle map[THREADS];
+static vbr_handle handle[THREADS];
 static uint64_t turns = 20000;
 static int fault;
 
@@ -35,34 +35,34 @@ static void read_message(uint32_t slot, uint64_t key) {
 }
 
 static void *send(void *of) {
-    vbr_map_handle *mine = of;
-    uint64_t pair = (uint64_t)(mine - map) / 2;
+    vbr_handle *mine = of;
+    uint64_t pair = (uint64_t)(mine - handle) / 2;
     for (uint64_t turn = 0; turn < turns; turn++) {
         uint64_t key = turn * PAIRS + pair;
         uint32_t slot = 0;
         vbr_answer told;
-        while ((told = vbr_map_hold(mine, &slot)) == VBR_NO_SLOT) sched_yield(); /* all are in messages */
+        while ((told = vbr_hold(mine, &slot)) == VBR_NO_SLOT) sched_yield(); /* all are in messages */
         CHECK(told == VBR_YES);
         if (fault != 2) write_message(slot, key);
-        CHECK(vbr_map_insert_held(mine, key, 0) == VBR_YES);
+        CHECK(vbr_insert_held(mine, key) == VBR_YES);
         if (fault == 2) write_message(slot, key);
     }
-    vbr_map_spare(mine);
+    vbr_spare(mine);
     return NULL;
 }
 
 static void *receive(void *of) {
-    vbr_map_handle *mine = of;
-    uint64_t pair = (uint64_t)(mine - map) / 2;
+    vbr_handle *mine = of;
+    uint64_t pair = (uint64_t)(mine - handle) / 2;
     for (uint64_t turn = 0; turn < turns; turn++) {
         uint64_t key = turn * PAIRS + pair;
         vbr_incarnation at = {0, 0, 0};
         vbr_answer told;
-        while ((told = vbr_map_get_entry(mine, key, &at)) == VBR_NO) sched_yield();
+        while ((told = vbr_get_entry(mine, key, &at)) == VBR_NO) sched_yield();
         CHECK(told == VBR_YES);
         if (fault != 1) read_message(at.slot, key);
-        CHECK(vbr_map_remove_entry(mine, key, &at) == VBR_YES);
-        vbr_map_spare(mine); /* the senders want it */
+        CHECK(vbr_remove_entry(mine, key, &at) == VBR_YES);
+        vbr_spare(mine); /* the senders want it */
         if (fault == 1) read_message(at.slot, key);
     }
     return NULL;
@@ -72,10 +72,10 @@ int main(int count, char **words) {
     pthread_t threads[THREADS];
     if (count > 1) turns = strtoull(words[1], NULL, 10);
     if (count > 2) fault = atoi(words[2]);
-    CHECK(vbr_map_open(map, THREADS, SLOTS, 16, VBR_MAX_EPOCH) == VBR_OK);
-    for (int i = 0; i < THREADS; i++) CHECK(!pthread_create(&threads[i], NULL, i % 2 ? receive : send, &map[i]));
+    CHECK(vbr_open(handle, THREADS, SLOTS, 16, VBR_MAX_EPOCH) == VBR_OK);
+    for (int i = 0; i < THREADS; i++) CHECK(!pthread_create(&threads[i], NULL, i % 2 ? receive : send, &handle[i]));
     for (int i = 0; i < THREADS; i++) CHECK(!pthread_join(threads[i], NULL));
-    vbr_map_end_all(map, THREADS);
+    vbr_end_all(handle, THREADS);
     puts("plain memory beside slots, handed over: passed");
     return 0;
 }

@@ -2,8 +2,9 @@
    measures, and claims nothing: slot_speed [RUNS [CALLS [THREADS]]]
 
    Of each kind it prints the least time in ns, and the median of the ratio to a get of the same run: of processor time, in the mean of
-   the threads, which all make calls of this kind. A record has 256 bytes. The line on answers says how many of the entries that the
-   look-ups of the second kind found had left their slots by the question, while another thread gave keys other records. */
+   the threads, which all make calls of this kind. A record has 256 bytes. Then comes the median of the ratio of `is_still` to a
+   generation. The line on answers says how many of the entries that the look-ups of the second kind found had left their slots by the
+   question, while another thread gave keys other records. */
 #define _POSIX_C_SOURCE 200809L
 #include "vbr_records.h"
 
@@ -15,7 +16,7 @@
 
 #define CHECK(x) do { if (!(x)) { fprintf(stderr, "slot_speed.c:%d: FAILED: %s\n", __LINE__, #x); exit(1); } } while (0)
 
-enum { KEYS = 4096, MOST_THREADS = 8, SLOTS = KEYS + 64 * MOST_THREADS, KINDS = 9, MOST_RUNS = 99, GET = 0, ASKED = 2 };
+enum { KEYS = 4096, MOST_THREADS = 8, SLOTS = KEYS + 64 * MOST_THREADS, KINDS = 9, MOST_RUNS = 99, GET = 0, ASKED = 2, COUNTED = 3 };
 
 static const char *const names[KINDS] = {
     "get", "get_entry", "get_entry and is_still", "get and the generation of a record", "records_read", "put",
@@ -148,8 +149,17 @@ static void open_all(void) {
     }
 }
 
+static double took[KINDS][MOST_RUNS];
+
+/* The median of what a call of a kind took, by what one of another kind took in the same run. */
+static double ratio(int kind, int to, long runs) {
+    double ratios[MOST_RUNS];
+    for (long run = 0; run < runs; run++) ratios[run] = took[kind][run] / took[to][run];
+    qsort(ratios, (size_t)runs, sizeof *ratios, is_above);
+    return ratios[runs / 2];
+}
+
 int main(int count, char **words) {
-    static double took[KINDS][MOST_RUNS];
     long runs = count > 1 ? strtol(words[1], NULL, 10) : 15, calls = count > 2 ? strtol(words[2], NULL, 10) : 1000000;
     long threads = count > 3 ? strtol(words[3], NULL, 10) : 1;
     CHECK(runs > 0 && runs <= MOST_RUNS && calls > 0 && threads > 0 && threads <= MOST_THREADS);
@@ -158,14 +168,12 @@ int main(int count, char **words) {
         for (int kind = 0; kind < KINDS; kind++) took[kind][run] = measured(kind, calls, (int)threads);
     printf("call,least ns,median ratio to a get\n");
     for (int kind = 0; kind < KINDS; kind++) {
-        double ratios[MOST_RUNS], least = took[kind][0];
-        for (long run = 0; run < runs; run++) {
-            ratios[run] = took[kind][run] / took[GET][run];
+        double least = took[kind][0];
+        for (long run = 0; run < runs; run++)
             if (took[kind][run] < least) least = took[kind][run];
-        }
-        qsort(ratios, (size_t)runs, sizeof *ratios, is_above);
-        printf("%s,%.1f,%.2f\n", names[kind], least, ratios[runs / 2]);
+        printf("%s,%.1f,%.2f\n", names[kind], least, ratio(kind, GET, runs));
     }
+    printf("is_still to a generation: %.2f\n", ratio(ASKED, COUNTED, runs));
     asks_beside_a_writer(calls);
     for (int i = 0; i < MOST_THREADS; i++) vbr_map_drop(&maps[i]), vbr_map_drop(&plain[i]);
     vbr_records_close(&records);

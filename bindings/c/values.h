@@ -257,6 +257,29 @@ VBR_NODISCARD static inline vbr_answer value_next_within(vbr_map_handle *handle,
     return answer;
 }
 
+/* An insert by the slot in hand. */
+VBR_NODISCARD static inline vbr_answer value_insert_held(vbr_map_handle *handle, uint64_t key) {
+    struct value_place *it = value_begins(key);
+    vbr_answer answer = vbr_map_insert_held(handle, key, value_read(&it->value));
+    value_ends(it, answer == VBR_YES);
+    return answer;
+}
+
+/* An entry that is found has a value of its key, and where this very entry is taken out, so is its value. */
+VBR_NODISCARD static inline vbr_answer value_get_entry(vbr_map_handle *handle, uint64_t key, vbr_incarnation *at) {
+    uint64_t began = value_read(&value_time);
+    vbr_answer answer = vbr_map_get_entry(handle, key, at);
+    if (answer == VBR_YES) value_is_found(key, at->value, began);
+    return answer;
+}
+
+VBR_NODISCARD static inline vbr_answer value_remove_entry(vbr_map_handle *handle, uint64_t key, const vbr_incarnation *at) {
+    uint64_t began = value_read(&value_time);
+    vbr_answer answer = vbr_map_remove_entry(handle, key, at);
+    if (answer == VBR_YES) value_is_taken(key, at->value, began);
+    return answer;
+}
+
 VBR_NODISCARD static inline vbr_answer value_open(vbr_map_handle *handles, size_t count, uint32_t slots, uint32_t buckets, uint64_t last_epoch) {
     return vbr_map_open(handles, count, slots, buckets, last_epoch);
 }
@@ -412,6 +435,10 @@ VBR_NODISCARD static inline vbr_answer value_next(vbr_map_handle *handle, vbr_cu
 #define vbr_has_all_within value_look_up_all_within
 #define vbr_next value_next
 #define vbr_next_within value_next_within
+#define vbr_hold vbr_map_hold
+#define vbr_insert_held value_insert_held
+#define vbr_get_entry value_get_entry
+#define vbr_remove_entry value_remove_entry
 #define vbr_close value_close
 #define vbr_close_all value_close_all
 #define vbr_report_all value_report_all

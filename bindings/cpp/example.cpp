@@ -548,10 +548,43 @@ static int slots_in_hand() {
     return 0;
 }
 
+// A key that was taken out and added anew has another entry.
+static int entries() {
+    vbr::handle mine = std::move(vbr::open_with(vbr::shape{1, 1}, 1, {7})->at(0));
+    int taken_out = 0;
+    std::optional<vbr::incarnation> before = mine.get_entry(7).value();
+    CHECK(mine.remove(7) == true && mine.remove_entry(7, *before) == false && mine.insert(7) == true);
+    CHECK(mine.remove_entry(7, *before) == false && mine.has(7) == true);
+    std::optional<vbr::incarnation> at = mine.get_entry(7).value();
+    CHECK(at->slot() == 0 && before->slot() == 0 && !(at == before));
+    CHECK(mine.remove_entry_within(7, *at, vbr::steps{1}) == vbr::refusal::out_of_steps && mine.remove_entry(8, *at) == false);
+    if (mine.remove_entry(7, *at).value()) taken_out++; // nobody had changed 7 since it was found
+    CHECK(taken_out == 1 && mine.has(7) == false && mine.is_still(*at) == true);
+    CHECK(mine.close().value()->keys.empty() && mine.remove_entry(7, *at) == vbr::refusal::no_handle);
+    return 0;
+}
+
+// Each key of a walk, with where it stands: number i of those that a set opens with in slot i.
+static int walks_tell_where() {
+    vbr::handle mine = opened_with_nine();
+    vbr::cursor from, short_of;
+    CHECK(mine.next_at_within(short_of, vbr::steps{1}) == vbr::refusal::out_of_steps);
+    for (std::uint64_t key : nine_by_bucket) {
+        auto stands = mine.next_at(from).value(); // a key, and its incarnation
+        CHECK(stands && stands->first == key && stands->second.slot() == key - 1 && mine.get_entry(key).value() == stands->second);
+        vbr::held slot = mine.hold().value(); // while a slot is in hand, too
+        CHECK(mine.remove_entry(key, stands->second) == true && mine.insert(key) == vbr::refusal::held);
+    }
+    CHECK(!mine.next_at(from).value() && mine.balance() == 0);
+    vbr::handle none;
+    CHECK(none.next_at(from) == vbr::refusal::no_handle);
+    return 0;
+}
+
 int main() {
     if (example() || calls() || spared() || results() || words() || budgets() || all_handles() || many_keys() || the_most() || crowds()) return 1;
     if (refusals() || ranges() || walks() || walked_by_iterators() || refused_walks() || ends() || ends_of_all()) return 1;
-    if (exceptions() || closes_at_once() || loans() || seeds() || slots_in_hand()) return 1;
+    if (exceptions() || closes_at_once() || loans() || seeds() || slots_in_hand() || entries() || walks_tell_where()) return 1;
     std::puts("example in C++: passed");
     return 0;
 }

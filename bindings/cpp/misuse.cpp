@@ -44,8 +44,9 @@ void budgets(vbr::handle &set, vbr::map_handle &map) {
     std::uint64_t to_number = few; // refused
 }
 
-// A slot in hand is moved and never copied, and a call that publishes it takes it.
-void slots_in_hand(vbr::map_handle &map, vbr::map_held &slot, vbr::held &of_set, const vbr::map_incarnation &at) {
+// A slot in hand is moved and never copied, and a call that publishes it takes it. An entry of a map is none of a set.
+void slots_in_hand(vbr::map_handle &map, vbr::map_held &slot, vbr::held &of_set, const vbr::map_incarnation &at, vbr::handle &set,
+                   const vbr::incarnation &of_a_key) {
     static_cast<void>(map.insert(std::move(slot), 5, 70));
     static_cast<void>(map.replace(std::move(slot), 5, at, 71));
     static_cast<void>(map.insert(slot, 5, 70)); // refused
@@ -53,8 +54,12 @@ void slots_in_hand(vbr::map_handle &map, vbr::map_held &slot, vbr::held &of_set,
     static_cast<void>(map.insert(std::move(of_set), 5, 70)); // refused
     static_cast<void>(map.replace(std::move(slot), 5, 71)); // refused
     vbr::map_held copy = slot; // refused
+    static_cast<void>(set.remove_entry(5, of_a_key));
+    static_cast<void>(set.remove_entry(5, at)); // refused
+    static_cast<void>(map.remove_entry(5, of_a_key)); // refused
     map.hold(); // refused
     map.get_entry(5); // refused
+    set.remove_entry(5, of_a_key); // refused
 }
 
 // Nothing that a call answers is thrown away.

@@ -127,7 +127,7 @@ typedef enum vbr_answer {
                               next_at: the next key is given */
     VBR_OTHER = 2,         /* compare_exchange, remove_if: the key is there with another value; nothing was changed */
     VBR_OUT_OF_STEPS = -1, /* the budget is spent; no call was made; a greater budget may help;
-                              next: the cursor keeps how far it has come */
+                              next, next_at: the cursor keeps how far it has come */
     VBR_NO_SLOT = -2,      /* the handle found no slot for a node; no call was made; insert, get_or_insert: the key is absent */
     VBR_EPOCH_SPENT = -3,  /* a node is wanted and the last epoch is spent; no call was made; renew the set;
                               insert, get_or_insert: the key is absent */
@@ -999,8 +999,22 @@ VBR_NODISCARD vbr_answer vbr_is_still(vbr_handle *handle, const vbr_incarnation 
 VBR_NODISCARD vbr_answer vbr_map_is_still(vbr_map_handle *handle, const vbr_incarnation *at) VBR_NOEXCEPT VBR_NONNULL;
 
 /* Takes a key out if it still has the very entry that was found: VBR_YES if it had, and it is then absent; VBR_NO if it is absent, or
-   has another entry by now, and then nothing was changed. Else VBR_OUT_OF_STEPS or VBR_NO_HANDLE. What vbr_remove says of the node of
-   the key holds here too. It takes no memory and never waits.
+   was taken out and added again since it was found, and then nothing was changed. Else VBR_OUT_OF_STEPS or VBR_NO_HANDLE. A budget that
+   is enough for vbr_remove is enough. What vbr_remove says of the node of the key holds here too. It takes no memory and never waits.
+
+       if (vbr_remove_entry(&handle[0], 5, &at) == VBR_YES) taken++; // 5 stood in at.slot all the while since it was found */
+VBR_NODISCARD static inline vbr_answer vbr_remove_entry(vbr_handle *handle, uint64_t key,
+                                                        const vbr_incarnation *at) VBR_NOEXCEPT VBR_NONNULL;
+
+/* Takes a key out as vbr_remove_entry does, within `steps` steps, in place of the budget of the handle. What it answers is what
+   vbr_remove_entry answers.
+
+       told = vbr_remove_entry_within(&handle[0], 7, &at, 500); // at most 500 steps */
+VBR_NODISCARD vbr_answer vbr_remove_entry_within(vbr_handle *handle, uint64_t key, const vbr_incarnation *at,
+                                                 uint32_t steps) VBR_NOEXCEPT VBR_NONNULL;
+
+/* Takes a key out with its value if it still has the very entry that was found, as vbr_remove_entry does of a set. Where it was given a
+   value since then, also the same one, it has another entry: VBR_NO.
 
        if (vbr_map_remove_entry(&map[0], 5, &at) == VBR_YES) taken++; // nobody had changed 5 since it was found */
 VBR_NODISCARD static inline vbr_answer vbr_map_remove_entry(vbr_map_handle *handle, uint64_t key,
@@ -1013,9 +1027,26 @@ VBR_NODISCARD static inline vbr_answer vbr_map_remove_entry(vbr_map_handle *hand
 VBR_NODISCARD vbr_answer vbr_map_remove_entry_within(vbr_map_handle *handle, uint64_t key, const vbr_incarnation *at,
                                                      uint32_t steps) VBR_NOEXCEPT VBR_NONNULL;
 
-/* Gives the next key of a walk as vbr_map_next does, and tells where it stands, as vbr_map_get_entry does: VBR_YES, and the key is then
-   in `*key`, and its entry in `*at`; VBR_NO at the end. Else VBR_OUT_OF_STEPS or VBR_NO_HANDLE. Unless it answers VBR_YES no key and no
-   entry is written. Its steps are those of vbr_map_next. It takes no memory and never waits.
+/* Gives the next key of a walk as vbr_next does, and tells where it stands, as vbr_get_entry does: VBR_YES, and the key is then in
+   `*key`, and its entry in `*at`; VBR_NO at the end. Else VBR_OUT_OF_STEPS or VBR_NO_HANDLE. Unless it answers VBR_YES no key and no
+   entry is written. Its steps are those of vbr_next. It takes no memory and never waits.
+
+       do {
+           told = vbr_next_at(&handle[0], &cursor, &key, &at);
+           if (told == VBR_YES) walked += key; // the key stood in at.slot
+       } while (told == VBR_YES || told == VBR_OUT_OF_STEPS); // at the end it is VBR_NO */
+VBR_NODISCARD static inline vbr_answer vbr_next_at(vbr_handle *handle, vbr_cursor *cursor, uint64_t *key,
+                                                   vbr_incarnation *at) VBR_NOEXCEPT VBR_NONNULL;
+
+/* Gives the next key of a walk as vbr_next_at does, within `steps` steps, in place of the budget of the handle. What it answers is what
+   vbr_next_at answers.
+
+       told = vbr_next_at_within(&handle[0], &cursor, &key, &at, 5000); // at most 5000 steps */
+VBR_NODISCARD vbr_answer vbr_next_at_within(vbr_handle *handle, vbr_cursor *cursor, uint64_t *key, vbr_incarnation *at,
+                                            uint32_t steps) VBR_NOEXCEPT VBR_NONNULL;
+
+/* Gives the next key of a walk as vbr_map_next does, and tells where it stands, as vbr_next_at does of a set: where it answers VBR_YES,
+   `at->value` is the value. Its steps are those of vbr_map_next.
 
        do {
            told = vbr_map_next_at(&map[0], &cursor, &key, &at);
@@ -1136,8 +1167,14 @@ static inline vbr_answer vbr_get_entry(vbr_handle *handle, uint64_t key, vbr_inc
 static inline vbr_answer vbr_map_get_entry(vbr_map_handle *handle, uint64_t key, vbr_incarnation *at) VBR_NOEXCEPT {
     return vbr_map_get_entry_within(handle, key, at, vbr_map_steps_of(handle));
 }
+static inline vbr_answer vbr_remove_entry(vbr_handle *handle, uint64_t key, const vbr_incarnation *at) VBR_NOEXCEPT {
+    return vbr_remove_entry_within(handle, key, at, vbr_steps_of(handle));
+}
 static inline vbr_answer vbr_map_remove_entry(vbr_map_handle *handle, uint64_t key, const vbr_incarnation *at) VBR_NOEXCEPT {
     return vbr_map_remove_entry_within(handle, key, at, vbr_map_steps_of(handle));
+}
+static inline vbr_answer vbr_next_at(vbr_handle *handle, vbr_cursor *cursor, uint64_t *key, vbr_incarnation *at) VBR_NOEXCEPT {
+    return vbr_next_at_within(handle, cursor, key, at, vbr_steps_of(handle));
 }
 static inline vbr_answer vbr_map_next_at(vbr_map_handle *handle, vbr_cursor *cursor, uint64_t *key, vbr_incarnation *at) VBR_NOEXCEPT {
     return vbr_map_next_at_within(handle, cursor, key, at, vbr_map_steps_of(handle));

@@ -580,6 +580,12 @@ struct set_calls {
         return vbr_get_entry_within(handle, key, at, steps);
     }
     static vbr_answer is_still(raw *handle, const vbr_incarnation *at) noexcept { return vbr_is_still(handle, at); }
+    static vbr_answer remove_entry(raw *handle, std::uint64_t key, const vbr_incarnation *at, std::uint32_t steps) noexcept {
+        return vbr_remove_entry_within(handle, key, at, steps);
+    }
+    static vbr_answer next_at(raw *handle, vbr_cursor *cursor, std::uint64_t *key, vbr_incarnation *at, std::uint32_t steps) noexcept {
+        return vbr_next_at_within(handle, cursor, key, at, steps);
+    }
     static vbr_answer renew_all(raw *handles, std::size_t count, const shape &wanted, std::uint64_t seed) noexcept {
         return vbr_renew_all_seeded(handles, count, wanted.slots, wanted.buckets, wanted.last_epoch, seed);
     }
@@ -629,6 +635,12 @@ struct map_calls {
         return vbr_map_get_entry_within(handle, key, at, steps);
     }
     static vbr_answer is_still(raw *handle, const vbr_incarnation *at) noexcept { return vbr_map_is_still(handle, at); }
+    static vbr_answer remove_entry(raw *handle, std::uint64_t key, const vbr_incarnation *at, std::uint32_t steps) noexcept {
+        return vbr_map_remove_entry_within(handle, key, at, steps);
+    }
+    static vbr_answer next_at(raw *handle, vbr_cursor *cursor, std::uint64_t *key, vbr_incarnation *at, std::uint32_t steps) noexcept {
+        return vbr_map_next_at_within(handle, cursor, key, at, steps);
+    }
     static vbr_answer renew_all(raw *handles, std::size_t count, const shape &wanted, std::uint64_t seed) noexcept {
         return vbr_map_renew_all_seeded(handles, count, wanted.slots, wanted.buckets, wanted.last_epoch, seed);
     }
@@ -940,6 +952,26 @@ public:
            if (mine.is_still(*at).value()) copied++; // what was copied since at was found is of this entry */
     result<bool> is_still(const incarnation &at) noexcept { return detail::yes_or_no(Kind::is_still(&raw, &at.raw)); }
 
+    /* Takes a key out if it still has the very entry that was found. Else nothing is changed.
+
+           if (mine.remove_entry(7, *at).value()) taken_out++; // nobody had changed 7 since it was found */
+    result<bool> remove_entry(key_type key, const incarnation &at) noexcept { return remove_entry_within(key, at, steps()); }
+    result<bool> remove_entry_within(key_type key, const incarnation &at, vbr::steps budget) noexcept {
+        return detail::yes_or_no(Kind::remove_entry(&raw, detail::word_of(key), &at.raw, budget.count()));
+    }
+
+    /* The next key of a walk, and where it stands; none at the end. It is as `next` otherwise.
+
+           auto stands = mine.next_at(from).value(); // a key, and its incarnation */
+    result<std::optional<std::pair<key_type, incarnation>>> next_at(cursor &from) noexcept { return next_at_within(from, steps()); }
+    result<std::optional<std::pair<key_type, incarnation>>> next_at_within(cursor &from, vbr::steps budget) noexcept {
+        std::uint64_t key = 0;
+        incarnation at;
+        vbr_answer told = Kind::next_at(&raw, &from.raw, &key, &at.raw, budget.count());
+        if (told < 0) return refusal{told};
+        return told == VBR_NO ? std::nullopt : std::optional<std::pair<key_type, incarnation>>({detail::value_of<key_type>(key), at});
+    }
+
 protected:
     using kind = Kind;
     static constexpr std::size_t part = 64; /* so many keys of a batch are looked up at once */
@@ -1083,26 +1115,6 @@ public:
             slot, [&] { return vbr_map_put_held_within(&this->raw, detail::word_of(key), detail::word_of(value), &had, budget.count()); },
             [](vbr_answer answer) { return answer >= 0; });
         return detail::value_by<Value>(told, had);
-    }
-
-    /* Takes a key out if it still has the very entry that was found. Else nothing is changed.
-
-           if (mine.remove_entry(7, *at).value()) taken_out++; // nobody had changed 7 since it was found */
-    result<bool> remove_entry(Key key, const incarnation &at) noexcept { return remove_entry_within(key, at, this->steps()); }
-    result<bool> remove_entry_within(Key key, const incarnation &at, vbr::steps budget) noexcept {
-        return detail::yes_or_no(vbr_map_remove_entry_within(&this->raw, detail::word_of(key), &at.raw, budget.count()));
-    }
-
-    /* The next key of a walk, and where it stands; none at the end. It is as `next` otherwise.
-
-           auto stands = mine.next_at(from).value(); // a key, and its incarnation */
-    result<std::optional<std::pair<Key, incarnation>>> next_at(cursor &from) noexcept { return next_at_within(from, this->steps()); }
-    result<std::optional<std::pair<Key, incarnation>>> next_at_within(cursor &from, vbr::steps budget) noexcept {
-        std::uint64_t key = 0;
-        incarnation at;
-        vbr_answer told = vbr_map_next_at_within(&this->raw, &from.raw, &key, &at.raw, budget.count());
-        if (told < 0) return refusal{told};
-        return told == VBR_NO ? std::nullopt : std::optional<std::pair<Key, incarnation>>({detail::value_of<Key>(key), at});
     }
 
     /* Takes a key out, and gives its value.

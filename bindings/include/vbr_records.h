@@ -154,9 +154,31 @@ VBR_NODISCARD VBR_NONNULL static inline vbr_answer vbr_map_records_read(vbr_map_
     return told;
 }
 
-/* Gives the next key of a walk with its record, as vbr_map_next_at gives one with its entry: VBR_YES, and the key had this entry and this
+/* Gives the next key of a walk with its record, as vbr_next_at gives one with its entry: VBR_YES, and the key had this entry and this
    record at a moment of the call; VBR_NO at the end. Else VBR_OUT_OF_STEPS, and the cursor keeps how far it has come, or VBR_NO_HANDLE.
    Unless it answers VBR_YES, `*data` is zero, byte by byte, and what is in `*key` and `*at` means nothing.
+
+       do {
+           told = vbr_records_next(&handle[0], &cursor, &accounts, &key, &seen, &at);
+           if (told == VBR_YES) sum += seen.balance; // the key had this record during the call
+       } while (told == VBR_YES || told == VBR_OUT_OF_STEPS); // at the end it is VBR_NO */
+VBR_NODISCARD VBR_NONNULL static inline vbr_answer vbr_records_next(vbr_handle *handle, vbr_cursor *cursor, const vbr_records *records,
+                                                                    uint64_t *key, void *data, vbr_incarnation *at) VBR_NOEXCEPT {
+    vbr_answer told;
+    vbr_cursor before = *cursor;
+    while ((told = vbr_next_at(handle, cursor, key, at)) == VBR_YES) {
+        vbr_records_copy(records, at->slot, data);
+        if (vbr_is_still(handle, at) == VBR_YES) return VBR_YES;
+        told = vbr_records_read(handle, records, *key, data, at); /* it was added anew meanwhile, or is gone */
+        if (told < 0) *cursor = before;
+        if (told != VBR_NO) return told;
+        before = *cursor;
+    }
+    memset(data, 0, records->bytes);
+    return told;
+}
+
+/* Gives the next key of a walk over a map with its record, as vbr_records_next does of a set. The value of the key is in `at->value`.
 
        do {
            told = vbr_map_records_next(&map[0], &cursor, &accounts, &key, &seen, &at);

@@ -229,11 +229,6 @@ VBR_NODISCARD static inline vbr_answer vbr_tsan_insert_held_within(vbr_handle *h
     return vbr_tsan_added(key, vbr_insert_held_within(handle, key, steps));
 }
 
-VBR_NODISCARD static inline vbr_answer vbr_tsan_get_entry_within(vbr_handle *handle, uint64_t key, vbr_incarnation *at, uint32_t steps) VBR_NOEXCEPT {
-    vbr_tsan_uses(handle);
-    return vbr_tsan_named(key, at, vbr_get_entry_within(handle, key, at, steps));
-}
-
 VBR_NODISCARD static inline vbr_answer vbr_tsan_map_insert_held_within(vbr_map_handle *handle, uint64_t key, uint64_t value, uint32_t steps) VBR_NOEXCEPT {
     vbr_tsan_map_uses(handle);
     __tsan_release(vbr_tsan_there(key));
@@ -250,23 +245,6 @@ VBR_NODISCARD static inline vbr_answer vbr_tsan_map_put_held_within(vbr_map_hand
     vbr_tsan_map_uses(handle);
     vbr_tsan_changes(key);
     return vbr_tsan_given(found, vbr_tsan_found(key, vbr_map_put_held_within(handle, key, value, found, steps)));
-}
-
-VBR_NODISCARD static inline vbr_answer vbr_tsan_map_get_entry_within(vbr_map_handle *handle, uint64_t key, vbr_incarnation *at, uint32_t steps) VBR_NOEXCEPT {
-    vbr_tsan_map_uses(handle);
-    return vbr_tsan_named(key, at, vbr_map_get_entry_within(handle, key, at, steps));
-}
-
-VBR_NODISCARD static inline vbr_answer vbr_tsan_map_remove_entry_within(vbr_map_handle *handle, uint64_t key, const vbr_incarnation *at, uint32_t steps) VBR_NOEXCEPT {
-    vbr_tsan_map_uses(handle);
-    vbr_tsan_removes(key);
-    return vbr_tsan_found(key, vbr_map_remove_entry_within(handle, key, at, steps));
-}
-
-VBR_NODISCARD static inline vbr_answer vbr_tsan_map_next_at_within(vbr_map_handle *handle, vbr_cursor *cursor, uint64_t *key, vbr_incarnation *at, uint32_t steps) VBR_NOEXCEPT {
-    vbr_tsan_map_uses(handle);
-    vbr_answer answer = vbr_tsan_walked(cursor, key, vbr_map_next_at_within(handle, cursor, key, at, steps));
-    return answer == VBR_YES ? vbr_tsan_named(*key, at, answer) : answer;
 }
 
 #ifdef __cplusplus
@@ -333,9 +311,26 @@ static inline vbr_answer vbr_tsan_reported(void *items, size_t size, vbr_report 
         __tsan_release(vbr_tsan_free()); \
         return vbr_##FOR##let_go(handle); \
     } \
+    VBR_NODISCARD static inline vbr_answer vbr_tsan_##FOR##get_entry_within(vbr_##FOR##handle *handle, uint64_t key, vbr_incarnation *at, \
+                                                                            uint32_t steps) VBR_NOEXCEPT { \
+        vbr_tsan_##FOR##uses(handle); \
+        return vbr_tsan_named(key, at, vbr_##FOR##get_entry_within(handle, key, at, steps)); \
+    } \
     VBR_NODISCARD static inline vbr_answer vbr_tsan_##FOR##is_still(vbr_##FOR##handle *handle, const vbr_incarnation *at) VBR_NOEXCEPT { \
         vbr_tsan_##FOR##uses(handle); \
         return vbr_##FOR##is_still(handle, at); \
+    } \
+    VBR_NODISCARD static inline vbr_answer vbr_tsan_##FOR##remove_entry_within(vbr_##FOR##handle *handle, uint64_t key, \
+                                                                               const vbr_incarnation *at, uint32_t steps) VBR_NOEXCEPT { \
+        vbr_tsan_##FOR##uses(handle); \
+        vbr_tsan_removes(key); \
+        return vbr_tsan_found(key, vbr_##FOR##remove_entry_within(handle, key, at, steps)); \
+    } \
+    VBR_NODISCARD static inline vbr_answer vbr_tsan_##FOR##next_at_within(vbr_##FOR##handle *handle, vbr_cursor *cursor, uint64_t *key, \
+                                                                          vbr_incarnation *at, uint32_t steps) VBR_NOEXCEPT { \
+        vbr_tsan_##FOR##uses(handle); \
+        vbr_answer answer = vbr_tsan_walked(cursor, key, vbr_##FOR##next_at_within(handle, cursor, key, at, steps)); \
+        return answer == VBR_YES ? vbr_tsan_named(*key, at, answer) : answer; \
     } \
     VBR_NODISCARD static inline vbr_answer vbr_tsan_##FOR##renew_all(vbr_##FOR##handle *handles, size_t count, uint32_t slots, \
                                                                      uint32_t buckets, uint64_t last_epoch) VBR_NOEXCEPT { \
@@ -400,6 +395,8 @@ VBR_TSAN_CALLS(map_, vbr_entry)
 #define vbr_next_within vbr_tsan_next_within
 #define vbr_insert_held_within vbr_tsan_insert_held_within
 #define vbr_get_entry_within vbr_tsan_get_entry_within
+#define vbr_remove_entry_within vbr_tsan_remove_entry_within
+#define vbr_next_at_within vbr_tsan_next_at_within
 #define vbr_hold_within vbr_tsan_hold_within
 #define vbr_let_go vbr_tsan_let_go
 #define vbr_is_still vbr_tsan_is_still

@@ -1,9 +1,9 @@
 //! Slots in hand, and what stands in slots: for records beside the entries.
 use crate::library::{
     code, looked_up, updated, vbr_insert_held_within, vbr_map_insert_held_within, vbr_map_put_held_within,
-    vbr_map_remove_entry_within, vbr_map_replace_held_within, with_value, Stands,
+    vbr_map_replace_held_within, with_value, Stands,
 };
-use crate::{order, Bits, Entries, Keys, Kind, OutOfSteps, PassOf, Refusal, Steps};
+use crate::{order, Bits, Cursor, Entries, IterAt, Keys, Kind, OutOfSteps, PassOf, Refusal, Steps};
 use core::fmt;
 use core::marker::PhantomData;
 use core::mem::ManuallyDrop;
@@ -210,20 +210,29 @@ impl<T: Kind> PassOf<T> {
         // SAFETY: as for `get_entry_within`.
         unsafe { T::IS_STILL(self.raw(), &at.stands) == code::YES }
     }
-}
 
-/// Calls of maps on one entry.
-impl<K: Bits, V: Bits> PassOf<Entries<K, V>> {
-    /// Takes a key out if it still has the very entry that was found, and says whether it had. Else nothing was changed.
+    /// Takes a key out if it still has the very entry that was found, and says whether it had. Else nothing was changed. The budgets
+    /// that are enough are those of a remove.
+    ///
+    /// ```
+    /// # use vbr::{Set, Shape};
+    /// let mut handle = Set::handles_with(Shape::for_keys(8, 1), &[5])?.remove(0);
+    /// let before = handle.get_entry(5)?.expect("5 is there");
+    /// assert!(handle.remove(5)? && handle.insert(5)?);
+    /// assert!(!handle.remove_entry(5, &before)?); // it was added anew, so it has another entry
+    /// let now = handle.get_entry(5)?.expect("5 is there");
+    /// assert!(handle.remove_entry(5, &now)?);
+    /// # Ok::<(), Box<dyn std::error::Error>>(())
+    /// ```
+    ///
+    /// A key of a map that was given a value has another entry, also with the same value.
     ///
     /// ```
     /// # use vbr::{Map, Shape};
     /// let mut handle = Map::handles_with(Shape::for_keys(8, 1), &[(5, 70)])?.remove(0);
     /// let before = handle.get_entry(5)?.expect("5 is there");
     /// handle.replace(5, 70)?;
-    /// assert!(!handle.remove_entry(5, &before)?); // it has another entry, of the same value
-    /// let now = handle.get_entry(5)?.expect("5 is there");
-    /// assert!(handle.remove_entry(5, &now)?);
+    /// assert!(!handle.remove_entry(5, &before)?);
     /// # Ok::<(), Box<dyn std::error::Error>>(())
     /// ```
     ///
@@ -231,17 +240,18 @@ impl<K: Bits, V: Bits> PassOf<Entries<K, V>> {
     ///
     /// [`OutOfSteps`]. No call was made then.
     #[inline]
-    pub fn remove_entry(&mut self, key: K, at: &Incarnation<Entries<K, V>>) -> Result<bool, OutOfSteps> {
+    pub fn remove_entry(&mut self, key: T::Key, at: &Incarnation<T>) -> Result<bool, OutOfSteps> {
         self.remove_entry_within(key, at, self.steps())
     }
 
-    /// As [`MapPass::remove_entry`](PassOf::remove_entry), with a budget of its own.
+    /// As [`PassOf::remove_entry`], with a budget of its own.
     ///
     /// ```
-    /// # use vbr::{Map, OutOfSteps, Shape, Steps};
-    /// let mut handle = Map::handles_with(Shape::for_keys(8, 1), &[(5, 70)])?.remove(0);
+    /// # use vbr::{OutOfSteps, Set, Shape, Steps};
+    /// let mut handle = Set::handles_with(Shape::for_keys(8, 1), &[5])?.remove(0);
     /// let at = handle.get_entry(5)?.expect("5 is there");
     /// assert_eq!(handle.remove_entry_within(5, &at, Steps::new(1)), Err(OutOfSteps));
+    /// assert_eq!(handle.remove_entry_within(5, &at, Steps::new(9 + 11)), Ok(true));
     /// # Ok::<(), Box<dyn std::error::Error>>(())
     /// ```
     ///
@@ -249,10 +259,96 @@ impl<K: Bits, V: Bits> PassOf<Entries<K, V>> {
     ///
     /// [`OutOfSteps`]. No call was made then.
     #[inline]
-    pub fn remove_entry_within(&mut self, key: K, at: &Incarnation<Entries<K, V>>, steps: Steps) -> Result<bool, OutOfSteps> {
+    pub fn remove_entry_within(&mut self, key: T::Key, at: &Incarnation<T>, steps: Steps) -> Result<bool, OutOfSteps> {
         let key = key.to_bits();
         // SAFETY: `&mut` is exclusive.
-        looked_up(order::removes(key, || unsafe { vbr_map_remove_entry_within(self.raw(), key, &at.stands, steps.count()) }))
+        looked_up(order::removes(key, || unsafe { T::REMOVE_ENTRY(self.raw(), key, &at.stands, steps.count()) }))
+    }
+
+    /// The next key of a walk, and where it stands; `None` at its end. It is as [`PassOf::next`] otherwise.
+    ///
+    /// ```
+    /// # use vbr::{Cursor, Set, Shape};
+    /// let mut handle = Set::handles_with(Shape::for_keys(8, 1), &[2, 5, 9])?.remove(0);
+    /// let mut cursor = Cursor::first();
+    /// while let Some((key, at)) = handle.next_at(&mut cursor)? {
+    ///     if key % 2 == 1 {
+    ///         handle.remove_entry(key, &at)?; // and not one that was added since
+    ///     }
+    /// }
+    /// assert_eq!(handle.close()?.expect("the only handle").keys, [2]);
+    /// # Ok::<(), Box<dyn std::error::Error>>(())
+    /// ```
+    ///
+    /// # Errors
+    ///
+    /// [`OutOfSteps`], as of [`PassOf::next`].
+    #[inline]
+    #[allow(clippy::type_complexity, reason = "it is what `next` gives, with the entry")]
+    pub fn next_at(&self, cursor: &mut Cursor) -> Result<Option<(T::Key, Incarnation<T>)>, OutOfSteps> {
+        self.next_at_within(cursor, self.steps())
+    }
+
+    /// As [`PassOf::next_at`], with a budget of its own.
+    ///
+    /// ```
+    /// # use vbr::{Cursor, Map, OutOfSteps, Shape, Steps};
+    /// let handle = Map::handles_with(Shape::for_keys(8, 1), &[(5, 70)])?.remove(0);
+    /// let mut cursor = Cursor::first();
+    /// assert_eq!(handle.next_at_within(&mut cursor, Steps::new(1)), Err(OutOfSteps));
+    /// let (key, at) = handle.next_at_within(&mut cursor, Steps::new(100))?.expect("5 is there");
+    /// assert_eq!((key, at.slot(), at.value()), (5, 0, 70));
+    /// # Ok::<(), Box<dyn std::error::Error>>(())
+    /// ```
+    ///
+    /// # Errors
+    ///
+    /// [`OutOfSteps`], as of [`PassOf::next`].
+    #[inline]
+    #[allow(clippy::type_complexity, reason = "it is what `next` gives, with the entry")]
+    pub fn next_at_within(&self, cursor: &mut Cursor, steps: Steps) -> Result<Option<(T::Key, Incarnation<T>)>, OutOfSteps> {
+        let (mut key, mut stands) = (0, Stands::default());
+        // SAFETY: as for `get_entry_within`.
+        let told = unsafe { T::NEXT_AT(self.raw(), cursor, &mut key, &mut stands, steps.count()) };
+        if !looked_up(told)? {
+            return Ok(None);
+        }
+        order::finds(key, || told);
+        Ok(Some((T::Key::from_bits(key), Incarnation { stands, kind: PhantomData })))
+    }
+
+    /// Goes over all keys as [`PassOf::iter`] does, and tells where each stands.
+    ///
+    /// ```
+    /// # use vbr::{Map, Shape};
+    /// let handle = Map::handles_with(Shape::for_keys(8, 1), &[(5, 70), (7, 71)])?.remove(0);
+    /// for each in handle.iter_at() {
+    ///     let (key, at) = each?;
+    ///     assert_eq!(handle.get_entry(key)?, Some(at)); // as nobody else makes calls
+    /// }
+    /// # Ok::<(), Box<dyn std::error::Error>>(())
+    /// ```
+    ///
+    /// # Errors
+    ///
+    /// An item is [`OutOfSteps`] where that of [`PassOf::iter`] is.
+    #[inline]
+    pub fn iter_at(&self) -> IterAt<'_, T> {
+        self.iter_at_within(self.steps())
+    }
+
+    /// As [`PassOf::iter_at`], each of whose calls has this budget.
+    ///
+    /// ```
+    /// # use vbr::{OutOfSteps, Set, Shape, Steps};
+    /// let handle = Set::handles_with(Shape::for_keys(8, 1), &[2, 5, 9])?.remove(0);
+    /// assert_eq!(handle.iter_at_within(Steps::new(100)).count(), 3);
+    /// assert_eq!(handle.iter_at_within(Steps::new(1)).next(), Some(Err(OutOfSteps)));
+    /// # Ok::<(), vbr::OpenError>(())
+    /// ```
+    #[inline]
+    pub fn iter_at_within(&self, steps: Steps) -> IterAt<'_, T> {
+        IterAt::new(self, steps)
     }
 }
 

@@ -1,5 +1,5 @@
 //! Going over all keys while other threads make calls.
-use crate::{HandleOf, Keys, Kind, OutOfSteps, PassOf, Steps};
+use crate::{HandleOf, Incarnation, Keys, Kind, OutOfSteps, PassOf, Steps};
 use core::fmt;
 use core::iter::FusedIterator;
 
@@ -41,6 +41,21 @@ impl Cursor {
     #[must_use]
     pub const fn first() -> Cursor {
         Cursor { bucket: 0, from: 0 }
+    }
+
+    /// What a walk gives next, by as many calls as it takes, as long as each takes the cursor further.
+    #[inline]
+    pub(crate) fn go_on<G>(
+        &mut self,
+        call: impl Fn(&mut Cursor) -> Result<Option<G>, OutOfSteps>,
+    ) -> Result<Option<G>, OutOfSteps> {
+        loop {
+            let before = *self;
+            let told = call(self);
+            if told.is_ok() || *self == before {
+                return told;
+            }
+        }
     }
 }
 
@@ -86,6 +101,40 @@ impl<T: Kind> Iterator for Iter<'_, T> {
 
 impl<T: Kind> FusedIterator for Iter<'_, T> {}
 
+/// A walk over all keys that tells where each stands, as [`PassOf::iter_at`] begins it. It is as [`Iter`] otherwise.
+///
+/// ```
+/// # use vbr::{IterAt, Keys, OutOfSteps};
+/// fn slots_of(keys: IterAt<'_, Keys>) -> Result<Vec<u32>, OutOfSteps> {
+///     keys.map(|each| Ok(each?.1.slot())).collect()
+/// }
+/// # let handle = vbr::Set::handles_with(vbr::Shape::for_keys(8, 1), &[5, 7])?.remove(0);
+/// # let mut slots = slots_of(handle.iter_at())?;
+/// # slots.sort();
+/// # assert_eq!(slots, [0, 1]);
+/// # Ok::<(), Box<dyn std::error::Error>>(())
+/// ```
+#[must_use = "a walk makes no call before it is asked for a key"]
+pub struct IterAt<'h, T: Kind = Keys>(Iter<'h, T>);
+
+impl<'h, T: Kind> IterAt<'h, T> {
+    pub(crate) fn new(pass: &'h PassOf<T>, steps: Steps) -> IterAt<'h, T> {
+        IterAt(Iter::new(pass, steps))
+    }
+}
+
+impl<T: Kind> Iterator for IterAt<'_, T> {
+    type Item = Result<(T::Key, Incarnation<T>), OutOfSteps>;
+
+    #[inline]
+    fn next(&mut self) -> Option<Self::Item> {
+        let Iter { pass, cursor, steps } = &mut self.0;
+        cursor.go_on(|cursor| pass.next_at_within(cursor, *steps)).transpose()
+    }
+}
+
+impl<T: Kind> FusedIterator for IterAt<'_, T> {}
+
 macro_rules! goes_over_its_table {
     ($($of:ident)*) => {$(
         impl<'h, T: Kind> IntoIterator for &'h $of<T> {
@@ -105,5 +154,11 @@ goes_over_its_table! { PassOf HandleOf }
 impl<T: Kind> fmt::Debug for Iter<'_, T> {
     fn fmt(&self, f: &mut fmt::Formatter<'_>) -> fmt::Result {
         f.debug_struct("Iter").field("cursor", &self.cursor).field("steps", &self.steps).finish_non_exhaustive()
+    }
+}
+
+impl<T: Kind> fmt::Debug for IterAt<'_, T> {
+    fn fmt(&self, f: &mut fmt::Formatter<'_>) -> fmt::Result {
+        f.debug_tuple("IterAt").field(&self.0).finish()
     }
 }

@@ -126,6 +126,9 @@
 //! writes its record, which nobody else does meanwhile, and publishes it with a key by the [`Held`] slot. A reader gets a copy that is
 //! whole, and of the entry that the key had at a moment of the call. Nobody waits, and nobody frees a record.
 //!
+//! [`PassOf::get_entry`] tells where a key stands, and [`PassOf::iter_at`] where each key of a walk does. [`PassOf::remove_entry`] takes
+//! a key out only with the entry that was found.
+//!
 //! # Budgets
 //!
 //! Each call has the budget of its handle, [`Steps::AMPLE`] unless the shape gave another one ([`Shape::with_steps`]), and a form
@@ -268,7 +271,7 @@ pub use entry::{Entry, ModifiedEntry};
 pub use errors::{CloseError, KeysError, OpenError, OutOfSteps, Refusal, RenewError, ReportError, Unclosed};
 pub use handle::HandleOf;
 pub use holding::{Held, Incarnation};
-pub use iterating::{Cursor, Iter};
+pub use iterating::{Cursor, Iter, IterAt};
 pub use kind::{Entries, Keys, Kind};
 pub use lending::{Lent, LentBy, OwnedLent};
 pub use map::{Map, MapHandle, MapPass, MapReport};

@@ -123,6 +123,8 @@ extern "C" {
     pub(crate) fn vbr_insert_held_within(handle: *mut Raw, key: u64, steps: u32) -> i32;
     fn vbr_get_entry_within(handle: *mut Raw, key: u64, at: *mut Stands, steps: u32) -> i32;
     fn vbr_is_still(handle: *mut Raw, at: *const Stands) -> i32;
+    fn vbr_remove_entry_within(handle: *mut Raw, key: u64, at: *const Stands, steps: u32) -> i32;
+    fn vbr_next_at_within(handle: *mut Raw, cursor: *mut Cursor, key: *mut u64, at: *mut Stands, steps: u32) -> i32;
     fn vbr_renew_all_seeded(handles: *mut Raw, count: usize, slots: u32, buckets: u32, last_epoch: u64, seed: u64) -> i32;
     fn vbr_end_all(handles: *mut Raw, count: usize);
     fn vbr_open_shared(
@@ -200,7 +202,8 @@ extern "C" {
     pub(crate) fn vbr_map_put_held_within(handle: *mut Raw, key: u64, value: u64, found: *mut u64, steps: u32) -> i32;
     fn vbr_map_get_entry_within(handle: *mut Raw, key: u64, at: *mut Stands, steps: u32) -> i32;
     fn vbr_map_is_still(handle: *mut Raw, at: *const Stands) -> i32;
-    pub(crate) fn vbr_map_remove_entry_within(handle: *mut Raw, key: u64, at: *const Stands, steps: u32) -> i32;
+    fn vbr_map_remove_entry_within(handle: *mut Raw, key: u64, at: *const Stands, steps: u32) -> i32;
+    fn vbr_map_next_at_within(handle: *mut Raw, cursor: *mut Cursor, key: *mut u64, at: *mut Stands, steps: u32) -> i32;
     fn vbr_map_renew_all_seeded(handles: *mut Raw, count: usize, slots: u32, buckets: u32, last_epoch: u64, seed: u64)
         -> i32;
     fn vbr_map_end_all(handles: *mut Raw, count: usize);
@@ -251,6 +254,8 @@ pub(crate) trait Calls<Item, Told> {
     const LET_GO: unsafe extern "C" fn(*mut Raw) -> i32;
     const GET_ENTRY: unsafe extern "C" fn(*mut Raw, u64, *mut Stands, u32) -> i32;
     const IS_STILL: unsafe extern "C" fn(*mut Raw, *const Stands) -> i32;
+    const REMOVE_ENTRY: unsafe extern "C" fn(*mut Raw, u64, *const Stands, u32) -> i32;
+    const NEXT_AT: unsafe extern "C" fn(*mut Raw, *mut Cursor, *mut u64, *mut Stands, u32) -> i32;
     const RENEW_ALL: unsafe extern "C" fn(*mut Raw, usize, u32, u32, u64, u64) -> i32;
     const END_ALL: unsafe extern "C" fn(*mut Raw, usize);
     const OPEN_SHARED: OpenShared<Self::Plain>;
@@ -289,6 +294,8 @@ impl<K: Bits> Calls<K, Report<K>> for Keys<K> {
     const LET_GO: unsafe extern "C" fn(*mut Raw) -> i32 = vbr_let_go;
     const GET_ENTRY: unsafe extern "C" fn(*mut Raw, u64, *mut Stands, u32) -> i32 = vbr_get_entry_within;
     const IS_STILL: unsafe extern "C" fn(*mut Raw, *const Stands) -> i32 = vbr_is_still;
+    const REMOVE_ENTRY: unsafe extern "C" fn(*mut Raw, u64, *const Stands, u32) -> i32 = vbr_remove_entry_within;
+    const NEXT_AT: unsafe extern "C" fn(*mut Raw, *mut Cursor, *mut u64, *mut Stands, u32) -> i32 = vbr_next_at_within;
     const RENEW_ALL: unsafe extern "C" fn(*mut Raw, usize, u32, u32, u64, u64) -> i32 = vbr_renew_all_seeded;
     const END_ALL: unsafe extern "C" fn(*mut Raw, usize) = vbr_end_all;
     const OPEN_SHARED: OpenShared<u64> = vbr_open_shared;
@@ -340,6 +347,8 @@ impl<K: Bits, V: Bits> Calls<(K, V), MapReport<K, V>> for Entries<K, V> {
     const LET_GO: unsafe extern "C" fn(*mut Raw) -> i32 = vbr_map_let_go;
     const GET_ENTRY: unsafe extern "C" fn(*mut Raw, u64, *mut Stands, u32) -> i32 = vbr_map_get_entry_within;
     const IS_STILL: unsafe extern "C" fn(*mut Raw, *const Stands) -> i32 = vbr_map_is_still;
+    const REMOVE_ENTRY: unsafe extern "C" fn(*mut Raw, u64, *const Stands, u32) -> i32 = vbr_map_remove_entry_within;
+    const NEXT_AT: unsafe extern "C" fn(*mut Raw, *mut Cursor, *mut u64, *mut Stands, u32) -> i32 = vbr_map_next_at_within;
     const RENEW_ALL: unsafe extern "C" fn(*mut Raw, usize, u32, u32, u64, u64) -> i32 = vbr_map_renew_all_seeded;
     const END_ALL: unsafe extern "C" fn(*mut Raw, usize) = vbr_map_end_all;
     const OPEN_SHARED: OpenShared<Pair> = vbr_map_open_shared;

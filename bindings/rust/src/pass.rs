@@ -317,13 +317,7 @@ impl<T: Kind> PassOf<T> {
     /// The next key of a walk, by as many calls as it takes, as long as each comes further.
     #[inline]
     pub(crate) fn walk_on(&self, cursor: &mut Cursor, steps: Steps) -> Result<Option<T::Item>, OutOfSteps> {
-        loop {
-            let before = *cursor;
-            let told = self.next_within(cursor, steps);
-            if told.is_ok() || *cursor == before {
-                return told;
-            }
-        }
+        cursor.go_on(|cursor| self.next_within(cursor, steps))
     }
 
     /// The last epoch that the handle read in a call; 1 before its first. It makes no step, so others may have advanced the

@@ -308,8 +308,7 @@ impl<R: Record> Records<R> {
         Ok(self.read_entry(pass, key)?.map(|(record, _)| record))
     }
 
-    /// The record of a key, as [`Records::read`] gives it, and its entry: for [`Held::replace`] and
-    /// [`MapPass::remove_entry`](PassOf::remove_entry).
+    /// The record of a key, as [`Records::read`] gives it, and its entry: for [`Held::replace`] and [`PassOf::remove_entry`].
     ///
     /// ```
     /// # use vbr::{Map, OutOfSteps, Records, Refusal, Shape};

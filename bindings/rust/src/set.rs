@@ -165,8 +165,8 @@ impl<K: Bits> PassOf<Keys<K>> {
     /// returns how many it took out. Each call that it takes has the budget of the handle.
     ///
     /// `keep` is asked of each key once, and the key is taken out after that, whoever inserted it: so one that another thread took
-    /// out and inserted anew in between goes too. Where that matters, have a map, whose [`retain`](crate::MapPass::retain) takes
-    /// out a key only with the value that `keep` saw.
+    /// out and inserted anew in between goes too. Where that matters, walk by [`PassOf::next_at`], and take keys
+    /// out by [`PassOf::remove_entry`].
     ///
     /// ```
     /// # use vbr::{Set, Shape};

@@ -28,8 +28,13 @@ fn all_keys<K: Both>(handle: &HandleOf<K>) -> Vec<u64> {
     all_keys_within(handle, Steps::AMPLE)
 }
 
+/// A call of a walk. One that tells where the key stands takes as many steps, and the cursor as far.
 fn next_key_within<K: Both>(handle: &HandleOf<K>, cursor: &mut Cursor, steps: Steps) -> Result<Option<u64>, OutOfSteps> {
-    Ok(handle.next_within(cursor, steps)?.map(K::key))
+    let mut of_other = *cursor;
+    let other = handle.next_at_within(&mut of_other, steps);
+    let told = handle.next_within(cursor, steps).map(|given| given.map(K::key));
+    assert_eq!((other.map(|given| given.map(|(key, _)| key)), of_other), (told, *cursor));
+    told
 }
 
 fn next_key<K: Both>(handle: &HandleOf<K>, cursor: &mut Cursor) -> Result<Option<u64>, OutOfSteps> {

@@ -2,8 +2,8 @@
 //! slot at most, and while it holds one the calls that would take another are refused: -14.
 ghost use Rattle.std.specs.Prelude.{◌≡◌};
 ghost use Rattle.vbr_handles.specs.HeldSlots.{TellsHold, TellsInsertEntryHeld, TellsInsertHeld, TellsLetGo, TellsPutHeld, TellsReplaceHeld};
-ghost use Rattle.vbr_handles.specs.Iterating.{TellsNextNamed};
-ghost use Rattle.vbr_handles.specs.Incarnations.{TellsGetNamed, TellsHasNamed, TellsIfStill, TellsRemoveNamed, entry_named};
+ghost use Rattle.vbr_handles.specs.Iterating.{TellsNextNamed, TellsNextNamedKey};
+ghost use Rattle.vbr_handles.specs.Incarnations.{TellsGetNamed, TellsHasNamed, TellsIfStill, TellsRemoveKeyNamed, TellsRemoveNamed, entry_named};
 
 use vbr_handles::numbers::{entry_records, records};
 use vbr_handles::{Handle, Incarnation, MapHandle};
@@ -203,6 +203,27 @@ pub extern "C" fn vbr_map_get_entry_within(
 }
 
 /// Takes a key out where its node is that of this entry, in at most `budget` steps: 1 if the key had that very entry; 0
+/// if it was absent or had been taken out and added again by then, and then nothing is changed. The budget that is
+/// enough for [`crate::set::vbr_remove_within`] is enough, and the same refusals come.
+///
+/// ```c file=bindings/c/slot_calls.c
+/// if (vbr_remove_entry(&handle[0], 5, &at) == VBR_YES) taken++; // 5 stood in at.slot all the while since it was found
+/// ```
+#[unsafe(no_mangle)]
+pub extern "C" fn vbr_remove_entry_within(
+    handle: &mut Handle,
+    key: u64,
+    at: &Incarnation,
+    budget: u32,
+) -> i32
+    ensures called { TellsRemoveKeyNamed handle.old.owned.member handle.new.owned.member
+        key (entry_named at.now) budget result }
+    ensures steps { handle.new.steps ≡ handle.old.steps }
+{
+    records::remove_entry(handle.owned.owner_mut(), key, at, budget)
+}
+
+/// Takes a key out where its node is that of this entry, in at most `budget` steps: 1 if the key had that very entry; 0
 /// if it was absent or had another entry by then, also one with the same value, and then nothing is changed. The budget
 /// that is enough for [`crate::map::vbr_map_remove_within`] is enough, and the same refusals come.
 ///
@@ -221,6 +242,32 @@ pub extern "C" fn vbr_map_remove_entry_within(
     ensures steps { handle.new.steps ≡ handle.old.steps }
 {
     entry_records::remove_entry(handle.owned.owner_mut(), key, at, budget)
+}
+
+/// Gives the next key of a walk and tells where it stands, as [`crate::set::vbr_next_within`] gives a key: 1, and the
+/// key, its slot and the birth of its node are written, with the value 0, which were in the set together at a moment of
+/// the call; 0 at the end, where no key is left. With any answer but 1 nothing is written.
+///
+/// ```c file=bindings/c/slot_calls.c
+/// do {
+///     told = vbr_next_at(&handle[0], &cursor, &key, &at);
+///     if (told == VBR_YES) walked += key; // the key stood in at.slot
+/// } while (told == VBR_YES || told == VBR_OUT_OF_STEPS); // at the end it is VBR_NO
+/// ```
+#[unsafe(no_mangle)]
+pub extern "C" fn vbr_next_at_within(
+    handle: &mut Handle,
+    cursor: &mut Cursor,
+    key: &mut u64,
+    at: &mut Incarnation,
+    budget: u32,
+) -> i32
+    ensures next { TellsNextNamedKey handle.old.owned.member handle.new.owned.member
+        cursor.old cursor.new budget
+        (key.old, entry_named at.old) (key.new, entry_named at.new) result }
+    ensures steps { handle.new.steps ≡ handle.old.steps }
+{
+    records::next_at(handle.owned.owner_mut(), cursor, key, at, budget)
 }
 
 /// Gives the next key of a walk and tells where it stands, as [`crate::map::vbr_map_next_within`] gives an entry: 1,

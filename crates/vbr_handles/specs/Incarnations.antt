@@ -5,7 +5,8 @@ use Rattle.vbr_list.specs.Told.{is_yes}
 use Rattle.vbr_list.specs.declared.entries.Entry.{Entry}
 use Rattle.vbr_set.specs.Members.{MemberView as Member}
 use Rattle.vbr_set.specs.RecordCalls.{AsksStill, FindsEntry, FindsKey}
-use Rattle.vbr_set.specs.RemovingExactly.{TakesExactly}
+use Rattle.vbr_set.specs.RemovingExactly.{TakesExactly, TakesKeyExactly}
+use Rattle.vbr_handles.specs.Calls.{TellsBy}
 use Rattle.vbr_handles.specs.Codes.{call_code, empty_code}
 use Rattle.vbr_handles.specs.ValueCalls.{GivesBy}
 use Rattle.vbr_handles.specs.declared.incarnation.Incarnation.{Incarnation}
@@ -22,7 +23,11 @@ TellsGetNamed m n key budget old new code = GivesBy (λ m n answer. FindsEntry m
 abbrev pub TellsHasNamed : Option Member → Option Member → ℕ → ℕ → Entry → Entry → ℤ → Type 0
 TellsHasNamed m n key budget old new code = GivesBy (λ m n answer. FindsKey m n key budget answer) m n old new code
 
--- the member took the entry out or didn't, the code is that of the answer, and a slot that it holds it holds still
+-- a remove of one entry of a set tells whether it took it out
+abbrev pub TellsRemoveKeyNamed : Option Member → Option Member → ℕ → Entry → ℕ → ℤ → Type 0
+TellsRemoveKeyNamed m n key entry budget code = TellsBy (λ m n answer. TakesKeyExactly m n key entry budget answer) m n code
+
+-- of a map: the member took the entry out or didn't, the code is that of the answer, and a slot that it holds it holds still
 pub record TakesNamed (m n : Member) (key : ℕ) (entry : Entry) (budget : ℕ) (code : ℤ) : Type 0 where
   pub answer : Result (Option ℕ) Refusal
   pub is : code ≡ call_code (is_yes answer)

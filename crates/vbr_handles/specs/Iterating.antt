@@ -3,7 +3,7 @@ use Rattle.std.specs.Prelude.{◌≡◌, ℕ, ℤ, Option, Result, IfNone}
 use Rattle.vbr_list.specs.declared.cursor.Cursor.{Cursor}
 use Rattle.vbr_list.specs.declared.entries.Entry.{Entry}
 use Rattle.vbr_at_table.specs.declared.refusal.Refusal.{Refusal}
-use Rattle.vbr_set.specs.Iterating.{CallsNext, CallsNextEntry, CallsNextNamedEntry}
+use Rattle.vbr_set.specs.Iterating.{CallsNext, CallsNextEntry, CallsNextNamedEntry, CallsNextNamedKey}
 use Rattle.vbr_set.specs.Members.{MemberView as Member}
 use Rattle.vbr_handles.specs.ValueCalls.{GivesBy}
 
@@ -19,6 +19,9 @@ TellsNext m n c d budget old new code = TellsNextBy (λ m n c d answer. CallsNex
 abbrev pub TellsNextEntry : Option Member → Option Member → Cursor → Cursor → ℕ → ℕ × ℕ → ℕ × ℕ → ℤ → Type 0
 TellsNextEntry m n c d budget old new code = TellsNextBy (λ m n c d answer. CallsNextEntry m n c d budget answer) m n c d old new code
 
--- and of keys with their entries
+-- and of keys with their entries, of a map and of a set
 abbrev pub TellsNextNamed : Option Member → Option Member → Cursor → Cursor → ℕ → ℕ × Entry → ℕ × Entry → ℤ → Type 0
 TellsNextNamed m n c d budget old new code = TellsNextBy (λ m n c d answer. CallsNextNamedEntry m n c d budget answer) m n c d old new code
+
+abbrev pub TellsNextNamedKey : Option Member → Option Member → Cursor → Cursor → ℕ → ℕ × Entry → ℕ × Entry → ℤ → Type 0
+TellsNextNamedKey m n c d budget old new code = TellsNextBy (λ m n c d answer. CallsNextNamedKey m n c d budget answer) m n c d old new code

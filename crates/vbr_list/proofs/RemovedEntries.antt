@@ -1,7 +1,7 @@
 -- A remove of one entry: what its node shows where it was found, and where another was, or none.
-use Rattle.vbr_list.proofs.Names.{◌≡◌, ℕ, ◌⊎◌, true, false, Option, Some, None, Ok, Err, refl, sym, ap}
-use Rattle.vbr_list.proofs.Names.{◌∙◌, subst, inl, inr, is_some, cases_Bool}
-use Rattle.vbr_list.proofs.Names.{At, begins_run, Event, Held, incarnations_after, List}
+use Rattle.vbr_list.proofs.Names.{◌≡◌, ℕ, ◌⊎◌, true, false, Option, Some, None, Result, Ok, Err, IfOk, IfErr, refl}
+use Rattle.vbr_list.proofs.Names.{sym, ap, ◌∙◌, subst, inl, inr, is_some, cases_Bool}
+use Rattle.vbr_list.proofs.Names.{At, begins_run, Call, Event, Held, incarnations_after, List}
 use Rattle.vbr_list.proofs.Names.{IsRead, IsRun, IsSame, IsStart, knows, KeyAt, opening_keys}
 use Rattle.vbr_list.proofs.Names.{PassLaw, PassView, Quiet, Refusal, Remove, run_agrees, set_after, Slot, Start}
 use Rattle.vbr_list.proofs.Names.{Trace, WasSo, world_after}
@@ -9,24 +9,26 @@ use Rattle.vbr_machine.specs.Records.{IsEntry}
 use Rattle.vbr_machine.proofs.Lemmas.{keys_differ}
 use Rattle.vbr_slots.specs.Calls.{Moment}
 use Rattle.vbr_slots.proofs.Lemmas.{moment_after}
-use Rattle.vbr_list.specs.CallBounds.{CallsAs, CallsEntry}
+use Rattle.vbr_list.specs.CallBounds.{CallsAs}
 use Rattle.vbr_list.specs.Entries.{WasThere}
 use Rattle.vbr_list.specs.Expecting.{removal_in}
 use Rattle.vbr_list.specs.Found.{CurStood, IsFound}
 use Rattle.vbr_list.specs.Leaving.{BoundsOfRemove}
 use Rattle.vbr_list.specs.Places.{IsEnd}
 use Rattle.vbr_list.specs.OtherEntries.{IsNodeOf, WasOther}
-use Rattle.vbr_list.specs.RemovingExactly.{MarkedSlot, RemovesExactly}
+use Rattle.vbr_list.specs.RemovingExactly.{MarkedSlot, RemovesExactly, RemovesKeyExactly, RemovesNodeExactly}
+use Rattle.vbr_list.specs.RemovingExactly.{TakesOut, TellsKeyTaken, TellsNodeTaken, TellsTaken}
 use Rattle.vbr_list.specs.Removing.{MarksFound}
 use Rattle.vbr_at_table.specs.Records.{MarksSlot}
 use Rattle.vbr_list.proofs.Marking.{marks_since}
 use Rattle.vbr_list.proofs.Names.{same_on}
-use Rattle.vbr_list.specs.Told.{given_call}
+use Rattle.vbr_list.specs.Told.{given_call, is_yes}
 use Rattle.vbr_list.specs.declared.entries.Entry.{Entry}
 use Rattle.vbr_list.specs.declared.found.Found.{Found}
 use Rattle.vbr_list.proofs.Moments.{cur_is, key_found, was_so}
 use Rattle.vbr_list.proofs.SeenEntries.{was_there}
-use Rattle.vbr_list.proofs.Told.{calls_as, calls_entry, given_kept}
+use Rattle.vbr_list.proofs.LonePasses.{gives_alone}
+use Rattle.vbr_list.proofs.Told.{given_bare, given_kept, remove_yes}
 
 -- ---- what is linked
 
@@ -148,7 +150,7 @@ marked_node {p} {q} {r} {key} entry before m f =
 -- a refusal tells of no entry
 pub tires_exactly : {p q : PassView} {key budget : ℕ} {refusal : Refusal} (entry : Entry) →
     CallsAs {A = Option ℕ} (given_call p.trace.who Remove key) (BoundsOfRemove is_some p q key budget) p q budget
-    (Err refusal) → RemovesExactly p q key entry budget (Err refusal)
+    (Err refusal) → RemovesNodeExactly p q key entry budget (Err refusal)
 tires_exactly entry x = record {
   same = x.same;
   told = tt;
@@ -159,22 +161,67 @@ tires_exactly entry x = record {
 }
 
 -- the entry was taken out
-pub takes_exactly : {p q : PassView} {key budget : ℕ} (entry : Entry) (answer : Option ℕ) → PassLaw p →
-    p.trace.start.shape.values ≡ true →
+pub takes_exactly : {p q : PassView} {key budget : ℕ} (entry : Entry) (answer : Option ℕ) →
     CallsAs (removal_in p.trace key None) (BoundsOfRemove is_some p q key budget) p q budget (Ok answer) →
     is_some answer ≡ true → MarkedSlot p.trace q.trace entry.slot entry.birth key →
-    RemovesExactly p q key entry budget (Ok answer)
-takes_exactly entry None law has x some marked = absurd (let z : true ≡ false = sym some in cc)
-takes_exactly {p} {q} {key} {budget} entry (Some value) law has x some marked =
-    let y : CallsEntry (given_call p.trace.who Remove key) (BoundsOfRemove is_some p q key budget) p q budget
-    (Ok (Some value)) =
-    calls_entry (Ok (Some value)) law
-    (calls_as (Ok (Some value)) x (given_kept p.trace Remove key has) (λ bounds. bounds)) in
-    record {
-      same = x.same;
-      told = record { made = y.calls.made; alone = y.calls.alone; gives = y.gives; marked = marked };
-      quiet = tt;
-      hand = x.hand;
-      steps = x.steps;
-      bounds = x.bounds;
-    }
+    RemovesNodeExactly p q key entry budget (Ok answer)
+takes_exactly entry None x some marked = absurd (let z : true ≡ false = sym some in cc)
+takes_exactly entry (Some value) x some marked = record {
+  same = x.same;
+  told = record { made = x.made; alone = x.alone; marked = marked };
+  quiet = tt;
+  hand = x.hand;
+  steps = x.steps;
+  bounds = x.bounds;
+}
+
+-- ---- at a map, and at a set
+
+-- what was taken out, by what the call is
+taken_as : {call other : Call} {p q : Trace} {key : ℕ} {entry : Entry} → call ≡ other → TakesOut call p q key entry →
+    TakesOut other p q key entry
+taken_as {p = p} {q = q} {key = key} {entry = entry} is x = subst (λ (c : Call). TakesOut c p q key entry) is x
+
+pub exactly_kept : {p q : PassView} {key budget : ℕ} {entry : Entry} (answer : Result (Option ℕ) Refusal) →
+    PassLaw p → p.trace.start.shape.values ≡ true → RemovesNodeExactly p q key entry budget answer →
+    RemovesExactly p q key entry budget answer
+exactly_kept {p} {q} {key} {budget} {entry} answer law has x = record {
+  same = x.same;
+  told = told answer x.told;
+  quiet = x.quiet;
+  hand = x.hand;
+  steps = x.steps;
+  bounds = x.bounds;
+}
+  where
+    told : (answer : Result (Option ℕ) Refusal) → IfOk answer (TellsNodeTaken p.trace q.trace key entry) →
+        IfOk answer (TellsTaken p.trace q.trace key entry)
+    told (Ok (Some value)) y =
+        let takes : TakesOut (given_call p.trace.who Remove key (Some value)) p.trace q.trace key entry =
+        taken_as (given_kept p.trace Remove key has (Some value)) y in
+        record { takes = takes; gives = gives_alone law.start law.low takes.made }
+    told (Ok None) y = y
+    told (Err refusal) y = tt
+
+pub exactly_bare : {p q : PassView} {key budget : ℕ} {entry : Entry} (answer : Result (Option ℕ) Refusal) →
+    p.trace.start.shape.values ≡ false → RemovesNodeExactly p q key entry budget answer →
+    RemovesKeyExactly p q key entry budget (is_yes answer)
+exactly_bare {p} {q} {key} {budget} {entry} answer bare x = record {
+  same = x.same;
+  told = told answer x.told;
+  quiet = quiet answer x.quiet;
+  hand = x.hand;
+  steps = x.steps;
+  bounds = remove_yes answer x.bounds;
+}
+  where
+    told : (answer : Result (Option ℕ) Refusal) → IfOk answer (TellsNodeTaken p.trace q.trace key entry) →
+        IfOk (is_yes answer) (TellsKeyTaken p.trace q.trace key entry)
+    told (Ok (Some value)) y = taken_as (given_bare p.trace Remove key bare (Some value)) y
+    told (Ok None) y = y
+    told (Err refusal) y = tt
+
+    quiet : (answer : Result (Option ℕ) Refusal) → IfErr answer (λ refusal. Quiet p.trace q.trace) →
+        IfErr (is_yes answer) (λ refusal. Quiet p.trace q.trace)
+    quiet (Ok given) y = tt
+    quiet (Err refusal) y = y

@@ -93,7 +93,7 @@ pub use iterating::{
 };
 pub use looking_up::{get, has};
 pub use next::{next_entry, next_key, next_named_entry, next_named_key};
-pub use removing::{remove, remove_entry, remove_exactly, remove_if};
+pub use removing::{remove, remove_entry, remove_exactly, remove_if, remove_key_exactly};
 pub use storing::{compare_exchange, get_or_insert, put, replace, store};
 pub use vbr_at_table::Refusal;
 pub use wanted::Wanted;

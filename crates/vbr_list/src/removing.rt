@@ -10,7 +10,7 @@ ghost use Rattle.vbr_list.specs.CallBounds.{Calls, CallsAs, CallsRemove};
 ghost use Rattle.vbr_list.specs.Leaving.{BoundsOfRemove, Sweeps, WasClear};
 ghost use Rattle.vbr_list.specs.Pieces.{Goes, GoesOn, HasRoomForPiece, Settles, trace_in};
 ghost use Rattle.vbr_list.specs.Removing.{Clears, IsMarkedFor, MayExpect, RemoveAnswers, RemoveRollsBack, UnlinksOrSearches};
-ghost use Rattle.vbr_list.specs.RemovingExactly.{RemovesExactly};
+ghost use Rattle.vbr_list.specs.RemovingExactly.{RemovesExactly, RemovesKeyExactly, RemovesNodeExactly};
 ghost use Rattle.vbr_list.specs.Traversing.{LocatesFor};
 ghost use Rattle.vbr_list.specs.Walking.{WalksAgain};
 
@@ -238,11 +238,36 @@ pub fn remove_if(
     )
 }
 
-/// As [`remove_entry`], but takes the key out only where its node is this entry's, by its slot and its
-/// birth, and gives the value that was there. Else it makes no call and gives none: at a moment of it the
-/// key was absent, or its node was another. The entry's epoch and value aren't looked at.
+/// As [`remove`], but takes the key out only where its node is this entry's, by its slot and its birth, and
+/// says whether it did. Else it makes no call: at a moment of it the key was absent, or its node was
+/// another. The entry's value isn't looked at.
 ///
-/// Its refusal, the budget that is enough and the steps of an answer are those of [`remove_entry`].
+/// Its refusal, the budgets that are enough and the steps of an answer are those of [`remove`].
+pub fn remove_key_exactly(
+    slots: &Slots,
+    pass: &mut Pass,
+    key: u64,
+    entry: &Entry,
+    budget: u32,
+) -> Result<bool, Refusal>
+    requires own { IsOf pass.old.trace slots.now }
+    requires empty_hand { pass.old.hand ≡ None }
+    ensures { RemovesKeyExactly pass.old pass.new key entry.now budget result }
+{
+    slots.kind();
+    let answer = pass.during(
+        |stepper|
+            requires own { IsOf stepper.old.trace slots.now }
+            requires empty_hand { stepper.old.hand ≡ None }
+        { remove_exactly_by(slots, stepper, key, entry, budget) },
+    );
+    is_yes(answer)
+}
+
+/// As [`remove_key_exactly`], at a table whose nodes have values: gives the value that was stored with the
+/// key, or none.
+///
+/// Its refusal, the budgets that are enough and the steps of an answer are those of [`remove_entry`].
 pub fn remove_exactly(
     slots: &Slots<Entries>,
     pass: &mut Pass,
@@ -260,7 +285,6 @@ pub fn remove_exactly(
         |stepper|
             requires own { IsOf stepper.old.trace slots.now }
             requires empty_hand { stepper.old.hand ≡ None }
-            requires values { slots.now.start.shape.values ≡ true }
         { remove_exactly_by(slots, stepper, key, entry, budget) },
     )
 }
@@ -276,9 +300,8 @@ fn remove_exactly_by<N: Nodes>(
 ) -> (Result<Option<u64>, Refusal>, u32)
     requires own { IsOf stepper.old.trace slots.now }
     requires empty_hand { stepper.old.hand ≡ None }
-    requires values { slots.now.start.shape.values ≡ true }
     ensures took { Took stepper.old.trace stepper.new.trace result.1 }
-    ensures removes { RemovesExactly stepper.old stepper.new key entry.now budget result.0 }
+    ensures removes { RemovesNodeExactly stepper.old stepper.new key entry.now budget result.0 }
 {
     let mut call = begin!(slots, stepper, key, budget, 0);
     call.at.law();

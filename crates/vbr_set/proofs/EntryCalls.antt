@@ -1,5 +1,6 @@
 -- Calls that name an entry, as calls of a set or a map.
-use Rattle.std.proofs.Common.{◌≡◌, ℕ, [], ◌++◌, Option, Some, None, Result, Ok, Err, refl, sym, ap, ◌∙◌, append-nil}
+use Rattle.std.proofs.Common.{◌≡◌, ℕ, [], ◌++◌, Bool, true, false, Option, Some, None, Result, Ok, Err, refl, sym, ap}
+use Rattle.std.proofs.Common.{◌∙◌, append-nil}
 use Rattle.vbr_machine.specs.Start.{Start, IsStart}
 use Rattle.vbr_machine.specs.Runs.{IsRun}
 use Rattle.vbr_machine.proofs.Lemmas.{calls_since}
@@ -7,14 +8,14 @@ use Rattle.vbr_slots.specs.Calls.{Quiet, made_by}
 use Rattle.vbr_slots.specs.PassLaw.{PassLaw}
 use Rattle.vbr_slots.specs.Views.{PassView, TableView, Trace}
 use Rattle.vbr_at_table.specs.declared.refusal.Refusal.{Refusal}
-use Rattle.vbr_list.specs.RemovingExactly.{RemovesExactly, TellsTaken}
+use Rattle.vbr_list.specs.RemovingExactly.{RemovesExactly, RemovesKeyExactly, TellsKeyTaken, TellsTaken}
 use Rattle.vbr_list.specs.declared.entries.Entry.{Entry}
 use Rattle.vbr_set.specs.Answers.{AnswersAll, Follows}
 use Rattle.vbr_set.specs.Balances.{one_where}
 use Rattle.vbr_set.specs.Histories.{calls_of}
 use Rattle.vbr_set.specs.MapCalls.{MapAnswersAll}
-use Rattle.vbr_set.specs.Members.{as_caller}
-use Rattle.vbr_set.specs.RemovingExactly.{RemovesNamed, taken_calls}
+use Rattle.vbr_set.specs.Members.{as_member}
+use Rattle.vbr_set.specs.RemovingExactly.{TakesExactly, TakesKeyExactly, key_taken_calls, taken_calls}
 use Rattle.vbr_list.specs.Wanted.{wants}
 use Rattle.vbr_list.specs.declared.wanted.Wanted.TheVariants.{Present}
 use Rattle.std.specs.Prelude.{pos, ◌+ℤ◌}
@@ -42,7 +43,7 @@ quiet_answers {p} {q} is run quiet =
 -- a remove of one entry by a pass of a map is one by that member
 pub called_taken : RunsAreMaps → (set : TableView) (p q : PassView) (key : ℕ) (entry : Entry) (budget : ℕ)
     (answer : Result (Option ℕ) Refusal) → PassLaw p → PassLaw q → RemovesExactly p q key entry budget answer →
-    RemovesNamed (as_caller set p) (as_caller set q) key entry budget answer
+    TakesExactly (as_member set p) (as_member set q) key entry budget answer
 called_taken maps set p q key entry budget answer before after x = record {
   removes = called_by MapAnswersAll set p q budget answer before after (λ calls a. a.answers) x.same x.quiet x.hand
       x.steps x.bounds (each_answer answer leaves x.told);
@@ -53,11 +54,32 @@ called_taken maps set p q key entry budget answer before after x = record {
         MapAnswersAll (taken_calls p.trace.who key taken) p.trace q.trace
     leaves None t = map_answers maps [] p q before (quiet_answers before.start before.is_run t.quiet)
     leaves (Some value) t =
-        map_answers maps (taken_calls p.trace.who key (Some value)) p q before (answers before.start t.made)
+        map_answers maps (taken_calls p.trace.who key (Some value)) p q before (answers before.start t.takes.made)
 
--- one is taken out where a value is given
+-- and so it is of a set
+pub called_key_taken : (set : TableView) (p q : PassView) (key : ℕ) (entry : Entry) (budget : ℕ)
+    (answer : Result Bool Refusal) → PassLaw p → PassLaw q → RemovesKeyExactly p q key entry budget answer →
+    TakesKeyExactly (as_member set p) (as_member set q) key entry budget answer
+called_key_taken set p q key entry budget answer before after x = record {
+  removes = called_by AnswersAll set p q budget answer before after (λ calls a. a) x.same x.quiet x.hand x.steps
+      x.bounds (each_answer answer leaves x.told);
+  told = x.told;
+}
+  where
+    leaves : (taken : Bool) → TellsKeyTaken p.trace q.trace key entry taken →
+        AnswersAll (key_taken_calls p.trace.who key taken) p.trace q.trace
+    leaves false t = quiet_answers before.start before.is_run t.quiet
+    leaves true t = answers before.start t.made
+
+-- one is taken out where a value is given, and where a set answers yes
 pub taken_takes : (who key : ℕ) (answer : Result (Option ℕ) Refusal) →
     changed (taken_calls who key) answer +ℤ one_where (wants Present) answer ≡ pos 0
 taken_takes who key (Ok (Some value)) = refl
 taken_takes who key (Ok None) = refl
 taken_takes who key (Err refusal) = refl
+
+pub key_taken_takes : (who key : ℕ) (answer : Result Bool Refusal) →
+    changed (key_taken_calls who key) answer +ℤ one_where (λ reply. reply) answer ≡ pos 0
+key_taken_takes who key (Ok true) = refl
+key_taken_takes who key (Ok false) = refl
+key_taken_takes who key (Err refusal) = refl

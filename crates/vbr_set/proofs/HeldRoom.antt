@@ -14,11 +14,11 @@ use Rattle.vbr_machine.proofs.Lemmas.{put_here, put_other}
 use Rattle.vbr_slots.specs.Views.{Did, PassView, Trace, knows}
 use Rattle.vbr_at_table.specs.KeptSlots.{HasSlot, KeepsSlots}
 use Rattle.vbr_at_table.specs.declared.aside.Aside.{Aside}
-use Rattle.vbr_set.specs.HeldRoom.{HasAllWith, HeldSlotsComeBack}
+use Rattle.vbr_set.specs.HeldRoom.{HeldSlotsComeBack}
 use Rattle.vbr_set.specs.LettingGo.{LetsGo}
 use Rattle.vbr_set.specs.Members.{MemberView}
 use Rattle.vbr_set.specs.RecordCalls.{TakesAside, slot_aside}
-use Rattle.vbr_set.specs.Room.{HasAllSlots}
+use Rattle.vbr_set.specs.Room.{HasAllSlots, HasAllWith}
 use Rattle.vbr_set.proofs.HavingSlots.{all_kept}
 
 may_or_not : (h : Option Holding) → MayBear h ⊎ (¬ (MayBear h))

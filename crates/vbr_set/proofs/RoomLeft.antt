@@ -99,11 +99,12 @@ not_true : (b : Bool) → (b ≡ true → ⊥) → b ≡ false
 not_true true n = absurd (n refl)
 not_true false n = refl
 
--- a pass that has all its slots has none unstamped
-pub none_unstamped : (p : PassView) → HasAllSlots p → number_at p.trace.start p.trace.seen (Unstamped p.trace.who) ≡ 0
-none_unstamped p all =
+-- a pass that has stamped each slot that it unlinked has none unstamped
+pub none_unstamped : (p : PassView) → ((slot : ℕ) → ¬ (IsUnlinked ((knows p.trace).own slot))) →
+    number_at p.trace.start p.trace.seen (Unstamped p.trace.who) ≡ 0
+none_unstamped p stamped =
     count_none _ p.trace.start.shape.slots
-    (λ s low. not_true _ (λ e. all.stamped s (is_unlinked ((knows p.trace).own s) e)))
+    (λ s low. not_true _ (λ e. stamped s (is_unlinked ((knows p.trace).own s) e)))
 
 -- and with an empty pool and an empty hand it has none at all
 pub none_had : (p : PassView) → HasAllSlots p → p.pool ≡ [] → p.hand ≡ None →
@@ -111,7 +112,7 @@ pub none_had : (p : PassView) → HasAllSlots p → p.pool ≡ [] → p.hand ≡
 none_had p all empty no_hand =
     let a = count_none (is_at p.trace.start p.trace.seen (WithPass p.trace.who)) p.trace.start.shape.slots
     (λ s low. not_true _ (λ e. no_slot s (all.free s (bears ((knows p.trace).own s) e)))) in
-    let b = none_unstamped p all in
+    let b = none_unstamped p all.stamped in
     omega arith
   where
     no_slot : (s : ℕ) → HasSlot p s → ⊥

@@ -1,7 +1,7 @@
 -- Between calls the passes of a set have no more slots than their own pools have room for.
 -- Sums over all passes but one say how many.
 use Rattle.std.proofs.Common.{◌≡◌, ◌≢◌, ℕ, zero, suc, ◌+◌, ◌-◌, ◌*◌, ◌<◌, ◌≤◌, ◌==◌, ◌&&◌, Bool, true, false, List, []}
-use Rattle.std.proofs.Common.{◌∷◌, length, Some, None, refl, arith, sym, subst, ap, ◌∙◌, eq-eqb, inl, inr}
+use Rattle.std.proofs.Common.{◌∷◌, length, Option, Some, None, refl, arith, sym, subst, ap, ◌∙◌, eq-eqb, inl, inr}
 use Rattle.std.specs.Prelude.{◌⊎◌, Contains, if◌then◌else◌, not}
 use Rattle.std.proofs.lemmas.Bool.{and_parts, cases_Bool, cases_eq, cases_order, ne_eqb}
 use Rattle.std.proofs.Math.Nat.{mul-suc}
@@ -9,13 +9,15 @@ use Rattle.vbr_machine.specs.Start.{Start}
 use Rattle.vbr_machine.specs.Nodes.{count_below}
 use Rattle.vbr_machine.specs.Runs.{know_after}
 use Rattle.vbr_machine.specs.Knowledge.{Know}
-use Rattle.vbr_machine.specs.Whereabouts.{WithPass, is_at, is_unstamped, may_bear, number_had, sum_of}
+use Rattle.vbr_machine.specs.Whereabouts.{WithPass, is_at, is_unstamped, may_bear, number_at, number_had, sum_of}
 use Rattle.vbr_machine.proofs.Lemmas.{begins_for_know}
 use Rattle.vbr_slots.specs.declared.pass.TheConstants.{POOL}
 use Rattle.vbr_slots.specs.Views.{PassView, Trace, knows}
 use Rattle.vbr_at_table.specs.KeptSlots.{HasSlot}
-use Rattle.vbr_set.specs.Room.{HasAllSlots, IsBetweenCalls}
-use Rattle.vbr_set.proofs.PassSums.{sum_at_most, sum_same}
+use Rattle.vbr_at_table.specs.declared.aside.Aside.{Aside}
+use Rattle.vbr_set.specs.RecordCalls.{slot_aside}
+use Rattle.vbr_set.specs.Room.{HasAllWith, IsBetweenCalls, number_aside}
+use Rattle.vbr_set.proofs.PassSums.{sum_at_most, sum_both, sum_no_more, sum_same}
 use Rattle.vbr_set.proofs.RoomLeft.{bears, none_unstamped}
 
 -- ---- sums over passes but one
@@ -72,6 +74,27 @@ sum_but_at_most (suc m) who most f low h =
             let now = each m (omega arith) in
             let product = mul-suc most k in
             omega arith
+
+-- so it is where each may have some more
+pub sum_but_within : (passes who most : ℕ) (f more : ℕ → ℕ) → who < passes →
+    ((i : ℕ) → i < passes → i ≢ who → f i ≤ most + more i) →
+    sum_of passes (but who f) ≤ most * (passes - 1) + sum_of passes (but who more)
+sum_but_within passes who most f more low each =
+    let flat : ℕ → ℕ = λ i. most in
+    let parts = sum_no_more passes (but who f) (λ i. but who flat i + but who more i)
+    (λ i l. part i l (cases_eq i who)) in
+    let both = sum_both passes (but who flat) (but who more) in
+    let few = sum_but_at_most passes who most flat low (λ i l ne. omega arith) in
+    omega (arith, parts, both, few)
+  where
+    part : (i : ℕ) → i < passes → (i ≡ who) ⊎ (i ≢ who) → but who f i ≤ but who (λ j. most) i + but who more i
+    part i l (inl e) = let none = but_here who f i e in omega (arith, none)
+    part i l (inr ne) =
+        let here = but_other who f i ne in
+        let all = but_other who (λ j. most) i ne in
+        let rest = but_other who more i ne in
+        let few = each i l ne in
+        omega (arith, here, all, rest, few)
 
 -- ---- what is in a list
 
@@ -153,24 +176,46 @@ count_in_list (x ∷ xs) test n h =
 
 -- ---- between calls
 
--- a pass that has all its slots, none of them in its hand, has as many as its pool
-pub had_in_pool : (p : PassView) → HasAllSlots p → p.hand ≡ None →
-    number_had p.trace.start p.trace.seen p.trace.who ≤ length p.pool
-had_in_pool p all no_hand =
-    let a = count_in_list p.pool (is_at p.trace.start p.trace.seen (WithPass p.trace.who)) p.trace.start.shape.slots
-    (λ s e. in_pool s (all.free s (bears ((knows p.trace).own s) e))) in
-    let b = none_unstamped p all in
-    omega arith
+-- a pass that has all its slots, none of them in its hand, has as many as its pool, and the one that it holds
+pub had_in_pool : (aside : Option Aside) (p : PassView) → HasAllWith aside p → p.hand ≡ None →
+    number_had p.trace.start p.trace.seen p.trace.who ≤ length p.pool + number_aside aside
+had_in_pool aside p all no_hand =
+    let a = counted aside all in
+    let b = none_unstamped p all.stamped in
+    omega (arith, a, b)
   where
     in_pool : (s : ℕ) → HasSlot p s → Contains p.pool s
     in_pool s (inl there) = there
     in_pool s (inr there) = absurd (let x : None ≡ Some s = sym no_hand ∙ there in cc)
 
+    none_aside : (s : ℕ) → HasSlot p s ⊎ (slot_aside None ≡ Some s) → Contains p.pool s
+    none_aside s (inl has) = in_pool s has
+    none_aside s (inr is) = absurd (let x : None ≡ Some s = is in cc)
+
+    or_aside : (aside : Aside) (s : ℕ) → HasSlot p s ⊎ (slot_aside (Some aside) ≡ Some s) →
+        Contains (aside.slot ∷ p.pool) s
+    or_aside aside s (inl has) = let x = in_pool s has in (suc x.0, let l = x.1 in omega (arith, l), x.2)
+    or_aside aside s (inr is) = (0, omega arith, let x : Some aside.slot ≡ Some s = is in cc)
+
+    counted : (aside : Option Aside) → HasAllWith aside p →
+        number_at p.trace.start p.trace.seen (WithPass p.trace.who) ≤ length p.pool + number_aside aside
+    counted None all =
+        let few = count_in_list p.pool (is_at p.trace.start p.trace.seen (WithPass p.trace.who))
+        p.trace.start.shape.slots
+        (λ s e. none_aside s (all.free s (bears ((knows p.trace).own s) e))) in
+        omega (arith, few)
+    counted (Some aside) all =
+        let few = count_in_list (aside.slot ∷ p.pool) (is_at p.trace.start p.trace.seen (WithPass p.trace.who))
+        p.trace.start.shape.slots
+        (λ s e. or_aside aside s (all.free s (bears ((knows p.trace).own s) e))) in
+        omega (arith, few)
+
 -- and so has it after what another pass has seen
-pub had_between : (p : PassView) (q : Trace) → IsBetweenCalls p q → number_had q.start q.seen p.trace.who ≤ POOL
-had_between p q b =
+pub had_between : (aside : Option Aside) (p : PassView) (q : Trace) → IsBetweenCalls aside p q →
+    number_had q.start q.seen p.trace.who ≤ POOL + number_aside aside
+had_between aside p q b =
     let room = b.law.room in
-    let own = had_in_pool p b.has_all b.empty_hand in
+    let own = had_in_pool aside p b.has_all b.empty_hand in
     let same : number_had q.start q.seen p.trace.who ≡ number_had p.trace.start p.trace.seen p.trace.who =
     (λ i. number_had_by (sym b.start i) (known i)) in
     omega arith

@@ -1,6 +1,6 @@
 -- Where a lone insert or store finds no slot, all slots are taken up.
-use Rattle.std.proofs.Common.{◌≡◌, ◌≢◌, ℕ, ◌+◌, ◌-◌, ◌*◌, ◌<◌, ◌≤◌, List, [], length, None, arith, subst, ap, ◌∙◌, inl}
-use Rattle.std.proofs.Common.{inr}
+use Rattle.std.proofs.Common.{◌≡◌, ◌≢◌, ℕ, ◌+◌, ◌-◌, ◌*◌, ◌<◌, ◌≤◌, List, [], length, Option, None, arith, subst, ap}
+use Rattle.std.proofs.Common.{◌∙◌, inl, inr}
 use Rattle.vbr_machine.specs.Start.{Start}
 use Rattle.vbr_machine.specs.History.{set_after}
 use Rattle.vbr_machine.specs.Keys.{AreKeysOf}
@@ -16,17 +16,18 @@ use Rattle.vbr_slots.specs.Views.{PassView}
 use Rattle.vbr_slots.specs.declared.pass.TheConstants.{POOL}
 use Rattle.vbr_at_table.specs.StepKinds.{flags_raised}
 use Rattle.vbr_at_table.specs.KeptSlots.{KeepsSlots, SharesWhereFull}
+use Rattle.vbr_at_table.specs.declared.aside.Aside.{Aside}
 use Rattle.vbr_at_table.specs.Refusals.{HasNoSlot}
 use Rattle.vbr_list.specs.Refusals.{FoundNoSlot}
 use Rattle.vbr_at_table.specs.declared.refusal.Refusal.TheVariants.{NoSlot}
 use Rattle.vbr_set.specs.Histories.{calls_of}
 use Rattle.vbr_set.specs.MapCalls.{InsertRefused}
 use Rattle.vbr_set.specs.Members.{MemberView}
-use Rattle.vbr_set.specs.Room.{AreTakenUp, HasAllSlots, OthersAreBetweenCalls}
+use Rattle.vbr_set.specs.Room.{AreTakenUp, HasAllSlots, OthersAreBetweenCalls, held_by_others, number_aside}
 use Rattle.vbr_set.proofs.CountedKeys.{counted_keys}
 use Rattle.vbr_set.proofs.HavingSlots.{all_kept}
 use Rattle.vbr_set.proofs.RoomLeft.{none_had, none_in_shared_pool}
-use Rattle.vbr_set.proofs.RoomOfOthers.{had_between, sum_but_at_most, sum_but_none}
+use Rattle.vbr_set.proofs.RoomOfOthers.{had_between, sum_but_none, sum_but_within}
 
 -- a pool that is empty isn't full, so no flag was raised
 none_raised : (p q : PassView) → q.pool ≡ [] → SharesWhereFull 2 p q → flags_raised q.trace ≡ flags_raised p.trace
@@ -100,15 +101,20 @@ module _ (m n : MemberView) (key budget : ℕ) (law : PassLaw n.pass) (all : Has
       let b = in_set keys are in
       omega arith
 
-  pub suffices : OthersAreBetweenCalls q.trace → (keys : List ℕ) →
+  pub suffices : (aside : ℕ → Option Aside) → OthersAreBetweenCalls aside q.trace → (keys : List ℕ) →
       AreKeysOf keys (set_after (opening_keys q.trace.start) (calls_of q.trace.start q.trace.seen)) →
-      q.trace.start.shape.slots ≤ length keys + marked_after q.trace.start q.trace.seen + POOL * (q.trace.passes - 1)
-  suffices between keys are =
+      q.trace.start.shape.slots
+      ≤ length keys + marked_after q.trace.start q.trace.seen
+      + (POOL * (q.trace.passes - 1) + held_by_others aside q.trace)
+  suffices aside between keys are =
       let up = taken_up keys are in
-      let few = sum_but_at_most q.trace.passes q.trace.who POOL (number_had q.trace.start q.trace.seen) law.low each in
-      omega arith
+      let few = sum_but_within q.trace.passes q.trace.who POOL (number_had q.trace.start q.trace.seen)
+      (λ i. number_aside (aside i)) law.low each in
+      omega (arith, up, few)
     where
-      each : (i : ℕ) → i < q.trace.passes → i ≢ q.trace.who → number_had q.trace.start q.trace.seen i ≤ POOL
+      each : (i : ℕ) → i < q.trace.passes → i ≢ q.trace.who →
+          number_had q.trace.start q.trace.seen i ≤ POOL + number_aside (aside i)
       each i low ne =
           let o = between i low ne in
-          subst (λ (who : ℕ). number_had q.trace.start q.trace.seen who ≤ POOL) o.1 (had_between o.0 q.trace o.2)
+          subst (λ (who : ℕ). number_had q.trace.start q.trace.seen who ≤ POOL + number_aside (aside i)) o.1
+          (had_between (aside i) o.0 q.trace o.2)

@@ -1,5 +1,5 @@
 -- What the laws of a set say: those of tokens, and those of room.
-use Rattle.std.specs.Prelude.{ℕ, ◌+◌, ◌-◌, ◌*◌, ◌<◌, ◌≤◌, Err, List, length}
+use Rattle.std.specs.Prelude.{ℕ, ◌+◌, ◌-◌, ◌*◌, ◌<◌, ◌≤◌, Err, List, length, Option}
 use Rattle.vbr_machine.specs.History.{set_after}
 use Rattle.vbr_machine.specs.Keys.{AreKeysOf}
 use Rattle.vbr_machine.specs.Nodes.{marked_after}
@@ -20,6 +20,7 @@ use Rattle.vbr_slots.specs.declared.pass.TheConstants.{POOL}
 use Rattle.vbr_at_table.specs.GivingSlotsBack.{GivesSlotsBack}
 use Rattle.vbr_at_table.specs.KeptSlots.{UnlinkedInTurn}
 use Rattle.vbr_at_table.specs.Reserving.{TakesFlags}
+use Rattle.vbr_at_table.specs.declared.aside.Aside.{Aside}
 use Rattle.vbr_list.specs.Budgets.{LacksSteps, listed_for}
 use Rattle.vbr_list.specs.Disturbed.{enough_among, enough_to_insert_among, enough_to_search_among, enough_to_store_among, most_disturbed, steps_for_slot, steps_to_prepare}
 use Rattle.vbr_list.specs.Expecting.{CallsRemoveIf}
@@ -32,7 +33,7 @@ use Rattle.vbr_set.specs.Answers.{AnswersAll}
 use Rattle.vbr_set.specs.Histories.{calls_of}
 use Rattle.vbr_set.specs.MapCalls.{InsertRefused, IsCall, MapAnswersAll}
 use Rattle.vbr_set.specs.Members.{MemberView}
-use Rattle.vbr_set.specs.Room.{AreTakenUp, HasAllSlots, OthersAreBetweenCalls}
+use Rattle.vbr_set.specs.Room.{AreTakenUp, HasAllSlots, OthersAreBetweenCalls, held_by_others}
 use Rattle.vbr_set.specs.Tokens.{CatchesUp, IsChain, IsTokenOf, Precedes, end_of}
 
 -- ---- progress
@@ -118,9 +119,10 @@ pub record RefusedAlone (m n : MemberView) (key budget : ℕ) : Type 0 where
 abbrev pub NoSlotAlone : Type 0
 NoSlotAlone = (m n : MemberView) (key budget : ℕ) → RefusedAlone m n key budget → AreTakenUp n.pass.trace
 
--- besides, all slots but 64 for each other pass have a key of the set or a marked node, where each other pass stands between two calls
+-- besides, all slots but 64 for each other pass, and one for each that holds a slot, have a key of the set or a marked node, where each other pass stands between two calls
 abbrev pub SlotsThatSuffice : Type 0
 SlotsThatSuffice =
-    (m n : MemberView) (key budget : ℕ) (keys : List ℕ) → RefusedAlone m n key budget → OthersAreBetweenCalls n.pass.trace
+    (m n : MemberView) (key budget : ℕ) (keys : List ℕ) (aside : ℕ → Option Aside) → RefusedAlone m n key budget
+    → OthersAreBetweenCalls aside n.pass.trace
     → AreKeysOf keys (set_after (opening_keys n.pass.trace.start) (calls_of n.pass.trace.start n.pass.trace.seen))
-    → n.pass.trace.start.shape.slots ≤ length keys + marked_after n.pass.trace.start n.pass.trace.seen + POOL * (n.pass.trace.passes - 1)
+    → n.pass.trace.start.shape.slots ≤ length keys + marked_after n.pass.trace.start n.pass.trace.seen + (POOL * (n.pass.trace.passes - 1) + held_by_others aside n.pass.trace)

@@ -28,8 +28,9 @@ pub fn no_slot_alone()
     ensures { NoSlotAlone }
 {}
 
-/// A law: let an insert be alone, and each other pass stand between two calls. Then it gets NoSlot
-/// only where all slots but 64 for each other pass, or more, have a key of the set or a marked node.
+/// A law: let an insert be alone, and each other pass stand between two calls, whether it holds a slot or
+/// none. Then it gets NoSlot only where all slots but 64 for each other pass, and one for each that holds a
+/// slot, have a key of the set or a marked node.
 pub fn slots_that_suffice()
     ensures { SlotsThatSuffice }
 {}

@@ -97,6 +97,22 @@ fn expect_one_slot(rt: &impl Abort, alone: &mut Member) {
     assert_eq!(rt; alone.held(), None);
 }
 
+// The key 5 of a set is taken out by its entry, and not by one of another birth.
+fn expect_taken_exactly(rt: &impl Abort, alone: &mut Member, entry: &Entry) {
+    let later = Entry {
+        birth: entry.birth ^ 1,
+        ..*entry
+    };
+    let mut cursor = Cursor::first();
+    assert_eq!(rt; alone.next_named(&mut cursor, 100), Ok(Some((5, *entry))));
+    assert_eq!(rt; alone.remove_exactly(5, &later, 100), Ok(false));
+    assert_eq!(rt; alone.has(5, 100), Ok(true));
+    assert_eq!(rt; alone.remove_exactly(5, entry, 100), Ok(true));
+    assert_eq!(rt; alone.remove_exactly(5, entry, 100), Ok(false));
+    assert_eq!(rt; alone.has(5, 100), Ok(false));
+    assert_eq!(rt; alone.balance(), 0);
+}
+
 /// A set of two slots: one slot is held at most, look-ups and removes go on meanwhile, and an entry has no value.
 #[test]
 fn a_slot_of_a_set_is_held(rt: HostRuntime) -> Result<(), Fail> {
@@ -113,6 +129,7 @@ fn a_slot_of_a_set_is_held(rt: HostRuntime) -> Result<(), Fail> {
     };
     assert_eq!(rt; alone.get_entry(5, 100), Ok(Some(entry)));
     expect_still(&rt, &mut alone, &entry, true);
+    expect_taken_exactly(&rt, &mut alone, &entry);
     Ok(())
 }
 

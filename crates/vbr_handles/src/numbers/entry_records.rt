@@ -9,11 +9,12 @@ ghost use Rattle.vbr_handles.specs.Iterating.{TellsNextNamed};
 ghost use Rattle.vbr_handles.specs.ValueCalls.{WritesGiven};
 
 use crate::incarnation::Incarnation;
-use crate::numbers::records::{give_incarnation, has_added_held, held_call_code, make_room};
+use crate::numbers::records::{
+    give_incarnation, give_named, has_added_held, held_call_code, make_room,
+};
 use crate::numbers::topping_up::top_up_after;
 use crate::numbers::{EMPTY, NO, YES, call_code};
 use crate::owner::Owner;
-use vbr_list::Entry;
 use vbr_set::{Cursor, HeldRefusal, MapMember, Refusal};
 
 /// Adds a key with its value by the slot that the member of a handle holds, as [`records::insert_held`] adds a key.
@@ -115,27 +116,6 @@ pub fn next_at(
         return EMPTY;
     }
     give_named(owner.member_mut().next_named(cursor, budget), key, at)
-}
-
-// Writes the key and the entry of an answer, where it gives them, and tells the number of the answer.
-fn give_named(
-    answer: Result<Option<(u64, Entry)>, Refusal>,
-    key: &mut u64,
-    at: &mut Incarnation,
-) -> i32
-    ensures code { result ≡ call_code (is_yes answer) }
-    ensures writes { WritesGiven answer (key.old, entry_named at.old)
-        (key.new, entry_named at.new) }
-{
-    match answer {
-        Ok(Some((given, entry))) => {
-            *key = given;
-            *at = Incarnation::of(entry);
-            YES
-        }
-        Ok(None) => NO,
-        Err(refusal) => call_code(Err(refusal)),
-    }
 }
 
 // Writes the value of an answer, where it gives one, and tells the number of the answer.

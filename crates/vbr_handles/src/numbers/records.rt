@@ -5,7 +5,8 @@ ghost use Rattle.std.specs.Prelude.{◌≡◌, is_some};
 ghost use Rattle.vbr_list.specs.Told.{is_yes};
 ghost use Rattle.vbr_handles.specs.Codes.{call_code, hold_code, held_call_code, let_go_code};
 ghost use Rattle.vbr_handles.specs.HeldSlots.{MakesRoom, TellsHold, TellsInsertHeld, TellsLetGo, WritesSlot, has_added_held};
-ghost use Rattle.vbr_handles.specs.Incarnations.{TellsHasNamed, TellsIfStill, entry_named};
+ghost use Rattle.vbr_handles.specs.Incarnations.{TellsHasNamed, TellsIfStill, TellsRemoveKeyNamed, entry_named};
+ghost use Rattle.vbr_handles.specs.Iterating.{TellsNextNamedKey};
 ghost use Rattle.vbr_handles.specs.ValueCalls.{WritesGiven};
 
 use crate::incarnation::Incarnation;
@@ -14,7 +15,7 @@ use crate::numbers::{EMPTY, HELD, NO, OUT_OF_STEPS, YES, call_code};
 use crate::owner::Owner;
 use vbr_list::Entry;
 use vbr_set::member::Member;
-use vbr_set::{HeldRefusal, HoldRefusal, Refusal};
+use vbr_set::{Cursor, HeldRefusal, HoldRefusal, Refusal};
 use vbr_slots::pass::POOL;
 use vbr_words::{Keys, Nodes};
 
@@ -73,6 +74,35 @@ pub fn get_entry(
     give_incarnation(owner.member_mut().get_entry(key, budget), at)
 }
 
+/// Takes a key out by the member of a handle where its node is that of this entry ([`Member`]'s `remove_exactly`).
+pub fn remove_entry(owner: &mut Owner<Member<Keys>>, key: u64, at: &Incarnation, budget: u32) -> i32
+    ensures { TellsRemoveKeyNamed owner.old.member owner.new.member key (entry_named at.now) budget
+        result }
+{
+    if owner.is_empty() {
+        return EMPTY;
+    }
+    call_code(owner.member_mut().remove_exactly(key, &at.entry(), budget))
+}
+
+/// Tells the next key at a cursor by the member of a handle, and writes it and where it stands ([`Member`]'s
+/// `next_named`).
+pub fn next_at(
+    owner: &mut Owner<Member<Keys>>,
+    cursor: &mut Cursor,
+    key: &mut u64,
+    at: &mut Incarnation,
+    budget: u32,
+) -> i32
+    ensures { TellsNextNamedKey owner.old.member owner.new.member cursor.old cursor.new budget
+        (key.old, entry_named at.old) (key.new, entry_named at.new) result }
+{
+    if owner.is_empty() {
+        return EMPTY;
+    }
+    give_named(owner.member_mut().next_named(cursor, budget), key, at)
+}
+
 /// Whether the slot of an entry shows its birth still, by the member of a handle ([`Member::is_still`]).
 pub fn is_still<N: Nodes>(owner: &mut Owner<Member<N>>, at: &Incarnation) -> i32
     ensures { TellsIfStill owner.old.member owner.new.member (entry_named at.now) result }
@@ -114,6 +144,27 @@ pub(crate) fn give_incarnation(answer: Result<Option<Entry>, Refusal>, at: &mut 
 {
     match answer {
         Ok(Some(entry)) => {
+            *at = Incarnation::of(entry);
+            YES
+        }
+        Ok(None) => NO,
+        Err(refusal) => call_code(Err(refusal)),
+    }
+}
+
+// Writes the key and the entry of an answer, where it gives them, and tells the number of the answer.
+pub(crate) fn give_named(
+    answer: Result<Option<(u64, Entry)>, Refusal>,
+    key: &mut u64,
+    at: &mut Incarnation,
+) -> i32
+    ensures code { result ≡ call_code (is_yes answer) }
+    ensures writes { WritesGiven answer (key.old, entry_named at.old)
+        (key.new, entry_named at.new) }
+{
+    match answer {
+        Ok(Some((given, entry))) => {
+            *key = given;
             *at = Incarnation::of(entry);
             YES
         }

@@ -7,10 +7,10 @@ ghost use Rattle.vbr_set.specs.HeldStores.{PutsHeldBy, ReplacesHeldBy, answer_un
 ghost use Rattle.vbr_set.specs.LettingGo.{LetsGo};
 ghost use Rattle.vbr_set.specs.MapCalls.{MapAnswersAll};
 ghost use Rattle.vbr_set.specs.RecordCalls.{AsksStill, FindsEntry, TakesAside, InsertsHeldBy, answer_held, insert_told, slot_aside, store_told, FindsKey};
-ghost use Rattle.vbr_set.specs.RemovingExactly.{TakesExactly};
+ghost use Rattle.vbr_set.specs.RemovingExactly.{TakesExactly, TakesKeyExactly};
 
 use crate::member::Member;
-use crate::member::counting::one_if_wanted;
+use crate::member::counting::{one_if_wanted, one_if_yes};
 use crate::record_refusals::{HeldRefusal, HoldRefusal};
 use vbr_at_table::Aside;
 use vbr_list::{Entry, NotReplaced, Refusal, StillInHand, Wanted};
@@ -99,6 +99,28 @@ impl Member {
         ensures aside { self.new.aside ≡ self.old.aside }
     {
         self.share.set().get_entry(&mut self.pass, key, budget)
+    }
+
+    /// Takes a key out where its node is that of this entry, in at most `budget` steps, and says whether it
+    /// did: [`VbrSet::remove_exactly`] by its pass. Else it makes no call: the set lacked the entry at a moment
+    /// of it.
+    ///
+    /// # Errors
+    ///
+    /// OutOfSteps alone. The member has made no call then, and can go on at once.
+    ///
+    /// [`VbrSet::remove_exactly`]: crate::VbrSet::remove_exactly
+    #[inline]
+    pub fn remove_exactly(&mut self, key: u64, entry: &Entry, budget: u32) -> Result<bool, Refusal>
+        ensures takes { TakesKeyExactly self.old self.new key entry.now budget result }
+        ensures aside { self.new.aside ≡ self.old.aside }
+    {
+        let answer = self
+            .share
+            .set()
+            .remove_exactly(&mut self.pass, key, entry, budget);
+        self.balance = self.balance.wrapping_sub(one_if_yes(&answer));
+        answer
     }
 
     /// Adds a key by the slot that the member holds, in at most `budget` steps, and says whether the key was

@@ -13,13 +13,13 @@ ghost use Rattle.vbr_set.specs.LettingGo.{ComesBack};
 ghost use Rattle.vbr_set.specs.MapCalls.{MapAnswersAll};
 ghost use Rattle.vbr_set.specs.Members.{as_member};
 ghost use Rattle.vbr_set.specs.RecordCalls.{AsksStill, FindsEntry, FindsKey, InsertsByHeld, insert_told, store_told};
-ghost use Rattle.vbr_set.specs.RemovingExactly.{TakesExactly};
+ghost use Rattle.vbr_set.specs.RemovingExactly.{TakesExactly, TakesKeyExactly};
 
 use crate::set::VbrSet;
 use vbr_at_table::Hand;
 use vbr_list::{
     Entry, NotReplaced, Refusal, StillInHand, get_entry, has_entry, hold, insert_entry_held,
-    insert_held, is_still, put_held, remove_exactly, replace_held,
+    insert_held, is_still, put_held, remove_exactly, remove_key_exactly, replace_held,
 };
 use vbr_machine::laws::a_run_is_a_map;
 use vbr_slots::Pass;
@@ -89,6 +89,32 @@ impl VbrSet {
     {
         pass.law();
         let answer = has_entry(&self.slots, pass, key, budget);
+        pass.law();
+        answer
+    }
+
+    /// Takes a key out where its node is that of this entry, by its slot and its birth, in at most `budget`
+    /// steps, and says whether it did: [`remove_key_exactly`]. Else it makes no call: at a moment of it the set
+    /// lacked the entry.
+    ///
+    /// Budgets, the refusal and what an answer takes are those of [`VbrSet::remove`].
+    ///
+    /// [`VbrSet::remove`]: crate::VbrSet::remove
+    #[inline]
+    pub fn remove_exactly(
+        &self,
+        pass: &mut Pass,
+        key: u64,
+        entry: &Entry,
+        budget: u32,
+    ) -> Result<bool, Refusal>
+        requires own { IsOf pass.old.trace self.now }
+        requires empty_hand { pass.old.hand ≡ None }
+        ensures { TakesKeyExactly (as_member self.now pass.old) (as_member self.now pass.new)
+            key entry.now budget result }
+    {
+        pass.law();
+        let answer = remove_key_exactly(&self.slots, pass, key, entry, budget);
         pass.law();
         answer
     }

@@ -1,7 +1,7 @@
 //! The calls of a pass with a reference to its set or map, for a program that keeps a record beside each slot.
 ghost use Rattle.std.specs.Prelude.{◌≡◌};
 ghost use Rattle.vbr_set.specs.RecordCalls.{AsksStill, FindsEntry, FindsKey};
-ghost use Rattle.vbr_set.specs.RemovingExactly.{TakesExactly};
+ghost use Rattle.vbr_set.specs.RemovingExactly.{TakesExactly, TakesKeyExactly};
 
 use crate::set_ref::VbrSetRef;
 use vbr_list::{Entry, Refusal};
@@ -16,6 +16,17 @@ impl<'s> VbrSetRef<'s> {
         ensures { FindsKey self.old self.new key budget result }
     {
         self.set.get_entry(&mut self.pass, key, budget)
+    }
+
+    /// Takes a key out where its node is that of this entry, in at most `budget` steps, and says whether it
+    /// did: [`VbrSet::remove_exactly`].
+    ///
+    /// [`VbrSet::remove_exactly`]: crate::VbrSet::remove_exactly
+    #[inline]
+    pub fn remove_exactly(&mut self, key: u64, entry: &Entry, budget: u32) -> Result<bool, Refusal>
+        ensures { TakesKeyExactly self.old self.new key entry.now budget result }
+    {
+        self.set.remove_exactly(&mut self.pass, key, entry, budget)
     }
 }
 

@@ -1,5 +1,5 @@
-use Rattle.vbr_list.proofs.Names.{rules, ◌∙◌, arith, ap, ◌≡◌, sym, subst, None}
-use Rattle.vbr_list.proofs.Names.{counts_on, IsStart, quiet_on, Start, took_all}
+use Rattle.vbr_list.proofs.Names.{rules, ◌∙◌, arith, ◌≡◌, sym, subst, None}
+use Rattle.vbr_list.proofs.Names.{counts_on, IsStart, quiet_on, took_all}
 use Rattle.vbr_list.proofs.Going.{call_on, goes_on, tries_on, within_call, within_of}
 use Rattle.vbr_list.proofs.Disturbing.{run_at}
 use Rattle.vbr_list.proofs.AnsweredRemoves.{removed, removed_none}
@@ -97,11 +97,10 @@ returns-in-Ok-clause-removes g c =
     let within = rw c.loop-found.invariant.2 at (within_call call) in
     let before = c.loop-found.invariant.3.goes.quiet in
     let first = quiet_on before c.reach.ensures.goes.goes.quiet in
-    let has = ap (λ (d : Start). d.shape.values) c.requires.own.1 ∙ c.requires.values in
     let marked = marked_node c.args.entry.now first
     (rw (c.reach.ensures.goes.call.key ∙ key) at (c.in-Ok.ensures.answers.marks c.in-Ok.ensures.some))
     (c.is_node_of.ensures.is c.if-not-is_node_of.false) in
-    rw same (takes_exactly c.args.entry.now c.in-Ok.answer c.law.ensures has
+    rw same (takes_exactly c.args.entry.now c.in-Ok.answer
     (removed c.law.ensures c.args.key c.args.budget key budget c.loop-found.invariant.3 c.loop-found.invariant.4
     c.reach.ensures.goes c.in-Some.ensures.found None c.in-Ok.answer c.mark_and_unlink.ensures.settles
     c.in-Ok.ensures.answers (search rules) within)
