@@ -26,9 +26,10 @@ void block_freed(void *block);
 enum { READ_AND_WRITE = 3, SHARED = 1, ANONYMOUS = 32, NO_RESERVE = 0x4000 }; /* of mmap, in the kernel's interface */
 enum { GIVEN_BACK = 9 };                                                    /* MADV_REMOVE: the pages go back to the system */
 enum { VBR_OK = 0, VBR_NO = 0, VBR_YES = 1, VBR_NO_HANDLE = -4, VBR_BAD_SHAPE = -6, VBR_BAD_COUNT = -7, VBR_NO_MEMORY = -8, VBR_BAD_KEYS = -10, VBR_NO_ROOM = -11 };
-enum { LINE = 64, PAGE = 4096, LARGE = 1 << 20, MAX_SLOTS = 16777215, MAX_BUCKETS = 16777216, MAX_MANY = 65536 };
+enum { LINE = 64, PAGE = 4096, LARGE = 1 << 20, MAX_SLOTS = 2147483647, MAX_MANY = 65536 };
 
-static const word MAX_EPOCH = 549755813887; /* of vbr.h, as the numbers above */
+static const unsigned MAX_BUCKETS = 2147483648; /* of vbr.h, as the numbers above */
+static const word MAX_EPOCH = 549755813887;     /* so is this */
 
 /* A handle as vbr.h has it, and as it lies in a mapping, where it has lines of the cache of its own: its mark is stored at each call. */
 typedef struct plain {
@@ -240,9 +241,17 @@ static void unmap(struct share *share)
     munmap(share, size);
 }
 
+/* Whether so many slots leave room for a last epoch, as vbr_max_epoch of vbr.h tells. */
+static int is_last_epoch(word last_epoch, unsigned slots)
+{
+    word most = ~(word)0 >> 1;
+    for (; slots > 0; slots >>= 1) most >>= 1;
+    return last_epoch > 0 && (last_epoch == MAX_EPOCH || last_epoch <= most);
+}
+
 static int is_shape(unsigned slots, unsigned buckets, word last_epoch)
 {
-    return slots > 0 && slots <= MAX_SLOTS && buckets > 0 && buckets <= MAX_BUCKETS && last_epoch > 0 && last_epoch <= MAX_EPOCH;
+    return slots > 0 && slots <= MAX_SLOTS && buckets > 0 && buckets <= MAX_BUCKETS && is_last_epoch(last_epoch, slots);
 }
 
 /* Whether the keys of items, so many words apart, ascend and have room. */

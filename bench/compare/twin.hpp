@@ -29,12 +29,17 @@ struct Entries {
 // What has to be there for a value to be stored.
 enum class Wanted { absent, present, anything, value };
 
-// A link word: the slot that it names, counted from 1, or 0; then a mark, and a version of 39 bits.
-constexpr uint64_t MARK = 1 << 24;
-constexpr uint64_t named_by(uint64_t word) { return word & (MARK - 1); }
-constexpr uint64_t link_to(uint64_t named, uint64_t holder_birth, uint64_t named_birth) {
-    return named | std::max(holder_birth, named_birth) << 25;
-}
+// How a link word lies: the slot that it names, counted from 1, or 0, in as many bits as the slots need; then a mark; and a version in
+// the rest.
+struct Layout {
+    const uint64_t mark;
+
+    explicit Layout(uint32_t slots) : mark(uint64_t{1} << (32 - __builtin_clz(slots))) {}
+    uint64_t named_by(uint64_t word) const { return word & (mark - 1); }
+    uint64_t link_to(uint64_t named, uint64_t holder_birth, uint64_t named_birth) const {
+        return named | std::max(holder_birth, named_birth) * (2 * mark);
+    }
+};
 
 constexpr uint64_t PIECE = 8;
 constexpr bool affords(uint32_t budget, uint32_t used) { return used + PIECE <= budget; }
@@ -113,11 +118,12 @@ template <class N> class Table {
     static constexpr unsigned RESERVE = 32, PARTS = 8, SHARE = 64;
 
     const uint64_t slots, buckets, last_epoch, slots_at, flags_at;
+    const Layout layout;
     Word *words;
 
 public:
     Table(uint32_t slots, uint32_t buckets, uint64_t last_epoch)
-        : slots(slots), buckets(buckets), last_epoch(last_epoch), slots_at(HEADS + buckets), flags_at(slots_at + WORDS * slots) {
+        : slots(slots), buckets(buckets), last_epoch(last_epoch), slots_at(HEADS + buckets), flags_at(slots_at + WORDS * slots), layout(slots) {
         size_t count = flags_at + (slots + 63) / 64, size = count * sizeof(Word);
         void *block = std::malloc(size);
         if (!block) throw std::bad_alloc();
@@ -125,9 +131,9 @@ public:
         words = static_cast<Word *>(block);
         for (size_t i = 0; i < count; i++) new (&words[i]) Word(0);
         words[EPOCH] = 1;
-        words[1] = slots + MARK * last_epoch;
+        words[1] = slots + layout.mark * last_epoch;
         for (uint32_t slot = 0; slot < slots; slot++) {
-            words[link_of(slot + 1)] = MARK;
+            words[link_of(slot + 1)] = layout.mark;
             words[flags_at + slot / 64] |= uint64_t{1} << slot % 64;
         }
     }
@@ -215,14 +221,14 @@ private:
 
     // Unlinks a marked node behind `pred`, and retires it. Both were read in the pass's epoch.
     [[gnu::always_inline]] Unlinked unlink_and_retire(Pass &pass, const Held &pred, const Held &marked) {
-        uint64_t next = named_by(marked.word), birth = 0, epoch = pass.epoch;
+        uint64_t next = layout.named_by(marked.word), birth = 0, epoch = pass.epoch;
         uint32_t made = 0;
         if (next) {
             birth = words[link_of(next) + BIRTH];
             made = 2;
             if (read_epoch(pass) != epoch) return {false, 0, made};
         }
-        uint64_t expected = pred.word, link = link_to(next, pred.birth, birth);
+        uint64_t expected = pred.word, link = layout.link_to(next, pred.birth, birth);
         made++;
         if (!words[pred.place].compare_exchange_strong(expected, link)) return {false, 0, made};
         return {true, link, made + retire(pass, static_cast<uint32_t>(marked.named - 1))};
@@ -337,6 +343,7 @@ template <class N> class Call {
     Words &table;
     Pass &pass;
     std::atomic<uint64_t> *const words;
+    const Layout layout;
     const uint64_t slots_at, key, head;
     const uint32_t budget;
     uint32_t used = 0;
@@ -355,7 +362,7 @@ template <class N> class Call {
 
 public:
     [[gnu::always_inline]] Call(Words &table, Pass &pass, uint64_t key, uint32_t budget)
-        : table(table), pass(pass), words(table.words), slots_at(table.slots_at), key(key), head(table.head_of(key)),
+        : table(table), pass(pass), words(table.words), layout(table.layout), slots_at(table.slots_at), key(key), head(table.head_of(key)),
           budget(budget), epoch(pass.epoch) {}
     [[gnu::always_inline]] ~Call() { pass.steps += used; }
 
@@ -396,9 +403,9 @@ public:
                 used += 2;
                 if (!epoch_stays()) continue;
             }
-            if (!exchange(found.cur.place, found.cur.word, found.cur.word | MARK)) continue;
+            if (!exchange(found.cur.place, found.cur.word, found.cur.word | layout.mark)) continue;
             if (N::VALUES) value = here;
-            found.cur.word |= MARK;
+            found.cur.word |= layout.mark;
             if (is_affordable()) unlink_marked(found);
             return YES;
         }
@@ -440,8 +447,8 @@ public:
             if (!read_value(found, here)) continue;
             bool takes_out = found.present && here == expected;
             if (takes_out) {
-                if (!exchange(found.cur.place, found.cur.word, found.cur.word | MARK)) continue;
-                found.cur.word |= MARK;
+                if (!exchange(found.cur.place, found.cur.word, found.cur.word | layout.mark)) continue;
+                found.cur.word |= layout.mark;
                 if (is_affordable()) unlink_marked(found);
             } else if (!stands(found.present ? found.cur : found.pred)) {
                 continue;
@@ -516,13 +523,13 @@ private:
 
     // Reads the node that a link names; whether it has the key.
     [[gnu::always_inline]] Node visit(uint64_t link, Held &node, bool &present) {
-        node.named = named_by(link);
+        node.named = layout.named_by(link);
         node.place = link_of(node.named);
         node.birth = load(node.place + Words::BIRTH);
         node.word = load(node.place);
         used += 3;
         if (!epoch_stays()) return Node::unreadable;
-        if (node.word & MARK) return Node::marked;
+        if (node.word & layout.mark) return Node::marked;
         uint64_t here = load(node.place + Words::KEY);
         used += 2;
         if (!epoch_stays()) return Node::unreadable;
@@ -537,7 +544,7 @@ private:
         if (!start(found.pred)) return End::again;
         found.cur = {found.pred.place, 0, 0, 0};
         found.present = false;
-        for (uint64_t link = found.pred.word; named_by(link); link = found.cur.word) {
+        for (uint64_t link = found.pred.word; layout.named_by(link); link = found.cur.word) {
             if (!is_affordable()) return End::tired;
             switch (visit(link, found.cur, found.present)) {
             case Node::unreadable: return End::again;
@@ -555,7 +562,7 @@ private:
         if (!start(found.pred)) return End::again;
         found.cur = {};
         found.present = false;
-        while (named_by(found.pred.word)) {
+        while (layout.named_by(found.pred.word)) {
             if (!is_affordable()) return End::tired;
             switch (visit(found.pred.word, found.cur, found.present)) {
             case Node::unreadable: return End::again;
@@ -622,9 +629,9 @@ private:
         const uint64_t named = hand.slot + uint64_t{1}, place = link_of(named);
         words[place + Words::KEY] = key;
         if (N::VALUES) words[place + Words::VALUE] = value;
-        words[place] = link_to(named_by(found.pred.word), hand.birth, found.cur.birth);
+        words[place] = layout.link_to(layout.named_by(found.pred.word), hand.birth, found.cur.birth);
         used += N::VALUES ? 3 : 2;
-        return exchange(found.pred.place, found.pred.word, link_to(named, found.pred.birth, hand.birth));
+        return exchange(found.pred.place, found.pred.word, layout.link_to(named, found.pred.birth, hand.birth));
     }
 
     // Stores a value by the slot in hand where what is there is as wanted then, else answers a get.
@@ -647,7 +654,7 @@ private:
 
     // Marks the node of the key and links the slot in hand behind it; whether nothing came between. Its link is the marked one then.
     [[gnu::always_inline]] bool take_place(uint64_t value, const Taken &hand, Held &node) {
-        const uint64_t named = hand.slot + uint64_t{1}, place = link_of(named), next = named_by(node.word);
+        const uint64_t named = hand.slot + uint64_t{1}, place = link_of(named), next = layout.named_by(node.word);
         uint64_t birth = 0;
         if (next) {
             birth = load(link_of(next) + Words::BIRTH);
@@ -656,9 +663,9 @@ private:
         }
         words[place + Words::KEY] = key;
         words[place + Words::VALUE] = value;
-        words[place] = link_to(next, hand.birth, birth);
+        words[place] = layout.link_to(next, hand.birth, birth);
         used += 3;
-        uint64_t marked = MARK | link_to(named, node.birth, hand.birth);
+        uint64_t marked = layout.mark | layout.link_to(named, node.birth, hand.birth);
         if (!exchange(node.place, node.word, marked)) return false;
         node.word = marked;
         return true;

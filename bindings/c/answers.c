@@ -55,7 +55,7 @@ static int refused_openings(void) {
     CHECK(vbr_open(many, 2, 8, 0, 1000) == VBR_BAD_SHAPE);
     CHECK(vbr_open(many, 2, 8, VBR_MAX_BUCKETS + 1, 1000) == VBR_BAD_SHAPE);
     CHECK(vbr_open(many, 2, 8, 8, 0) == VBR_BAD_SHAPE);
-    CHECK(vbr_open(many, 2, 8, 8, VBR_MAX_EPOCH + 1) == VBR_BAD_SHAPE);
+    CHECK(vbr_open(many, 2, 8, 8, vbr_max_epoch(8) + 1) == VBR_BAD_SHAPE);
     CHECK(vbr_open(many, 0, 8, 8, 1000) == VBR_BAD_COUNT);
     CHECK(vbr_open(many, 65, 8, 8, 1000) == VBR_BAD_COUNT);
     for (int i = 0; i < 65; i++) CHECK(vbr_has(&many[i], 1) == VBR_NO_HANDLE);
@@ -63,9 +63,38 @@ static int refused_openings(void) {
     CHECK(vbr_open(many, 64, 8, 8, 1000) == VBR_IN_USE);
     CHECK(vbr_has(&many[6], 1) == VBR_NO_HANDLE && vbr_has(&many[7], 1) == VBR_NO);
     CHECK(vbr_close(&many[7], keys, 0, &report) == VBR_YES);
-    CHECK(vbr_open(many, 64, VBR_MAX_SLOTS, VBR_MAX_BUCKETS, VBR_MAX_EPOCH) == VBR_OK);
+    CHECK(vbr_open(many, 64, (1u << 24) - 1, 1u << 24, VBR_MAX_EPOCH) == VBR_OK && vbr_last_epoch(&many[0]) == VBR_MAX_EPOCH);
     for (int i = 0; i < 63; i++) CHECK(vbr_close(&many[i], keys, 4, &report) == VBR_NO);
-    CHECK(vbr_close(&many[63], keys, 4, &report) == VBR_YES && report.free == VBR_MAX_SLOTS);
+    CHECK(vbr_close(&many[63], keys, 4, &report) == VBR_YES && report.free == (1u << 24) - 1);
+    return 0;
+}
+
+/* Whether a set of so many slots opens with a last epoch, and has the wanted one then. */
+static int opens_with(uint32_t slots, uint64_t last_epoch, uint64_t wanted) {
+    vbr_handle one = {0};
+    if (vbr_open(&one, 1, slots, 1, last_epoch) != VBR_OK) return 0;
+    int is_so = vbr_slots(&one) == slots && vbr_last_epoch(&one) == wanted && vbr_insert(&one, 5) == VBR_YES && vbr_has(&one, 5) == VBR_YES;
+    vbr_drop(&one);
+    return is_so;
+}
+
+/* The greatest last epoch of so many slots is taken, and one more is refused; VBR_MAX_EPOCH is taken with any number of slots. That a
+   shape is in range is seen without memory: an opening of no handle is then refused for that, which is tested next. */
+static int greatest_epochs(void) {
+    static const uint32_t some[] = {1, 2, 4095, 4096, (1u << 24) - 1, 1u << 24, 1u << 25, 1u << 30, VBR_MAX_SLOTS};
+    vbr_handle none = {0};
+    for (size_t i = 0; i < sizeof some / sizeof *some; i++) {
+        uint64_t most = vbr_max_epoch(some[i]);
+        CHECK(vbr_open(&none, 0, some[i], VBR_MAX_BUCKETS, most) == VBR_BAD_COUNT && vbr_open(&none, 0, some[i], 1, 1) == VBR_BAD_COUNT);
+        CHECK(vbr_open(&none, 0, some[i], 1, most + 1) == VBR_BAD_SHAPE && vbr_open(&none, 0, some[i], 1, UINT64_MAX) == VBR_BAD_SHAPE);
+        CHECK(vbr_open(&none, 0, some[i], 1, VBR_MAX_EPOCH) == VBR_BAD_COUNT && vbr_open(&none, 0, some[i], 1, 0) == VBR_BAD_SHAPE);
+    }
+    CHECK(vbr_open(&none, 0, 1u << 31, 1, 1) == VBR_BAD_SHAPE && vbr_open(&none, 0, 1u << 31, 1, VBR_MAX_EPOCH) == VBR_BAD_SHAPE);
+    CHECK(opens_with(8, VBR_MAX_EPOCH, VBR_MAX_EPOCH) && opens_with(8, vbr_max_epoch(8), (UINT64_C(1) << 59) - 1));
+    CHECK(opens_with(1u << 24, VBR_MAX_EPOCH, (UINT64_C(1) << 38) - 1));
+#ifndef OF_VALUES /* of a map, 2.7 GB */
+    CHECK(opens_with(1u << 25, vbr_max_epoch(1u << 25), (UINT64_C(1) << 37) - 1));
+#endif
     return 0;
 }
 
@@ -213,7 +242,7 @@ static int closed_at_once(void) {
 }
 
 int main(void) {
-    if (words() || ended() || empty_handles() || refused_openings() || refused_keys() || opened_with_keys() || calls_and_closes() ||
+    if (words() || ended() || empty_handles() || refused_openings() || greatest_epochs() || refused_keys() || opened_with_keys() || calls_and_closes() ||
         spent_epoch() || shown_numbers() || dropped_handles() || forgotten_handle() || closed_at_once())
         return 1;
     puts("answers in C: passed");

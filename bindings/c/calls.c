@@ -142,6 +142,8 @@ static int the_most(void) {
     if (slots > VBR_MAX_SLOTS || buckets > VBR_MAX_BUCKETS) return 1; // else vbr_open answers VBR_BAD_SHAPE
     vbr_handle most[VBR_MAX_HANDLES] = {{0}};
     if (vbr_open(most, VBR_MAX_HANDLES, slots, buckets, VBR_MAX_EPOCH) != VBR_OK) return 1;
+    uint64_t last = vbr_max_epoch(1024 + 2 * 64); // 2^52 - 1, which is more than VBR_MAX_EPOCH
+    CHECK(last == (UINT64_C(1) << 52) - 1 && last > VBR_MAX_EPOCH);
     for (unsigned i = 0; i < VBR_MAX_HANDLES; i++) vbr_drop(&most[i]);
     return 0;
 }

@@ -105,8 +105,10 @@ static int check(void) {
     CHECK(sizeof(vbr_cursor) == 16 && sizeof(vbr_answer) == 4 && sizeof(vbr_handle) == 16 && sizeof(vbr_report) == 24);
     CHECK(sizeof(vbr_map_handle) == 16 && offsetof(vbr_handle, in_call) == 12 && offsetof(vbr_map_handle, in_call) == 12);
     CHECK(VBR_VERSION == 1000000 * VBR_VERSION_MAJOR + 1000 * VBR_VERSION_MINOR + VBR_VERSION_PATCH);
-    CHECK(VBR_AMPLE_STEPS >= 100000 + VBR_MAX_SLOTS / 64 && VBR_AMPLE_STEPS >= 18 * 3 + VBR_MAX_SLOTS / 64 + 20);
-    CHECK(VBR_MAX_HANDLES == 64 && VBR_MAX_BUCKETS == 16777216 && VBR_MAX_EPOCH == (UINT64_C(1) << 39) - 1);
+    CHECK(VBR_AMPLE_STEPS >= 100000 + (1 << 24) / 64);
+    CHECK(VBR_MAX_HANDLES == 64 && VBR_MAX_SLOTS == 2147483647 && VBR_MAX_BUCKETS == 2147483648 && VBR_MAX_EPOCH == (UINT64_C(1) << 39) - 1);
+    CHECK(vbr_max_epoch(1) == UINT64_MAX >> 2 && vbr_max_epoch((1u << 24) - 1) == VBR_MAX_EPOCH && vbr_max_epoch(1u << 24) == VBR_MAX_EPOCH / 2);
+    CHECK(vbr_max_epoch(VBR_MAX_SLOTS) == UINT32_MAX && vbr_max_epoch(0) == 0 && vbr_max_epoch(VBR_MAX_SLOTS + 1) == 0);
     CHECK(vbr_open(handle, HANDLES, SLOTS, KEYS, VBR_MAX_EPOCH) == VBR_OK);
     CHECK(vbr_version() == VBR_VERSION && vbr_epoch(&handle[0]) == 1 && vbr_last_epoch(&handle[0]) == VBR_MAX_EPOCH);
     CHECK(vbr_slots(&handle[0]) == SLOTS && vbr_buckets(&handle[0]) == KEYS);

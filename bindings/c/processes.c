@@ -166,7 +166,7 @@ static int by_name(void) {
         const uint64_t *words = mmap(NULL, 1 << 20, PROT_READ, MAP_SHARED, same, 0);
         if (same < 0 || words == MAP_FAILED) _exit(1);
         for (size_t i = 0; i + 1 < (1 << 20) / 8; i++) /* the epoch and the word of the shape, then 64 heads and 1024 nodes of four words */
-            if (words[i] == 1 && words[i + 1] >> 24 == 12345 && (words[i + 1] & 0xffffff) == 1024) _exit(0);
+            if (words[i] == 1 && words[i + 1] >> 11 == 12345 && (words[i + 1] & 0x7ff) == 1024) _exit(0);
         _exit(1);
     }
     CHECK(ended_well(child));
@@ -258,8 +258,17 @@ static int orders(void) {
     vbr_shared_handle *handle = NULL;
     static const uint64_t wrong[3] = {6, 7, 7}, many[2] = {6, 7};
     static const vbr_entry entries[3] = {{6, 9}, {7, 5}, {7, 6}};
-    CHECK(vbr_open_shared(&handle, 0, 8, 8, VBR_MAX_EPOCH + 1, wrong, 3) == VBR_BAD_SHAPE && vbr_open_shared(&handle, 0, 0, 8, 1, NULL, 0) == VBR_BAD_SHAPE);
+    CHECK(vbr_open_shared(&handle, 0, 8, 8, vbr_max_epoch(8) + 1, wrong, 3) == VBR_BAD_SHAPE && vbr_open_shared(&handle, 0, 0, 8, 1, NULL, 0) == VBR_BAD_SHAPE);
     CHECK(vbr_open_shared(&handle, 1, 8, VBR_MAX_BUCKETS + 1, 1, NULL, 0) == VBR_BAD_SHAPE && vbr_open_shared(&handle, 1, 8, 8, 0, NULL, 0) == VBR_BAD_SHAPE);
+    /* the greatest last epoch of so many slots is taken, and so is VBR_MAX_EPOCH: what is refused then is that there is no handle */
+    static const uint32_t some[] = {1, (1u << 24) - 1, 1u << 24, 1u << 25, VBR_MAX_SLOTS};
+    for (size_t i = 0; i < sizeof some / sizeof *some; i++) {
+        uint64_t most = vbr_max_epoch(some[i]);
+        CHECK(vbr_open_shared(&handle, 0, some[i], VBR_MAX_BUCKETS, most, wrong, 3) == VBR_BAD_COUNT);
+        CHECK(vbr_map_open_shared(&handle, 0, some[i], 8, VBR_MAX_EPOCH, entries, 3) == VBR_BAD_COUNT);
+        CHECK(vbr_open_shared(&handle, 0, some[i], 8, most + 1, wrong, 3) == VBR_BAD_SHAPE);
+    }
+    CHECK(vbr_open_shared(&handle, 0, 1u << 31, 8, VBR_MAX_EPOCH, wrong, 3) == VBR_BAD_SHAPE && vbr_open_shared(&handle, 0, 1u << 31, 8, 1, wrong, 3) == VBR_BAD_SHAPE);
     CHECK(vbr_open_shared(&handle, 0, 8, 8, 1, wrong, 3) == VBR_BAD_COUNT && vbr_open_shared(&handle, VBR_MAX_MANY_HANDLES + 1, 8, 8, 1, NULL, 0) == VBR_BAD_COUNT);
     CHECK(vbr_open_shared_in(-1, &handle, 1, 8, 8, 1, wrong, 3) == VBR_BAD_KEYS && vbr_open_shared(&handle, 1, 1, 8, 1, many, 2) == VBR_BAD_KEYS);
     CHECK(vbr_map_open_shared(&handle, 1, 8, 8, 1, entries, 3) == VBR_BAD_KEYS && vbr_map_open_shared(&handle, 1, 1, 8, 1, entries, 2) == VBR_BAD_KEYS && !handle);

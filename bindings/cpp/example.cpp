@@ -28,6 +28,10 @@ static_assert(!std::is_convertible_v<vbr::loan, bool>);
 static_assert(!std::is_convertible_v<std::uint32_t, vbr::steps> && !std::is_convertible_v<vbr::steps, std::uint64_t>);
 static_assert(vbr::shape::for_keys(1000, 2).slots == 1128 && vbr::shape::for_keys(1000, 2).buckets == 1024);
 static_assert(vbr::shape::for_keys(0, 1).buckets == 1 && vbr::shape::for_keys(~0u, 1).slots == vbr::max_slots + 1);
+static_assert(vbr::shape::for_keys(~0u, 1).buckets == vbr::max_buckets && vbr::shape::for_keys(1u << 25, 1).slots == (1u << 25) + 64);
+static_assert(vbr::max_epoch_for(16777215) == vbr::max_epoch); // more slots leave room for less
+static_assert(vbr::max_epoch_for(1) == UINT64_MAX >> 2 && vbr::max_epoch_for(1u << 24) == vbr::max_epoch / 2);
+static_assert(vbr::max_epoch_for(vbr::max_slots) == UINT32_MAX && vbr::max_epoch_for(0) + vbr::max_epoch_for(vbr::max_slots + 1) == 0);
 
 static int example() {
     std::vector<vbr::handle> handles = vbr::open(vbr::shape::for_keys(1024, 2), 2).value(); // or it throws vbr::refused

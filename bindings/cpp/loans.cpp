@@ -304,7 +304,7 @@ static int renewals() {
     const vbr::shape small{2, 1, 100}, large = vbr::shape::for_keys(4000, 2);
     for (std::uint64_t key = 1; key < 4; key++) CHECK(Of::adds(*of_all.lend(), key) && Of::adds(*lender.lend(), key));
     CHECK(lender.renew(large) == vbr::refusal::missing && of_all.renew(small) == vbr::refusal::no_room);
-    for (vbr::shape bad : {vbr::shape{0, 1, 1}, vbr::shape{1, vbr::max_buckets + 1, 1}, vbr::shape{1, 1, 0}})
+    for (vbr::shape bad : {vbr::shape{0, 1, 1}, vbr::shape{1, vbr::max_buckets + 1, 1}, vbr::shape{1, 1, 0}, vbr::shape{1, 1, vbr::max_epoch_for(1) + 1}})
         CHECK(of_all.renew(bad) == vbr::refusal::bad_shape);
     for (auto *each : {&lender, &of_all}) {
         auto one = each->lend(), other = each->lend();
@@ -315,6 +315,8 @@ static int renewals() {
         auto one = of_all.lend(), other = of_all.lend();
         CHECK(one->slots() == large.slots && other->epoch() == 1 && one->balance() + other->balance() == 3 && Of::takes(*other, 2));
     }
+    CHECK(of_all.renew({1u << 24, 8, vbr::max_epoch}) && of_all.last_epoch() == vbr::max_epoch_for(1u << 24)); // so many leave room for less
+    CHECK(of_all.lend()->last_epoch() == of_all.last_epoch() && of_all.renew({1u << 24, 8, vbr::max_epoch - 1}) == vbr::refusal::bad_shape);
     CHECK(of_all.renew(small) && of_all.last_epoch() == 100 && of_all.buckets() == 1);
     CHECK(Of::keys(of_all.close()) == (keys{1, 3}) && of_all.renew(small) == vbr::refusal::no_handle);
     return 0;

@@ -224,7 +224,8 @@ static void refusals() {
     vbr::shape seeded = good;
     seeded.seed = 7;
     CHECK(Shared::open_with(seeded, 0, wrong).error() == vbr::refusal::bad_shape);
-    CHECK(Shared::open_with(bad, 0, wrong).error() == vbr::refusal::bad_shape && Shared::open({8, 8, vbr::max_epoch + 1}, 0).error() == vbr::refusal::bad_shape);
+    CHECK(Shared::open_with(bad, 0, wrong).error() == vbr::refusal::bad_shape && Shared::open({8, 8, vbr::max_epoch_for(8) + 1}, 0).error() == vbr::refusal::bad_shape);
+    CHECK(Shared::open({1u << 24, 8, vbr::max_epoch}, 0).error() == vbr::refusal::bad_count && Shared::open({1u << 24, 8, vbr::max_epoch - 1}, 0).error() == vbr::refusal::bad_shape);
     CHECK(Shared::open_with(good, 0, wrong).error() == vbr::refusal::bad_count);
     CHECK(Shared::open(good, vbr::max_many_handles + 1).error() == vbr::refusal::bad_count);
     CHECK(Shared::open_with(good, 1, wrong).error() == vbr::refusal::bad_keys);

@@ -64,16 +64,28 @@ VBR_NODISCARD uint32_t vbr_version(void) VBR_NOEXCEPT;
 
 /* Numbers and answers */
 
-/* The most slots, buckets and handles of a set, and the greatest last epoch.
+/* The most slots, buckets and handles of a set, and a last epoch that every shape takes. VBR_MAX_EPOCH is the greatest last epoch of
+   16,777,215 slots. With more it means the greatest that they leave room for. Small sets may have a greater one: see vbr_max_epoch.
 
        uint32_t slots = 1024 + 64 * VBR_MAX_HANDLES, buckets = 1024;
        if (slots > VBR_MAX_SLOTS || buckets > VBR_MAX_BUCKETS) return 1; // else vbr_open answers VBR_BAD_SHAPE
        vbr_handle most[VBR_MAX_HANDLES] = {{0}};
        if (vbr_open(most, VBR_MAX_HANDLES, slots, buckets, VBR_MAX_EPOCH) != VBR_OK) return 1; */
-#define VBR_MAX_SLOTS 16777215u
-#define VBR_MAX_BUCKETS 16777216u
+#define VBR_MAX_SLOTS 2147483647u
+#define VBR_MAX_BUCKETS 2147483648u
 #define VBR_MAX_EPOCH 549755813887ull
 #define VBR_MAX_HANDLES 64u
+
+/* The greatest last epoch of a set or a map with so many slots; 0 where there can't be so many. The more bits the number of slots has,
+   the fewer are left for the epoch.
+
+       uint64_t last = vbr_max_epoch(1024 + 2 * 64); // 2^52 - 1, which is more than VBR_MAX_EPOCH */
+VBR_NODISCARD static inline uint64_t vbr_max_epoch(uint32_t slots) VBR_NOEXCEPT {
+    uint64_t most = UINT64_MAX >> 1;
+    if (slots == 0 || slots > VBR_MAX_SLOTS) return 0;
+    for (; slots > 0; slots >>= 1) most >>= 1;
+    return most;
+}
 
 /* The most handles of a set or a map that vbr_open_many and vbr_map_open_many open.
 
@@ -83,7 +95,8 @@ VBR_NODISCARD uint32_t vbr_version(void) VBR_NOEXCEPT;
 
 /* The ample budget, which the calls of a handle have unless it is given another. In short buckets a call on a key runs out of so many
    steps only where others disturb it more than a hundred times while it runs: vbr(3) says what disturbs a call, and has the numbers. A
-   call of a walk may, where it passes many empty buckets.
+   call of a walk may, where it passes many empty buckets. A call that may take a slot, given just this number, has a step more for each
+   64 slots above 16,777,216.
 
        handle[0].steps = VBR_AMPLE_STEPS; // which 0 says too */
 #define VBR_AMPLE_STEPS 400000u

@@ -62,13 +62,23 @@
 
 namespace vbr {
 
-/* The most slots, buckets and handles of a set, and the greatest last epoch.
+/* The most slots, buckets and handles of a set, and a last epoch that every shape takes, which means what VBR_MAX_EPOCH does.
 
        auto most = vbr::open(vbr::shape::for_keys(1024, vbr::max_handles), vbr::max_handles); */
 inline constexpr std::uint32_t max_slots = VBR_MAX_SLOTS;
 inline constexpr std::uint32_t max_buckets = VBR_MAX_BUCKETS;
 inline constexpr std::uint64_t max_epoch = VBR_MAX_EPOCH;
 inline constexpr std::size_t max_handles = VBR_MAX_HANDLES;
+
+/* The greatest last epoch of a set or a map with so many slots, as vbr_max_epoch; 0 where there can't be so many.
+
+       static_assert(vbr::max_epoch_for(16777215) == vbr::max_epoch); // more slots leave room for less */
+constexpr std::uint64_t max_epoch_for(std::uint32_t slots) noexcept {
+    if (slots == 0 || slots > max_slots) return 0;
+    std::uint64_t most = UINT64_MAX >> 1;
+    for (; slots > 0; slots >>= 1) most >>= 1;
+    return most;
+}
 
 /* The most handles that open_many and open_map_many open.
 

@@ -119,8 +119,13 @@ private:
     std::condition_variable changed;
 };
 
+/* The last epoch that a set of this shape has. */
+constexpr std::uint64_t last_epoch_of(const shape &it) noexcept {
+    return it.last_epoch == max_epoch && max_epoch_for(it.slots) < max_epoch ? max_epoch_for(it.slots) : it.last_epoch;
+}
+
 constexpr bool is_in_range(const shape &it) noexcept {
-    return it.slots - 1 < max_slots && it.buckets - 1 < max_buckets && it.last_epoch - 1 < max_epoch;
+    return it.slots - 1 < max_slots && it.buckets - 1 < max_buckets && last_epoch_of(it) - 1 < max_epoch_for(it.slots);
 }
 
 /* The number of the handle that this thread was lent last, by any lender: it tries that one first. So threads that are no more than
@@ -133,7 +138,7 @@ public:
     void set(const shape &to) noexcept {
         of_slots.store(to.slots, std::memory_order_relaxed);
         of_buckets.store(to.buckets, std::memory_order_relaxed);
-        of_epoch.store(to.last_epoch, std::memory_order_relaxed);
+        of_epoch.store(last_epoch_of(to), std::memory_order_relaxed);
         is_seeded.store(to.seed.has_value(), std::memory_order_relaxed);
         of_seed.store(to.seed.value_or(0), std::memory_order_relaxed);
         is_budgeted.store(to.steps.has_value(), std::memory_order_relaxed);
@@ -143,7 +148,7 @@ public:
     std::uint32_t buckets() const noexcept { return of_buckets.load(std::memory_order_relaxed); }
     std::uint64_t last_epoch() const noexcept { return of_epoch.load(std::memory_order_relaxed); }
     bool is(const shape &other) const noexcept {
-        return slots() == other.slots && buckets() == other.buckets && last_epoch() == other.last_epoch && has_seed_of(other) &&
+        return slots() == other.slots && buckets() == other.buckets && last_epoch() == last_epoch_of(other) && has_seed_of(other) &&
                has_steps_of(other);
     }
 

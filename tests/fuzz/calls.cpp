@@ -357,28 +357,39 @@ private:
         return x & 128 ? others[x / 16 % 4] : INSERT;
     }
 
-    // Large sets take long to open: they come seldom, and once an input; that of most slots, which takes more than 1 GB,
-    // more seldom by far.
+    // Large sets take long to open: they come seldom, and once an input; that of many slots, which takes more than 1 GB,
+    // more seldom by far. So many slots leave room for a lesser last epoch than VBR_MAX_EPOCH.
+    static constexpr uint32_t LARGE = 1u << 24;
     bool is_small(uint8_t least) { return byte() < least || large++ > 0; }
 
     uint64_t slots() {
-        static const uint64_t some[] = {0, VBR_MAX_SLOTS, VBR_MAX_SLOTS + 1, UINT32_MAX, 63, 64, 65, 1000};
+        static const uint64_t some[] = {0, LARGE, VBR_MAX_SLOTS + 1, UINT32_MAX, 63, 64, 65, 1000};
         uint8_t x = byte();
         uint64_t slots = x < 200 ? 1 + x % 20 : x < 240 ? 40 + x : some[x % 8];
-        return slots == VBR_MAX_SLOTS && (byte() < 255 || is_small(255)) ? 1 : slots;
+        return slots == LARGE && (byte() < 255 || is_small(255)) ? 1 : slots;
     }
 
     uint64_t buckets() {
-        static const uint64_t some[] = {0, VBR_MAX_BUCKETS, VBR_MAX_BUCKETS + 1, UINT32_MAX};
+        static const uint64_t some[] = {0, LARGE, VBR_MAX_BUCKETS + 1ull, UINT32_MAX};
         uint8_t x = byte();
         uint64_t buckets = x < 240 ? 1 + x % 9 : some[x % 4];
-        return buckets == VBR_MAX_BUCKETS && (byte() < 250 || is_small(250)) ? 1 : buckets;
+        return buckets == LARGE && (byte() < 250 || is_small(250)) ? 1 : buckets;
     }
 
-    uint64_t last_epoch() {
-        static const uint64_t some[] = {0, VBR_MAX_EPOCH, VBR_MAX_EPOCH + 1, UINT64_MAX};
+    uint64_t last_epoch(uint64_t slots) {
+        const uint64_t greatest = vbr_max_epoch(static_cast<uint32_t>(slots)), some[] = {0, greatest, greatest + 1, UINT64_MAX};
         uint8_t x = byte();
         return x < 128 ? VBR_MAX_EPOCH : x < 240 ? 1 + x % 20 : some[x % 4];
+    }
+
+    static bool is_shape(uint64_t slots, uint64_t buckets, uint64_t last_epoch) {
+        if (slots < 1 || slots > VBR_MAX_SLOTS || buckets < 1 || buckets > VBR_MAX_BUCKETS || last_epoch < 1) return false;
+        return last_epoch == VBR_MAX_EPOCH || last_epoch <= vbr_max_epoch(static_cast<uint32_t>(slots));
+    }
+
+    // The last epoch of a set that opened with this one.
+    static uint64_t last_epoch_of(uint64_t slots, uint64_t last_epoch) {
+        return std::min(last_epoch, vbr_max_epoch(static_cast<uint32_t>(slots)));
     }
 
     // A value that no other call stored.
@@ -410,13 +421,13 @@ private:
     }
 
     void open(size_t from, bool with_keys) {
-        uint64_t s = slots(), b = buckets(), e = last_epoch();
+        uint64_t s = slots(), b = buckets(), e = last_epoch(s);
         uint8_t x = byte();
         size_t count = x < 200 ? 1 + x % 4 : x < 250 ? x % CELLS : 0;
         count = std::min(count, CELLS - from);
         bool in_use = false;
         for (size_t i = from; i < from + count; i++) in_use |= models[i] != nullptr;
-        bool bad = s < 1 || s > VBR_MAX_SLOTS || b < 1 || b > VBR_MAX_BUCKETS || e < 1 || e > VBR_MAX_EPOCH;
+        bool bad = !is_shape(s, b, e);
         std::vector<typename Of::Item> items;
         if (with_keys) items = opening_items();
         int want = in_use                               ? VBR_IN_USE
@@ -436,7 +447,7 @@ private:
         if (answer != VBR_NO) return;
         auto model = std::make_shared<Model>();
         for (const auto &item : items) model->keys[Of::key(item)] = Of::value(item);
-        model->slots = slots, model->buckets = buckets, model->last_epoch = e;
+        model->slots = slots, model->buckets = buckets, model->last_epoch = last_epoch_of(s, e);
         model->handles = model->open = count;
         for (size_t i = from; i < from + count; i++) models[i] = model, balances[i] = i == from ? static_cast<int64_t>(items.size()) : 0;
         check_balances(from, count);
@@ -712,14 +723,14 @@ private:
     }
 
     int renew(const std::shared_ptr<Model> &m, typename Of::Handle *all, size_t count, int told) {
-        uint64_t s = slots(), b = buckets(), e = last_epoch();
-        bool bad = s < 1 || s > VBR_MAX_SLOTS || b < 1 || b > VBR_MAX_BUCKETS || e < 1 || e > VBR_MAX_EPOCH;
+        uint64_t s = slots(), b = buckets(), e = last_epoch(s);
+        bool bad = !is_shape(s, b, e);
         int want = bad ? VBR_BAD_SHAPE : told != VBR_NO ? told : m->keys.size() > s ? VBR_NO_ROOM : VBR_NO;
         int answer = Of::renew_all(all, count, static_cast<uint32_t>(s), static_cast<uint32_t>(b), e);
         bool is_short = want == VBR_NO && answer == VBR_NO_MEMORY && refused_one;
         if (answer != want && !is_short && !(want == VBR_MIXED && answer == VBR_MISSING)) fail("the answer of a renewal");
         if (answer != VBR_NO) return answer;
-        m->slots = static_cast<uint32_t>(s), m->buckets = static_cast<uint32_t>(b), m->last_epoch = e;
+        m->slots = static_cast<uint32_t>(s), m->buckets = static_cast<uint32_t>(b), m->last_epoch = last_epoch_of(s, e);
         m->marked.clear();
         m->all_marked = m->inserts = 0;
         return answer;

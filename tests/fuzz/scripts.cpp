@@ -119,7 +119,9 @@ struct Settings {
     uint64_t operator[](const char *name) const { return numbers.at(name); }
     int shape_fault() const {
         auto within = [&](const char *name, uint64_t most) { return numbers.at(name) >= 1 && numbers.at(name) <= most; };
-        return !within("slots", VBR_MAX_SLOTS) ? 1 : !within("buckets", 65536) ? 2 : !within("last-epoch", VBR_MAX_EPOCH) ? 3 : 0;
+        uint64_t greatest = vbr_max_epoch(static_cast<uint32_t>(numbers.at("slots")));
+        bool has_room = numbers.at("last-epoch") == VBR_MAX_EPOCH || within("last-epoch", greatest);
+        return !within("slots", VBR_MAX_SLOTS) ? 1 : !within("buckets", 65536) ? 2 : !has_room ? 3 : 0;
     }
 };
 
@@ -395,7 +397,7 @@ static std::vector<uint64_t> play(Program &program, const Input &input) {
 static std::string number_word(fuzz::Random &random) {
     static const Words edges{"0",          "1",          "2",           "7",          "63",        "64",
                              "65",         "16",         "17",          "00012",      "65536",     "65537",
-                             "4294967295", "4294967296", std::to_string(VBR_MAX_EPOCH), std::to_string(VBR_MAX_EPOCH + 1), "18446744073709551615", "18446744073709551616",
+                             "4294967295", "4294967296", std::to_string(VBR_MAX_EPOCH), std::to_string(VBR_MAX_EPOCH + 1), std::to_string(vbr_max_epoch(1024)), std::to_string(vbr_max_epoch(1024) + 1), "18446744073709551615", "18446744073709551616",
                              "-1",         "+1",         "1e3",         "0x10",       "",          "9999999999999999999999999"};
     return random.once_in(3) ? random.one_of(edges) : std::to_string(random.below(random.once_in(2) ? 12 : 300));
 }

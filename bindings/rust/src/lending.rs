@@ -123,7 +123,7 @@ impl<T: Kind> Lender<T> {
     /// Lets the handles go on over a fresh set of this shape, once all loans are back, if they are before the deadline.
     pub(crate) fn renew(&self, shape: Shape, deadline: Option<Instant>, records: Option<&Words>) -> Result<(), RenewError> {
         shape.check_numbers()?;
-        let shape = shape.with_handles(self.count());
+        let shape = shape.opened().with_handles(self.count());
         let before = self.made.renewals.load(Ordering::Relaxed);
         let mut mine = Renewal { of: self, has_turn: false, taken: 0 };
         let is_to_be_made = self.waiters.wait_for_all(deadline, || {
@@ -199,7 +199,8 @@ impl SharedShape {
         shared
     }
 
-    fn set(&self, Shape { slots, buckets, last_epoch, seed, steps, .. }: Shape) {
+    fn set(&self, shape: Shape) {
+        let Shape { slots, buckets, last_epoch, seed, steps, .. } = shape.opened();
         self.slots.store(slots, Ordering::Relaxed);
         self.buckets.store(buckets, Ordering::Relaxed);
         self.last_epoch.store(last_epoch, Ordering::Relaxed);

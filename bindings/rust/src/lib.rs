@@ -23,16 +23,17 @@
 //!
 //! - **Platform.** Linux on x86-64, processors of x86-64-v2 or later (SSE4.2 and POPCNT). It was run on Xeons in virtual machines
 //!   under Debian 12, and nowhere else. Rust 1.81 or later, with `std`.
-//! - **Limits.** Keys and values of at most 64 bits, and [`Records`] of any size beside them. Up to [`MAX_SLOTS`] slots (16,777,215), of which each key takes one and each
+//! - **Limits.** Keys and values of at most 64 bits, and [`Records`] of any size beside them. Up to [`MAX_SLOTS`] slots (2,147,483,647), of which each key takes one and each
 //!   handle keeps up to 64; [`MAX_HANDLES`] handles; memory that is taken at the opening, 8 × (2 + buckets + 4 × slots +
 //!   ⌈slots / 64⌉) bytes for a set, and 8 more for each slot of a map. A set doesn't grow by itself: [`Table::renew`] and
 //!   [`HandleOf::renew_all`] let it go on in another shape.
 //! - **The epochs end.** Only calls that take a slot, for a key or a new value, advance the epoch, each by one at most: about three
 //!   of a hundred inserts, also in a full cache that takes a key out before each that it puts in, since a handle keeps slots in
-//!   reserve ([`PassOf::reserve`]); more in small sets. The greatest last epoch, [`MAX_EPOCH`], lasts
-//!   fifteen hours at ten million inserts a second that advance it, and six days at a million. After it inserts are refused by
-//!   [`Refusal::EpochSpent`] until the set is renewed; look-ups and removes go on. So a program that runs for weeks renews its set
-//!   by a clock (`examples/server.rs`).
+//!   reserve ([`PassOf::reserve`]); more in small sets. The last epoch [`MAX_EPOCH`] lasts
+//!   fifteen hours at ten million inserts a second that advance it, and six days at a million. Small sets may have a greater one,
+//!   and with more than 16,777,215 slots it is less ([`max_epoch`]). After it inserts are refused by [`Refusal::EpochSpent`] until
+//!   the set is renewed; look-ups and removes go on. So a program that runs for weeks renews its set by a clock
+//!   (`examples/server.rs`).
 //! - **Progress.** Each call ends within its budget, answered or refused. Nobody holds it up: what others can cost it is bounded by
 //!   what they do, and while they stand still, wherever they do, a known budget suffices. A call with a budget that is large
 //!   enough is refused for want of steps only where another handle's update is answered yes meanwhile. So whoever stands still,
@@ -288,7 +289,7 @@ pub use table::Table;
 /// ```
 /// assert_eq!(vbr::Shape::new(vbr::MAX_SLOTS, 1, 1).check(), Ok(()));
 /// ```
-pub const MAX_SLOTS: u32 = 16_777_215;
+pub const MAX_SLOTS: u32 = 2_147_483_647;
 
 /// The greatest number of buckets. Open with as many as keys, a power of two: a bucket then has about one
 /// node, and takes 8 bytes.
@@ -296,14 +297,31 @@ pub const MAX_SLOTS: u32 = 16_777_215;
 /// ```
 /// assert!(vbr::Shape::new(1, vbr::MAX_BUCKETS + 1, 1).check().is_err());
 /// ```
-pub const MAX_BUCKETS: u32 = 16_777_216;
+pub const MAX_BUCKETS: u32 = 2_147_483_648;
 
-/// The greatest last epoch.
+/// A last epoch that every shape takes: the greatest of 16,777,215 slots. With more slots it means the greatest that they leave
+/// room for. Small sets may have a greater one ([`max_epoch`]).
 ///
 /// ```
 /// assert_eq!(vbr::Shape::for_keys(8, 1).last_epoch, vbr::MAX_EPOCH);
 /// ```
 pub const MAX_EPOCH: u64 = 549_755_813_887;
+
+/// The greatest last epoch of a set or a map with so many slots; 0 where there can't be so many. The more bits the number of slots
+/// has, the fewer are left for the epoch.
+///
+/// ```
+/// assert_eq!(vbr::max_epoch(16_777_215), vbr::MAX_EPOCH);
+/// let slots = 1_024 + 2 * 64;
+/// assert_eq!(vbr::Shape::new(slots, 1_024, vbr::max_epoch(slots)).check(), Ok(())); // 2^52 - 1
+/// ```
+#[must_use]
+pub const fn max_epoch(slots: u32) -> u64 {
+    if slots < 1 || slots > MAX_SLOTS {
+        return 0;
+    }
+    (1 << (31 + slots.leading_zeros())) - 1
+}
 
 /// The greatest number of handles of a set.
 ///

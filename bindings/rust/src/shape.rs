@@ -1,6 +1,6 @@
 //! How large a set or a map is.
 use crate::library::vbr_random_seed;
-use crate::{Steps, MAX_BUCKETS, MAX_EPOCH, MAX_HANDLES, MAX_SLOTS};
+use crate::{max_epoch, Steps, MAX_BUCKETS, MAX_EPOCH, MAX_HANDLES, MAX_SLOTS};
 use core::error::Error;
 use core::fmt;
 
@@ -49,7 +49,7 @@ pub struct Shape {
     pub slots: u32,
     /// From 1 to [`MAX_BUCKETS`].
     pub buckets: u32,
-    /// From 1 to [`MAX_EPOCH`].
+    /// From 1 to what [`max_epoch`] gives for so many slots, or [`MAX_EPOCH`], which means the same where that is less.
     pub last_epoch: u64,
     /// How many handles an opening gives or lends, from 1 to [`MAX_HANDLES`].
     pub handles: usize,
@@ -71,7 +71,7 @@ impl Shape {
     }
 
     /// The shape for this many keys at one time and this many handles: a slot for each key and 64 for each handle, but no more
-    /// than there may be; as many buckets as keys, rounded up to a power of two; and the greatest last epoch.
+    /// than there may be; as many buckets as keys, rounded up to a power of two; and [`MAX_EPOCH`].
     ///
     /// ```
     /// # use vbr::{Set, Shape};
@@ -165,8 +165,20 @@ impl Shape {
         match self {
             Shape { slots, .. } if slots < 1 || slots > MAX_SLOTS => Err(ShapeError::Slots(slots)),
             Shape { buckets, .. } if buckets < 1 || buckets > MAX_BUCKETS => Err(ShapeError::Buckets(buckets)),
-            Shape { last_epoch, .. } if last_epoch < 1 || last_epoch > MAX_EPOCH => Err(ShapeError::LastEpoch(last_epoch)),
+            Shape { slots, last_epoch, .. }
+                if last_epoch < 1 || (last_epoch > max_epoch(slots) && last_epoch != MAX_EPOCH) =>
+            {
+                Err(ShapeError::LastEpoch(last_epoch))
+            }
             _ => Ok(()),
+        }
+    }
+
+    /// The shape that a set has which was opened with this one: its last epoch is no more than its slots leave room for.
+    pub(crate) const fn opened(self) -> Shape {
+        match max_epoch(self.slots) {
+            last_epoch if self.last_epoch > last_epoch => Shape { last_epoch, ..self },
+            _ => self,
         }
     }
 }
@@ -189,7 +201,7 @@ pub fn random_seed() -> u64 {
 /// ```
 /// # use vbr::{Set, Shape};
 /// let error = Set::<u64>::open(Shape::new(8, 0, 100)).unwrap_err();
-/// assert_eq!(error.to_string(), "0 buckets are not from 1 to 16777216");
+/// assert_eq!(error.to_string(), "0 buckets are not from 1 to 2147483648");
 /// ```
 #[derive(Clone, Copy, Debug, PartialEq, Eq, Hash)]
 #[non_exhaustive]
@@ -198,7 +210,7 @@ pub enum ShapeError {
     Slots(u32),
     /// The number of buckets is not from 1 to [`MAX_BUCKETS`].
     Buckets(u32),
-    /// The last epoch is not from 1 to [`MAX_EPOCH`].
+    /// The last epoch is 0, or greater than so many slots leave room for, as [`max_epoch`] tells, and isn't [`MAX_EPOCH`].
     LastEpoch(u64),
     /// The number of handles is not from 1 to [`MAX_HANDLES`].
     Handles(usize),
@@ -209,7 +221,9 @@ impl fmt::Display for ShapeError {
         match self {
             ShapeError::Slots(slots) => write!(f, "{slots} slots are not from 1 to {MAX_SLOTS}"),
             ShapeError::Buckets(buckets) => write!(f, "{buckets} buckets are not from 1 to {MAX_BUCKETS}"),
-            ShapeError::LastEpoch(epoch) => write!(f, "the last epoch {epoch} is not from 1 to {MAX_EPOCH}"),
+            ShapeError::LastEpoch(epoch) => {
+                write!(f, "the last epoch {epoch} is not from 1 to the greatest of so many slots")
+            }
             ShapeError::Handles(handles) => write!(f, "{handles} handles are not from 1 to {MAX_HANDLES}"),
         }
     }

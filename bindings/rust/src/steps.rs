@@ -22,11 +22,11 @@
 pub struct Steps(u32);
 
 impl Steps {
-    /// So many that in short buckets a call runs out of them only where others disturb it more than a hundred times: 400,000,
-    /// which is no less than 100,000 and a step for each 64 of the most slots that there may be.
+    /// So many that in short buckets a call runs out of them only where others disturb it more than a hundred times: 400,000.
+    /// They give a call that may take a slot a step more for each 64 slots above 16,777,216.
     ///
     /// ```
-    /// assert!(vbr::Steps::AMPLE.count() >= 100_000 + vbr::MAX_SLOTS / 64);
+    /// assert!(vbr::Steps::AMPLE > vbr::Steps::new(100_000));
     /// ```
     pub const AMPLE: Steps = Steps(400_000);
 

@@ -1,6 +1,6 @@
 //! All handles of a set or a map at once: their balances, their report and their renewal, and each refusal.
 #![allow(clippy::cast_possible_truncation, reason = "the numbers are small")]
-use vbr::{Handle, Map, MapHandle, RenewError, ReportError, Set, Shape, ShapeError, Steps, MAX_SLOTS};
+use vbr::{max_epoch, Handle, Map, MapHandle, RenewError, ReportError, Set, Shape, ShapeError, Steps, MAX_EPOCH};
 
 #[test]
 fn a_set_is_reported_and_renewed() {
@@ -74,9 +74,18 @@ fn a_thousand_handles() {
     assert_eq!(MapHandle::report_all(&mut maps).expect("a report").entries, [(5, 51)]);
 }
 
-/// As many slots as there may be, of which its handle may keep 64.
+/// So many slots that they leave room for a lesser last epoch than `MAX_EPOCH`, which means the greatest then.
 #[test]
-fn the_largest_set() {
-    let mut handle = Set::handles(Shape::for_keys(MAX_SLOTS, 1)).expect("a set").remove(0);
-    assert_eq!((handle.slots(), handle.insert(5_u64), handle.has(5)), (MAX_SLOTS, Ok(true), Ok(true)));
+fn a_large_set() {
+    let (slots, greatest) = (1 << 24, (1 << 38) - 1);
+    assert_eq!(max_epoch(slots), greatest);
+    let set = Set::open(Shape::new(slots, 1 << 24, MAX_EPOCH)).expect("a set");
+    let mut handle = set.lend_wait();
+    assert_eq!((handle.slots(), handle.insert(5_u64), handle.has(5)), (slots, Ok(true), Ok(true)));
+    assert_eq!((handle.last_epoch(), set.last_epoch()), (greatest, greatest));
+    drop(handle);
+    assert_eq!(set.renew(Shape::new(slots, 8, greatest + 1)), Err(RenewError::Shape(ShapeError::LastEpoch(greatest + 1))));
+    assert_eq!((set.renew(Shape::new(slots - 1, 8, MAX_EPOCH)), set.last_epoch()), (Ok(()), MAX_EPOCH));
+    assert_eq!((set.renew(Shape::new(slots, 8, MAX_EPOCH)), set.last_epoch()), (Ok(()), greatest));
+    assert_eq!(set.lend_wait().has(5), Ok(true));
 }

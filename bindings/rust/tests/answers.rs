@@ -2,6 +2,7 @@
 mod both;
 
 use both::{Both, Told};
+use vbr::{max_epoch, MAX_BUCKETS, MAX_EPOCH, MAX_HANDLES, MAX_SLOTS};
 use vbr::{
     CloseError, Cursor, Entries, Handle, HandleOf, Iter, Keys, KeysError, Lent, Map, MapHandle, MapPass, MapReport, OpenError,
 };
@@ -9,7 +10,6 @@ use vbr::{
     OutOfSteps, OwnedLent, Pass, PassOf, Refusal, RenewError, Report, ReportError, Set, Shape, ShapeError, Steps, Table,
     Unclosed,
 };
-use vbr::{MAX_BUCKETS, MAX_EPOCH, MAX_HANDLES, MAX_SLOTS};
 
 of_sets_and_maps! {
     openings
@@ -62,7 +62,7 @@ fn report_of<K: Both>(last: HandleOf<K>) -> Told {
 #[test]
 fn shapes() {
     assert_eq!(vbr::version(), 3_000);
-    assert_eq!(OpenError::Shape(ShapeError::Slots(0)).to_string(), "0 slots are not from 1 to 16777215");
+    assert_eq!(OpenError::Shape(ShapeError::Slots(0)).to_string(), "0 slots are not from 1 to 2147483647");
     assert_eq!(Shape::for_keys(0, 1), Shape::new(64, 1, MAX_EPOCH));
     assert_eq!(Shape::for_keys(1_025, 1_000), Shape::new(1_025 + 1_000 * 64, 2_048, MAX_EPOCH).with_handles(1_000));
     assert_eq!(Shape::for_keys(0, 65_537).check(), Err(ShapeError::Handles(65_537)));
@@ -73,10 +73,32 @@ fn shapes() {
     assert_eq!(Shape::for_keys(MAX_SLOTS + 1, 1).check(), Err(ShapeError::Slots(MAX_SLOTS + 1 + 64)));
 }
 
+/// The greatest last epoch of so many slots is in range, and one more isn't; `MAX_EPOCH` is with any number of slots.
+#[test]
+fn greatest_epochs() {
+    for (slots, bits) in
+        [(1, 62), (4_095, 51), (4_096, 50), ((1 << 24) - 1, 39), (1 << 24, 38), (1 << 25, 37), (MAX_SLOTS, 32)]
+    {
+        let greatest = max_epoch(slots);
+        assert_eq!(greatest, (1 << bits) - 1);
+        for last_epoch in [1, greatest, MAX_EPOCH] {
+            assert_eq!(Shape::new(slots, MAX_BUCKETS, last_epoch).check(), Ok(()));
+        }
+        for last_epoch in [0, greatest + 1, u64::MAX] {
+            assert_eq!(Shape::new(slots, 1, last_epoch).check(), Err(ShapeError::LastEpoch(last_epoch)));
+        }
+    }
+    for slots in [0, MAX_SLOTS + 1, u32::MAX] {
+        assert_eq!((max_epoch(slots), Shape::new(slots, 1, MAX_EPOCH).check()), (0, Err(ShapeError::Slots(slots))));
+    }
+    let error = ShapeError::LastEpoch(MAX_EPOCH - 1).to_string();
+    assert_eq!(error, "the last epoch 549755813886 is not from 1 to the greatest of so many slots");
+}
+
 fn openings<K: Both>() {
     let slots = [0, MAX_SLOTS + 1].map(|slots| (Shape::new(slots, 1, 1), ShapeError::Slots(slots)));
     let buckets = [0, MAX_BUCKETS + 1].map(|buckets| (Shape::new(1, buckets, 0), ShapeError::Buckets(buckets)));
-    let epochs = [0, MAX_EPOCH + 1].map(|last_epoch| (Shape::new(1, 1, last_epoch), ShapeError::LastEpoch(last_epoch)));
+    let epochs = [0, max_epoch(1) + 1].map(|last_epoch| (Shape::new(1, 1, last_epoch), ShapeError::LastEpoch(last_epoch)));
     for (shape, number) in [slots, buckets, epochs].concat() {
         assert_eq!(Table::<K>::handles(shape.with_handles(0)).unwrap_err(), OpenError::Shape(number));
         assert_eq!(Table::<K>::open(shape).unwrap_err().to_string(), number.to_string());
@@ -87,7 +109,7 @@ fn openings<K: Both>() {
         assert_eq!(error.to_string(), format!("{handles} handles are not from 1 to 65536"));
     }
     assert_eq!(Table::<K>::handles(Shape::new(8, 1, 1).with_handles(64)).expect("a set").len(), 64);
-    assert_eq!(Table::<K>::handles(Shape::new(8, MAX_BUCKETS, 1)).expect("a set").len(), 1);
+    assert_eq!(Table::<K>::handles(Shape::new(8, 1 << 24, max_epoch(8))).expect("a set").len(), 1);
 }
 
 fn openings_with_keys<K: Both>() {
@@ -268,7 +290,7 @@ fn errors_pass_as_any_error<K: Both>() {
     is_any::<ReportError>();
     is_any::<CloseError<HandleOf<K>>>();
     is_any::<CloseError<Table<K>>>();
-    assert_eq!(runs::<K>().unwrap_err().to_string(), "0 slots are not from 1 to 16777215");
+    assert_eq!(runs::<K>().unwrap_err().to_string(), "0 slots are not from 1 to 2147483647");
     let goes_on = Unclosed::into_handle;
     let _: fn(Unclosed<HandleOf<K>>) -> HandleOf<K> = goes_on;
     assert_eq!(format!("{:?}", CloseError::<HandleOf<K>>::Lost), "Lost");

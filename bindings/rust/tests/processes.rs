@@ -12,8 +12,8 @@ use std::os::fd::FromRawFd;
 use std::panic::{catch_unwind, AssertUnwindSafe};
 use std::sync::atomic::{AtomicBool, Ordering};
 use std::{mem, thread};
+use vbr::{max_epoch, Shape, ShapeError, SharedMap, Steps, MAX_BUCKETS, MAX_EPOCH, MAX_HANDLES};
 use vbr::{Inherited, KeysError, OpenError, OutOfSteps, PassOf, Refusal, RenewError, SharedTable};
-use vbr::{Shape, ShapeError, SharedMap, Steps, MAX_BUCKETS, MAX_EPOCH, MAX_HANDLES};
 
 extern "C" {
     fn fork() -> c_int;
@@ -286,8 +286,8 @@ fn refusals_in_their_order<K: Both>() {
         Some(OpenError::Shape(ShapeError::Buckets(MAX_BUCKETS + 1)))
     );
     assert_eq!(
-        open(Shape::new(8, 8, MAX_EPOCH + 1).with_handles(0), &wrong),
-        Some(OpenError::Shape(ShapeError::LastEpoch(MAX_EPOCH + 1)))
+        open(Shape::new(8, 8, max_epoch(8) + 1).with_handles(0), &wrong),
+        Some(OpenError::Shape(ShapeError::LastEpoch(max_epoch(8) + 1)))
     );
     for handles in [0, MAX_HANDLES + 1] {
         assert_eq!(open(Shape::for_keys(8, handles), &wrong), Some(OpenError::Shape(ShapeError::Handles(handles))));

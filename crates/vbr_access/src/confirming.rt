@@ -6,6 +6,7 @@ ghost use Rattle.vbr_at_table.specs.Answering.{AnswersAbsent, AnswersLookUp, Ans
 ghost use Rattle.vbr_at_table.specs.Answering.{FindsAnother, IsAbsent, IsOther, IsPresent};
 ghost use Rattle.vbr_at_table.specs.Answering.{KeepsByLoad};
 ghost use Rattle.vbr_at_table.specs.Exchanges.{IsUnmarked};
+ghost use Rattle.vbr_at_table.specs.Held.{said, said_rollback};
 ghost use Rattle.vbr_at_table.specs.DecidedKeys.{TellsKey};
 ghost use Rattle.vbr_at_table.specs.Values.{AnswersEntry, IsAsked, IsOtherIn};
 
@@ -18,11 +19,13 @@ use vbr_words::Nodes;
 #[inline]
 pub fn confirm_present(slots: &Slots, pass: &mut Pass, op: Op, held: &Held) -> Result<(), Rollback>
     requires own { IsOf pass.old.trace slots.now }
-    requires node { IsPresent (knows pass.old.trace) held.now }
+    requires node { IsPresent (knows pass.old.trace) (said slots.now held.now) }
     requires op { IsOther Remove op }
     ensures keeps { KeepsByLoad pass.old pass.new }
-    ensures answers { OnOk result (AnswersPresent pass.old.trace pass.new.trace op held.now) }
-    ensures lost { IfErr result (FindsAnother pass.old.trace pass.new.trace held.now) }
+    ensures answers { OnOk result (AnswersPresent pass.old.trace pass.new.trace op
+        (said slots.now held.now)) }
+    ensures lost { IfErr result (λ why. FindsAnother pass.old.trace pass.new.trace
+        (said slots.now held.now) (said_rollback slots.now why)) }
 {
     confirm_present_entry(slots, pass, op, held)
 }
@@ -36,17 +39,19 @@ pub fn confirm_present_entry<N: Nodes>(
     held: &Held,
 ) -> Result<(), Rollback>
     requires own { IsOf pass.old.trace slots.now }
-    requires node { IsPresent (knows pass.old.trace) held.now }
+    requires node { IsPresent (knows pass.old.trace) (said slots.now held.now) }
     requires op { op ≢ Remove }
     requires asked { IsAsked pass.old.trace op held.now.at }
     ensures keeps { KeepsByLoad pass.old pass.new }
-    ensures answers { OnOk result (AnswersEntry pass.old.trace pass.new.trace op held.now) }
-    ensures lost { IfErr result (FindsAnother pass.old.trace pass.new.trace held.now) }
+    ensures answers { OnOk result (AnswersEntry pass.old.trace pass.new.trace op
+        (said slots.now held.now)) }
+    ensures lost { IfErr result (λ why. FindsAnother pass.old.trace pass.new.trace
+        (said slots.now held.now) (said_rollback slots.now why)) }
 {
     pass.during(
         |stepper|
             requires own { IsOf stepper.old.trace slots.now }
-            requires node { IsPresent (knows stepper.old.trace) held.now }
+            requires node { IsPresent (knows stepper.old.trace) (said slots.now held.now) }
             requires op { op ≢ Remove }
             requires asked { IsAsked stepper.old.trace op held.now.at }
         {
@@ -68,11 +73,13 @@ pub fn confirm_absent(
     pred: &Held,
 ) -> Result<(), Rollback>
     requires own { IsOf pass.old.trace slots.now }
-    requires gap { IsAbsent pass.old.trace.start (knows pass.old.trace) key pred.now }
+    requires gap { IsAbsent pass.old.trace.start (knows pass.old.trace) key
+        (said slots.now pred.now) }
     requires op { IsOther Insert op }
     ensures keeps { KeepsByLoad pass.old pass.new }
     ensures answers { OnOk result (AnswersAbsent pass.old.trace pass.new.trace op key) }
-    ensures lost { IfErr result (FindsAnother pass.old.trace pass.new.trace pred.now) }
+    ensures lost { IfErr result (λ why. FindsAnother pass.old.trace pass.new.trace
+        (said slots.now pred.now) (said_rollback slots.now why)) }
 {
     confirm_absent_entry(slots, pass, op, key, pred)
 }
@@ -87,16 +94,19 @@ pub fn confirm_absent_entry<N: Nodes>(
     pred: &Held,
 ) -> Result<(), Rollback>
     requires own { IsOf pass.old.trace slots.now }
-    requires gap { IsAbsent pass.old.trace.start (knows pass.old.trace) key pred.now }
+    requires gap { IsAbsent pass.old.trace.start (knows pass.old.trace) key
+        (said slots.now pred.now) }
     requires op { IsOtherIn pass.old.trace.start Insert op }
     ensures keeps { KeepsByLoad pass.old pass.new }
     ensures answers { OnOk result (AnswersAbsent pass.old.trace pass.new.trace op key) }
-    ensures lost { IfErr result (FindsAnother pass.old.trace pass.new.trace pred.now) }
+    ensures lost { IfErr result (λ why. FindsAnother pass.old.trace pass.new.trace
+        (said slots.now pred.now) (said_rollback slots.now why)) }
 {
     pass.during(
         |stepper|
             requires own { IsOf stepper.old.trace slots.now }
-            requires gap { IsAbsent stepper.old.trace.start (knows stepper.old.trace) key pred.now }
+            requires gap { IsAbsent stepper.old.trace.start (knows stepper.old.trace) key
+                (said slots.now pred.now) }
             requires op { IsOtherIn stepper.old.trace.start Insert op }
         {
             (
@@ -117,17 +127,18 @@ pub fn confirm_look_up<N: Nodes>(
     present: bool,
 ) -> Result<(), Rollback>
     requires own { IsOf pass.old.trace slots.now }
-    requires held { IsUnmarked (knows pass.old.trace) held.now }
-    requires decides { TellsKey pass.old.trace key held.now present }
+    requires held { IsUnmarked (knows pass.old.trace) (said slots.now held.now) }
+    requires decides { TellsKey pass.old.trace key (said slots.now held.now) present }
     ensures keeps { KeepsByLoad pass.old pass.new }
     ensures answers { OnOk result (AnswersLookUp pass.old.trace pass.new.trace key present) }
-    ensures lost { IfErr result (FindsAnother pass.old.trace pass.new.trace held.now) }
+    ensures lost { IfErr result (λ why. FindsAnother pass.old.trace pass.new.trace
+        (said slots.now held.now) (said_rollback slots.now why)) }
 {
     pass.during(
         |stepper|
             requires own { IsOf stepper.old.trace slots.now }
-            requires held { IsUnmarked (knows stepper.old.trace) held.now }
-            requires decides { TellsKey stepper.old.trace key held.now present }
+            requires held { IsUnmarked (knows stepper.old.trace) (said slots.now held.now) }
+            requires decides { TellsKey stepper.old.trace key (said slots.now held.now) present }
         {
             (
                 vbr_at_table::confirm_look_up(&mut AtTable { slots, stepper }, key, held, present),

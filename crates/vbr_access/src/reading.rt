@@ -1,14 +1,14 @@
 //! Checkpoints and checked reads.
 ghost use Rattle.std.specs.Prelude.{◌≡◌, ◌<◌, true, IfOk, IfErr};
 ghost use Rattle.vbr_slots.specs.Views.{IsOf, knows};
-ghost use Rattle.vbr_at_table.specs.Held.{IsSlot, IsHeld};
+ghost use Rattle.vbr_at_table.specs.Held.{IsHeld, IsSlot, said, said_if, said_in};
 ghost use Rattle.vbr_at_table.specs.Reading.{IsCheckpoint, IsHeadRead, IsKeyRead, IsNextRead};
 ghost use Rattle.vbr_at_table.specs.Reading.{ReadsIn, RollsBack, steps_to_next};
 ghost use Rattle.vbr_at_table.specs.Values.{IsValueRead};
 
 use vbr_at_table::{Checkpoint, Held, Rollback};
 use vbr_slots::{AtTable, Pass, Slots};
-use vbr_words::{Nodes, decode};
+use vbr_words::{Layout, Nodes, decode};
 
 /// As [`vbr_at_table::checkpoint`], by a pass, whose steps are counted.
 #[inline]
@@ -36,7 +36,8 @@ pub fn first<N: Nodes>(
     requires point { point.now.epoch ≡ (knows pass.old.trace).epoch }
     requires bucket { bucket < slots.now.start.shape.buckets }
     ensures reads { ReadsIn pass.old pass.new 2 }
-    ensures head { IfOk result (IsHeadRead pass.old pass.new bucket) }
+    ensures head { IfOk result (λ head.
+        IsHeadRead pass.old pass.new bucket (said slots.now head)) }
     ensures moved { IfErr result (RollsBack pass.old pass.new) }
 {
     pass.during(
@@ -61,16 +62,17 @@ pub fn next<N: Nodes>(
     held: &Held,
 ) -> Result<Option<Held>, Rollback>
     requires own { IsOf pass.old.trace slots.now }
-    requires held { IsHeld (knows pass.old.trace) held.now }
-    ensures reads { ReadsIn pass.old pass.new (steps_to_next held.now) }
-    ensures next { IfOk result (IsNextRead pass.old pass.new held.now) }
+    requires held { IsHeld (knows pass.old.trace) (said slots.now held.now) }
+    ensures reads { ReadsIn pass.old pass.new (steps_to_next (said slots.now held.now)) }
+    ensures next { IfOk result (λ found. IsNextRead pass.old pass.new (said slots.now held.now)
+        (said_if slots.now found)) }
     ensures moved { IfErr result (RollsBack pass.old pass.new) }
 {
-    let used = steps_to_read_next(held);
+    let used = steps_to_read_next(held, slots.layout());
     pass.during(
         |stepper|
             requires own { IsOf stepper.old.trace slots.now }
-            requires held { IsHeld (knows stepper.old.trace) held.now }
+            requires held { IsHeld (knows stepper.old.trace) (said slots.now held.now) }
         {
             (
                 vbr_at_table::next(&mut AtTable { slots, stepper }, held),
@@ -84,7 +86,7 @@ pub fn next<N: Nodes>(
 #[inline]
 pub fn key_of<N: Nodes>(slots: &Slots<N>, pass: &mut Pass, node: &Held) -> Result<u64, Rollback>
     requires own { IsOf pass.old.trace slots.now }
-    requires held { IsHeld (knows pass.old.trace) node.now }
+    requires held { IsHeld (knows pass.old.trace) (said slots.now node.now) }
     requires slot { IsSlot node.now.at }
     ensures reads { ReadsIn pass.old pass.new 2 }
     ensures key { IfOk result (IsKeyRead pass.old pass.new node.now.at) }
@@ -93,7 +95,7 @@ pub fn key_of<N: Nodes>(slots: &Slots<N>, pass: &mut Pass, node: &Held) -> Resul
     pass.during(
         |stepper|
             requires own { IsOf stepper.old.trace slots.now }
-            requires held { IsHeld (knows stepper.old.trace) node.now }
+            requires held { IsHeld (knows stepper.old.trace) (said slots.now node.now) }
             requires slot { IsSlot node.now.at }
         {
             (
@@ -109,7 +111,7 @@ pub fn key_of<N: Nodes>(slots: &Slots<N>, pass: &mut Pass, node: &Held) -> Resul
 pub fn value_of<N: Nodes>(slots: &Slots<N>, pass: &mut Pass, node: &Held) -> Result<u64, Rollback>
     requires own { IsOf pass.old.trace slots.now }
     requires values { slots.now.start.shape.values ≡ true }
-    requires held { IsHeld (knows pass.old.trace) node.now }
+    requires held { IsHeld (knows pass.old.trace) (said slots.now node.now) }
     requires slot { IsSlot node.now.at }
     ensures reads { ReadsIn pass.old pass.new 2 }
     ensures value { IfOk result (IsValueRead pass.old pass.new node.now.at) }
@@ -119,7 +121,7 @@ pub fn value_of<N: Nodes>(slots: &Slots<N>, pass: &mut Pass, node: &Held) -> Res
         |stepper|
             requires own { IsOf stepper.old.trace slots.now }
             requires values { slots.now.start.shape.values ≡ true }
-            requires held { IsHeld (knows stepper.old.trace) node.now }
+            requires held { IsHeld (knows stepper.old.trace) (said slots.now node.now) }
             requires slot { IsSlot node.now.at }
         {
             (
@@ -132,10 +134,10 @@ pub fn value_of<N: Nodes>(slots: &Slots<N>, pass: &mut Pass, node: &Held) -> Res
 
 // How many steps it takes to read what the link that is held names.
 #[inline]
-fn steps_to_read_next(held: &Held) -> u32
-    ensures { result ≡ steps_to_next held.now }
+fn steps_to_read_next(held: &Held, layout: Layout) -> u32
+    ensures { result ≡ steps_to_next (said_in layout held.now) }
 {
-    if decode(held.word).slot.is_some() {
+    if decode(held.word, layout).slot.is_some() {
         3
     } else {
         0

@@ -2,7 +2,7 @@
 ghost use Rattle.std.specs.Prelude.{IfOk, IfErr};
 ghost use Rattle.vbr_slots.specs.Views.{IsOf, knows};
 ghost use Rattle.vbr_at_table.specs.Exchanges.{StaysIn, UnlinksNode, UnlinksNone, IsUnmarked};
-ghost use Rattle.vbr_at_table.specs.Held.{HoldsMarked, Names};
+ghost use Rattle.vbr_at_table.specs.Held.{HoldsMarked, Names, said, said_marked, said_rollback};
 ghost use Rattle.vbr_at_table.specs.StepCosts.{steps_to_unlink};
 
 use vbr_at_table::{Held, Marked, Rollback, Unlinked};
@@ -18,22 +18,25 @@ pub fn unlink<N: Nodes>(
     marked: Marked,
 ) -> Result<(Unlinked, Held), Rollback>
     requires own { IsOf pass.old.trace slots.now }
-    requires pred { IsUnmarked (knows pass.old.trace) pred.now }
-    requires marked { HoldsMarked (knows pass.old.trace) marked }
-    requires names { Names pred.now marked.slot }
-    ensures stays { StaysIn pass.old pass.new (steps_to_unlink marked.word result) }
-    ensures unlinked { IfOk result (UnlinksNode pass.old pass.new pred.now marked) }
-    ensures failed { IfErr result (UnlinksNone pass.old pass.new pred.now) }
+    requires pred { IsUnmarked (knows pass.old.trace) (said slots.now pred.now) }
+    requires marked { HoldsMarked (knows pass.old.trace) (said_marked slots.now marked) }
+    requires names { Names (said slots.now pred.now) marked.slot }
+    ensures stays { StaysIn pass.old pass.new
+        (steps_to_unlink (said_marked slots.now marked).word result) }
+    ensures unlinked { IfOk result (λ told. UnlinksNode pass.old pass.new (said slots.now pred.now)
+        (said_marked slots.now marked) (told.0, said slots.now told.1)) }
+    ensures failed { IfErr result (λ why. UnlinksNone pass.old pass.new (said slots.now pred.now)
+        (said_rollback slots.now why)) }
 {
     pass.during(
         |stepper|
             requires own { IsOf stepper.old.trace slots.now }
-            requires pred { IsUnmarked (knows stepper.old.trace) pred.now }
-            requires marked { HoldsMarked (knows stepper.old.trace) marked }
-            requires names { Names pred.now marked.slot }
+            requires pred { IsUnmarked (knows stepper.old.trace) (said slots.now pred.now) }
+            requires marked { HoldsMarked (knows stepper.old.trace) (said_marked slots.now marked) }
+            requires names { Names (said slots.now pred.now) marked.slot }
         {
             let outcome = vbr_at_table::unlink(&mut AtTable { slots, stepper }, pred, marked);
-            let used = vbr_at_table::steps_to_unlink(marked.word, &outcome);
+            let used = vbr_at_table::steps_to_unlink(marked.word, slots.layout(), &outcome);
             (outcome, used)
         },
     )

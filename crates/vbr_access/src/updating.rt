@@ -5,7 +5,7 @@ ghost use Rattle.vbr_slots.specs.AtTables.{IsSameTable, pass_of, trace_of};
 ghost use Rattle.vbr_slots.specs.Views.{IsOf, knows};
 ghost use Rattle.vbr_at_table.specs.Hands.{IsHandOf};
 ghost use Rattle.vbr_at_table.specs.Exchanges.{StoresIn, IsGap, GivesBack, InsertsKey};
-ghost use Rattle.vbr_at_table.specs.Held.{IsSucc};
+ghost use Rattle.vbr_at_table.specs.Held.{IsSucc, said, said_rollback, said_succ};
 ghost use Rattle.vbr_at_table.specs.Values.{LinksEntry, steps_to_update};
 
 use vbr_at_table::{Hand, Held, Rollback};
@@ -23,12 +23,14 @@ pub fn update(
     hand: Hand,
 ) -> Result<(), (Hand, Rollback)>
     requires own { IsOf pass.old.trace slots.now }
-    requires gap { IsGap pass.old.trace key pred.now }
-    requires succ { IsSucc (knows pass.old.trace) pred.now succ }
+    requires gap { IsGap pass.old.trace key (said slots.now pred.now) }
+    requires succ { IsSucc (knows pass.old.trace) (said slots.now pred.now)
+        (said_succ slots.now succ) }
     requires hand { IsHandOf pass.old hand }
     ensures stores { StoresIn pass.old pass.new 3 }
     ensures inserted { IfOk result (λ _. InsertsKey pass.old pass.new key) }
-    ensures lost { IfErr result (GivesBack pass.old pass.new pred.now hand) }
+    ensures lost { IfErr result (λ back. GivesBack pass.old pass.new (said slots.now pred.now) hand
+        (back.0, said_rollback slots.now back.1)) }
 {
     slots.kind();
     update_entry(slots, pass, pred, succ, key, 0, hand)
@@ -47,25 +49,30 @@ pub fn update_entry<N: Nodes>(
     hand: Hand,
 ) -> Result<(), (Hand, Rollback)>
     requires own { IsOf pass.old.trace slots.now }
-    requires gap { IsGap pass.old.trace key pred.now }
-    requires succ { IsSucc (knows pass.old.trace) pred.now succ }
+    requires gap { IsGap pass.old.trace key (said slots.now pred.now) }
+    requires succ { IsSucc (knows pass.old.trace) (said slots.now pred.now)
+        (said_succ slots.now succ) }
     requires hand { IsHandOf pass.old hand }
     ensures stores { StoresIn pass.old pass.new (steps_to_update pass.old.trace.start) }
     ensures inserted { IfOk result (λ _. LinksEntry pass.old pass.new key value) }
-    ensures lost { IfErr result (GivesBack pass.old pass.new pred.now hand) }
+    ensures lost { IfErr result (λ back. GivesBack pass.old pass.new (said slots.now pred.now) hand
+        (back.0, said_rollback slots.now back.1)) }
 {
     pass.during_with(
         (hand, succ),
         |stepper, (hand, succ)|
             requires own { IsOf stepper.old.trace slots.now }
-            requires gap { IsGap stepper.old.trace key pred.now }
-            requires succ { IsSucc (knows stepper.old.trace) pred.now succ }
+            requires gap { IsGap stepper.old.trace key (said slots.now pred.now) }
+            requires succ { IsSucc (knows stepper.old.trace) (said slots.now pred.now)
+                (said_succ slots.now succ) }
             requires hand { IsHandOf stepper.old hand }
             ensures took { Took stepper.old.trace stepper.new.trace result.1 }
             ensures stores { StoresIn stepper.old stepper.new
                 (steps_to_update stepper.old.trace.start) }
             ensures inserted { IfOk result.0 (λ _. LinksEntry stepper.old stepper.new key value) }
-            ensures lost { IfErr result.0 (GivesBack stepper.old stepper.new pred.entry.now hand) }
+            ensures lost { IfErr result.0 (λ back. GivesBack stepper.old stepper.new
+                (said slots.entry.now pred.entry.now) hand
+                (back.0, said_rollback slots.entry.now back.1)) }
         { update_by(slots, stepper, pred, succ, key, value, hand) },
     )
 }
@@ -82,13 +89,15 @@ fn update_by<N: Nodes>(
     hand: Hand,
 ) -> (Result<(), (Hand, Rollback)>, u32)
     requires own { IsOf stepper.old.trace slots.now }
-    requires gap { IsGap stepper.old.trace key pred.now }
-    requires succ { IsSucc (knows stepper.old.trace) pred.now succ }
+    requires gap { IsGap stepper.old.trace key (said slots.now pred.now) }
+    requires succ { IsSucc (knows stepper.old.trace) (said slots.now pred.now)
+        (said_succ slots.now succ) }
     requires hand { IsHandOf stepper.old hand }
     ensures took { Took stepper.old.trace stepper.new.trace result.1 }
     ensures stores { StoresIn stepper.old stepper.new (steps_to_update stepper.old.trace.start) }
     ensures inserted { IfOk result.0 (λ _. LinksEntry stepper.old stepper.new key value) }
-    ensures lost { IfErr result.0 (GivesBack stepper.old stepper.new pred.now hand) }
+    ensures lost { IfErr result.0 (λ back. GivesBack stepper.old stepper.new
+        (said slots.now pred.now) hand (back.0, said_rollback slots.now back.1)) }
 {
     update_counted(
         &mut AtTable { slots, stepper },
@@ -110,8 +119,9 @@ fn update_counted<N: Nodes>(
     value: u64,
     hand: Hand,
 ) -> (Result<(), (Hand, Rollback)>, u32)
-    requires gap { IsGap (trace_of at.old) key pred.now }
-    requires succ { IsSucc (knows (trace_of at.old)) pred.now succ }
+    requires gap { IsGap (trace_of at.old) key (said at.old.slots.now pred.now) }
+    requires succ { IsSucc (knows (trace_of at.old)) (said at.old.slots.now pred.now)
+        (said_succ at.old.slots.now succ) }
     requires hand { IsHandOf (pass_of at.old) hand }
     ensures table { IsSameTable at.old at.new }
     ensures took { Took (trace_of at.old) (trace_of at.new) result.1 }
@@ -119,7 +129,8 @@ fn update_counted<N: Nodes>(
         (steps_to_update (trace_of at.old).start) }
     ensures inserted { IfOk result.0
         (λ _. LinksEntry (pass_of at.old) (pass_of at.new) key value) }
-    ensures lost { IfErr result.0 (GivesBack (pass_of at.old) (pass_of at.new) pred.now hand) }
+    ensures lost { IfErr result.0 (λ back. GivesBack (pass_of at.old) (pass_of at.new)
+        (said at.old.slots.now pred.now) hand (back.0, said_rollback at.old.slots.now back.1)) }
 {
     let used = steps_to_link(at);
     (vbr_at_table::update(at, pred, succ, key, value, hand), used)

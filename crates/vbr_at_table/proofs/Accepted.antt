@@ -1,5 +1,5 @@
 -- What the machine accepts of a pass, by what it holds.
-use Rattle.std.proofs.Common.{◌≡◌, ◌≢◌, ℕ, ◌<◌, true, false, subst}
+use Rattle.std.proofs.Common.{◌≡◌, ◌≢◌, ℕ, ◌<◌, Option, Some, None, refl, true, false, subst}
 use Rattle.std.specs.Prelude.{IsTrue}
 use Rattle.vbr_machine.specs.Start.{Start}
 use Rattle.vbr_words.specs.Words.{link_of}
@@ -7,7 +7,7 @@ use Rattle.vbr_words.specs.declared.link.Link.{Link}
 use Rattle.vbr_words.specs.declared.place.At.{At}
 use Rattle.vbr_words.specs.declared.place.At.TheVariants.{Slot}
 use Rattle.vbr_machine.specs.Knowledge.{Know, holds}
-use Rattle.vbr_machine.specs.Acceptance.{IsAtIn, HasChecked, IsInRange, Accepts}
+use Rattle.vbr_machine.specs.Acceptance.{IsNextIn, IsAtIn, HasChecked, IsInRange, Accepts}
 use Rattle.vbr_machine.specs.Learning.{link_written}
 use Rattle.vbr_machine.specs.Membership.{Knows, IsHeldSlot, IsHeldPlace, KeyAt, StandsBehind, StandsBeforeOn}
 use Rattle.vbr_machine.specs.Membership.{IsUnlinkLink}
@@ -65,6 +65,13 @@ module _ (p : PassView) (sound : PassLaw p) where
       s < t.start.shape.slots
   named_in held s own h names =
       subst (λ (start : Start). s < start.shape.slots) own.1 (slot_in s (named_slot held s h names))
+
+  pub next_in : (held : Held) → IsHeld (knows p.trace) held → IsNextIn p.trace.start (link_of held.word).slot
+  next_in held h = go (link_of held.word).slot (λ s names. slot_in s (named_slot held s h names))
+    where
+      go : (next : Option ℕ) → ((s : ℕ) → next ≡ Some s → s < p.trace.start.shape.slots) → IsNextIn p.trace.start next
+      go None low = tt
+      go (Some s) low = low s refl
 
   pub named_found : (held : Held) (s : ℕ) → IsHeld (knows p.trace) held → Names held s →
       IsTrue (holds (knows p.trace).checked s)

@@ -24,13 +24,13 @@ use Rattle.vbr_machine.proofs.Lemmas.{is_run_before, is_run_last, mark_out, othe
 use Rattle.vbr_slots.specs.Alone.{IsFresh, nodes}
 use Rattle.vbr_slots.specs.Calls.{Made, Quiet}
 use Rattle.vbr_slots.specs.PassLaw.{PassLaw}
-use Rattle.vbr_slots.specs.Views.{Did, KeepsPool, PassView, Trace, knows, event_of}
+use Rattle.vbr_slots.specs.Views.{Did, KeepsPool, PassView, Trace, knows, event_of, TableView}
 use Rattle.vbr_slots.proofs.Lemmas.{adds_on, alone_first, alone_then, did_run, did_same, did_seen, made_on, quiet_on}
 use Rattle.vbr_at_table.specs.Hands.{UnlinkedView}
 use Rattle.vbr_at_table.proofs.Advancing.{none_on}
 use Rattle.vbr_at_table.specs.Values.{LinksEntry, MarksEntry, ValueAt, entry_call}
 use Rattle.vbr_at_table.specs.Exchanges.{IsUnmarked, LosesExchange, UnlinksNode, UnlinksNone}
-use Rattle.vbr_at_table.specs.Held.{IsHeld, HoldsMarked, Names}
+use Rattle.vbr_at_table.specs.Held.{IsHeld, HoldsMarked, Names, said, said_rollback}
 use Rattle.vbr_at_table.specs.KeptKnowledge.{Keeps}
 use Rattle.vbr_at_table.specs.Reading.{IsBirthRead, ReadsIn}
 use Rattle.vbr_at_table.specs.Rollbacks.{FreshIfMoved, IsMovedOrLost}
@@ -175,13 +175,15 @@ fresh_any q fresh (EpochMoved now) = fresh
 fresh_any q fresh (LostExchange found) = tt
 
 -- the birth wasn't read: nothing was unlinked
-pub none_unlinked : {A : Type 0} {p q : PassView} {n : ℕ} (pred : Held) (answer : Result A Rollback) → ReadsIn p q n →
-    IfErr answer (IsMovedOrLost p.trace q.trace pred) → IsFresh q.trace → IfErr answer (UnlinksNone p q pred)
-none_unlinked pred (Ok told) reads rolled new = tt
-none_unlinked {q = q} pred (Err r) reads rolled new =
+pub none_unlinked : {A : Type 0} {p q : PassView} {n : ℕ} (t : TableView) (pred : Held) (answer : Result A Rollback) →
+    ReadsIn p q n → IfErr answer (λ why. IsMovedOrLost p.trace q.trace (said t pred) (said_rollback t why)) → IsFresh
+    q.trace →
+    IfErr answer (λ why. UnlinksNone p q (said t pred) (said_rollback t why))
+none_unlinked t pred (Ok told) reads rolled new = tt
+none_unlinked {q = q} t pred (Err r) reads rolled new =
     record {
       takes_no_slot = reads.takes_no_slot;
       rolled = rolled;
-      fresh = fresh_any q.trace new r;
+      fresh = fresh_any q.trace new (said_rollback t r);
       adds_none = reads.adds_none;
     }

@@ -1,6 +1,7 @@
 -- A slot in hand whose key and link are stored, and its publication.
 use Rattle.std.proofs.Common.{◌≡◌, ℕ, ◌<◌, Bool, true, false, Option, Some, None, refl, sym, ap, ◌∙◌, subst, arith}
 use Rattle.std.specs.Prelude.{unwrap_or}
+use Rattle.vbr_words.specs.Packing.{IsPackable, slot_bits}
 use Rattle.vbr_words.specs.Words.{IsLink, link_of, word_of}
 use Rattle.vbr_words.specs.declared.link.Link.{Link}
 use Rattle.vbr_machine.specs.Start.{Start}
@@ -9,7 +10,7 @@ use Rattle.vbr_machine.specs.Knowledge.{Know}
 use Rattle.vbr_machine.specs.Learning.{with_key, with_link, with_value, with_own, link_written, birth_in_hand}
 use Rattle.vbr_machine.specs.Learning.{key_in_hand, value_in_hand}
 use Rattle.vbr_machine.specs.Opened.{payload_kept}
-use Rattle.vbr_machine.specs.Links.{link_to}
+use Rattle.vbr_machine.specs.Links.{link_to, marked}
 use Rattle.vbr_machine.specs.Membership.{IsHeldSlot, IsNextKnown, BirthNamed, StandsBehind, StandsBefore}
 use Rattle.vbr_machine.specs.Membership.{MayPublishKnown}
 use Rattle.vbr_machine.specs.declared.event.Step.TheVariants.{StoreKey, StoreValue, StoreLink, Publish}
@@ -32,7 +33,7 @@ use Rattle.vbr_at_table.proofs.Accepted.{place_in, slot_in, named_slot}
 use Rattle.vbr_at_table.specs.Values.{FillsEntry, PutsValue, entry_call, with_kept_value}
 use Rattle.vbr_at_table.proofs.KeptKnowledge.{birth_named_kept, held_kept, keeps_on}
 use Rattle.vbr_at_table.proofs.NoValues.{kept_same, value_asked}
-use Rattle.vbr_at_table.proofs.WrittenLinks.{birth_at_low, birth_in_hand_low, fits}
+use Rattle.vbr_at_table.proofs.WrittenLinks.{has_room, marked_has_room, birth_at_low, birth_in_hand_low, fits}
 
 -- ---- what is in hand
 
@@ -262,6 +263,22 @@ module _ {p q : PassView} {pred : Held} {hand : HandView} {key value birth s : �
       let low = there.0 in
       let most = law.start.shape.slots in
       fits q law (Some s) pred.birth own (omega (arith, low, most)) (birth_at_low q law pred.at pred.birth held.birth)
+      (birth_in_hand_low q law s own (there.2 ∙ sym own_is))
+
+  -- and has room
+  pub room_there : {own : ℕ} → PassLaw q → p.hand ≡ Some hand.slot → IsHeld (knows q.trace) pred → own ≡ hand.birth →
+      IsPackable (slot_bits q.trace.start.shape.slots) (word_of (link_to (Some s) pred.birth own))
+  room_there {own} law in_hand held own_is =
+      let there = in_hand_there law in_hand in
+      has_room q law (Some s) pred.birth own there.0 (birth_at_low q law pred.at pred.birth held.birth)
+      (birth_in_hand_low q law s own (there.2 ∙ sym own_is))
+
+  pub marked_room_there : {own : ℕ} → PassLaw q → p.hand ≡ Some hand.slot → IsHeld (knows q.trace) pred → own ≡
+      hand.birth →
+      IsPackable (slot_bits q.trace.start.shape.slots) (word_of (marked (link_to (Some s) pred.birth own)))
+  marked_room_there {own} law in_hand held own_is =
+      let there = in_hand_there law in_hand in
+      marked_has_room q law (Some s) pred.birth own there.0 (birth_at_low q law pred.at pred.birth held.birth)
       (birth_in_hand_low q law s own (there.2 ∙ sym own_is))
 
 -- ---- the publication

@@ -1,5 +1,6 @@
 mod Epochs
 mod PoolLists
+mod SaidWords
 mod Shown
 mod AloneRetirement
 mod Unchanged

@@ -1,9 +1,12 @@
 -- An unlinking behind a held place of a marked node that the place's link names.
-use Rattle.std.proofs.Common.{◌≡◌, ℕ, false, refl, sym, ◌∙◌}
-use Rattle.vbr_words.specs.Words.{IsLink, link_of}
+use Rattle.std.proofs.Common.{◌≡◌, ◌<◌, ℕ, false, refl, sym, ◌∙◌, subst}
+use Rattle.std.specs.Prelude.{IfSome}
+use Rattle.vbr_words.specs.declared.link.TheConstants.{MAX_SLOTS}
+use Rattle.vbr_words.specs.Words.{IsLink, link_of, word_of}
+use Rattle.vbr_words.specs.Packing.{IsPackable, slot_bits}
 use Rattle.vbr_words.specs.declared.link.Link.{Link}
 use Rattle.vbr_words.specs.declared.place.At.{At}
-use Rattle.vbr_machine.specs.Acceptance.{Accepts}
+use Rattle.vbr_machine.specs.Acceptance.{Accepts, IsNextIn}
 use Rattle.vbr_machine.specs.Links.{link_to}
 use Rattle.vbr_machine.specs.Learning.{link_written}
 use Rattle.vbr_machine.specs.Membership.{BirthNamed, IsUnlinkLink}
@@ -11,17 +14,17 @@ use Rattle.vbr_machine.specs.declared.event.Step.TheVariants.{Unlink}
 use Rattle.vbr_slots.specs.Calls.{Quiet}
 use Rattle.vbr_slots.specs.Views.{Trace, PassView, Did, knows}
 use Rattle.vbr_slots.proofs.Lemmas.{did_quiet}
-use Rattle.vbr_at_table.specs.Held.{IsHeld, HoldsMarked, Names}
+use Rattle.vbr_at_table.specs.Held.{IsHeld, HoldsMarked, Names, held_of}
 use Rattle.vbr_at_table.specs.Moments.{IsRead}
 use Rattle.vbr_slots.specs.PassLaw.{PassLaw}
 use Rattle.vbr_at_table.specs.declared.held.Held.{Held}
 use Rattle.vbr_at_table.specs.declared.held.Marked.{Marked}
-use Rattle.vbr_at_table.proofs.Accepted.{place_held, unlink_accepted, unlink_writes}
+use Rattle.vbr_at_table.proofs.Accepted.{next_in, place_held, unlink_accepted, unlink_writes}
 use Rattle.vbr_at_table.proofs.KeptKnowledge.{place_kept, birth_kept}
 use Rattle.vbr_at_table.proofs.Moments.{stood_after}
 use Rattle.vbr_at_table.proofs.UnlinkedLinks.{stood_at_end}
 use Rattle.vbr_at_table.proofs.WonExchanges.{unlink_keeps, unlink_known}
-use Rattle.vbr_at_table.proofs.WrittenLinks.{unlink_link, fits, birth_at_low, birth_named_low}
+use Rattle.vbr_at_table.proofs.WrittenLinks.{has_room, unlink_link, fits, birth_at_low, birth_named_low}
 
 pub unlink_quiet : {p q : Trace} {pred : At} {expected s r : ℕ} → Did (Unlink pred expected s) p q r → Quiet p q
 unlink_quiet d = did_quiet d (λ know. refl)
@@ -40,9 +43,16 @@ module _ (p : PassView) (sound : PassLaw p) (pred : Held) (marked : Marked) (lin
   pub written : link_written (knows p.trace) (Unlink pred.at pred.word marked.slot) ≡ link_to link.slot pred.birth birth
   written = unlink_writes p sound pred marked.slot (link_to link.slot pred.birth birth) writes
 
-  pub written_fits : IsLink link → IsLink (link_to link.slot pred.birth birth)
+  pub written_fits : IfSome link.slot (λ (s : ℕ). s < MAX_SLOTS) → IsLink (link_to link.slot pred.birth birth)
   written_fits i =
-      fits p sound link.slot pred.birth birth i.slot (birth_at_low p sound pred.at pred.birth h.birth)
+      fits p sound link.slot pred.birth birth i (birth_at_low p sound pred.at pred.birth h.birth)
+      (birth_named_low p sound (link_of marked.word).slot birth k)
+
+  pub written_has_room : IsPackable (slot_bits p.trace.start.shape.slots) (word_of (link_to link.slot pred.birth birth))
+  written_has_room =
+      has_room p sound link.slot pred.birth birth
+      (subst (λ (l : Link). IsNextIn p.trace.start l.slot) (sym is) (next_in p sound (held_of marked) m.held))
+      (birth_at_low p sound pred.at pred.birth h.birth)
       (birth_named_low p sound (link_of marked.word).slot birth k)
 
   -- the place with its new link was read

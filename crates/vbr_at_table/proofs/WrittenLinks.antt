@@ -1,12 +1,16 @@
 -- The links that are written: they fit into a word, and they are those that the machine writes.
 use Rattle.std.proofs.Common.{◌≡◌, ℕ, ◌<◌, ◌≤◌, Option, Some, None, arith, ap}
 use Rattle.std.specs.Prelude.{IfSome}
-use Rattle.vbr_words.specs.Words.{IsLink, link_of}
+use Rattle.vbr_words.specs.Words.{IsLink, link_of, word_of}
+use Rattle.vbr_words.specs.Packing.{IsPackable, slot_bits}
 use Rattle.vbr_words.specs.declared.link.Link.{Link}
+use Rattle.vbr_words.proofs.Lemmas.{shape_has_room}
 use Rattle.vbr_words.specs.declared.link.TheConstants.{MAX_SLOTS}
 use Rattle.vbr_words.specs.declared.place.At.{At}
 use Rattle.vbr_words.specs.declared.place.At.TheVariants.{Head, Slot}
-use Rattle.vbr_machine.specs.Links.{link_to}
+use Rattle.vbr_machine.specs.Acceptance.{IsNextIn}
+use Rattle.vbr_machine.specs.Links.{link_to, marked}
+use Rattle.vbr_machine.specs.Start.{Start}
 use Rattle.vbr_machine.specs.Knowledge.{Know}
 use Rattle.vbr_machine.specs.Learning.{birth_in_hand}
 use Rattle.vbr_machine.specs.Membership.{BirthAt, BirthNamed, IsUnlinkLink}
@@ -16,6 +20,11 @@ use Rattle.vbr_slots.specs.PassLaw.{PassLaw}
 use Rattle.vbr_at_table.specs.declared.held.Held.{Held}
 use Rattle.vbr_at_table.specs.declared.held.Marked.{Marked}
 use Rattle.vbr_at_table.proofs.PlacesInShape.{birth_in, hand_in}
+
+-- what a link names is a slot of the shape, or none
+slot_in : (start : Start) (next : Option ℕ) → IsNextIn start next → IfSome next (λ s. s < start.shape.slots)
+slot_in start None low = low
+slot_in start (Some s) low = low
 
 module _ (p : PassView) (sound : PassLaw p) where
   -- known births are epochs of the shape
@@ -43,6 +52,21 @@ module _ (p : PassView) (sound : PassLaw p) where
       IsLink (link_to slot holder named)
   fits slot holder named low i j =
       record { slot = low; version = let high = sound.start.shape.last_epoch in omega (arith, high, i, j) }
+
+  -- and has room where the table keeps it
+  pub has_room : (slot : Option ℕ) (holder named : ℕ) → IsNextIn p.trace.start slot →
+      holder ≤ p.trace.start.shape.last_epoch → named ≤ p.trace.start.shape.last_epoch →
+      IsPackable (slot_bits p.trace.start.shape.slots) (word_of (link_to slot holder named))
+  has_room slot holder named low i j =
+      shape_has_room p.trace.start.shape sound.start.shape (link_to slot holder named)
+      (record { slot = slot_in p.trace.start slot low; version = omega (arith, i, j) })
+
+  pub marked_has_room : (slot : Option ℕ) (holder named : ℕ) → IsNextIn p.trace.start slot →
+      holder ≤ p.trace.start.shape.last_epoch → named ≤ p.trace.start.shape.last_epoch →
+      IsPackable (slot_bits p.trace.start.shape.slots) (word_of (marked (link_to slot holder named)))
+  marked_has_room slot holder named low i j =
+      shape_has_room p.trace.start.shape sound.start.shape (marked (link_to slot holder named))
+      (record { slot = slot_in p.trace.start slot low; version = omega (arith, i, j) })
 
 -- the link that an unlinking writes
 pub unlink_link : {know : Know} (pred : Held) (marked : Marked) (link : Link) (birth : ℕ) → IsHeld know pred →

@@ -13,6 +13,44 @@ use Rattle.vbr_machine.specs.declared.knowledge.Read.TheVariants.{LinkAt}
 use denote.Bor.{Bor}
 use Rattle.vbr_at_table.specs.declared.held.Held.{Held}
 use Rattle.vbr_at_table.specs.declared.held.Marked.{Marked}
+use Rattle.vbr_at_table.specs.declared.rollback.Rollback.{Rollback}
+use Rattle.vbr_at_table.specs.declared.rollback.Rollback.TheVariants.{EpochMoved, LostExchange}
+use Rattle.vbr_words.specs.Packing.{slot_bits, unpacked}
+use Rattle.vbr_slots.specs.Views.{TableView}
+
+-- ---- words as a table keeps them
+
+-- what is held, with the number of its link word in place of what the table keeps
+abbrev pub said_in : ℕ → Held → Held
+said_in bits held = record { at = held.at; birth = held.birth; word = unpacked bits held.word; epoch = held.epoch }
+
+abbrev pub said_marked_in : ℕ → Marked → Marked
+said_marked_in bits marked = record { slot = marked.slot; birth = marked.birth; word = unpacked bits marked.word; epoch = marked.epoch }
+
+-- why a pass rolled back, with the number of the word that an exchange found
+abbrev pub said_rollback_in : ℕ → Rollback → Rollback
+said_rollback_in bits (EpochMoved now) = EpochMoved now
+said_rollback_in bits (LostExchange found) = LostExchange (unpacked bits found)
+
+-- so it is at a table
+abbrev pub said : TableView → Held → Held
+said table held = said_in (slot_bits table.start.shape.slots) held
+
+abbrev pub said_marked : TableView → Marked → Marked
+said_marked table marked = said_marked_in (slot_bits table.start.shape.slots) marked
+
+abbrev pub said_if : TableView → Option Held → Option Held
+said_if table None = None
+said_if table (Some held) = Some (said table held)
+
+abbrev pub said_succ : TableView → Option (Bor Held) → Option (Bor Held)
+said_succ table None = None
+said_succ table (Some node) = Some (record node { now = said table node.now })
+
+abbrev pub said_rollback : TableView → Rollback → Rollback
+said_rollback table rollback = said_rollback_in (slot_bits table.start.shape.slots) rollback
+
+-- ---- what a pass knows of it
 
 -- its epoch is the pass's, and its link and its birth are known
 pub record IsHeld (know : Know) (held : Held) : Type 0 where

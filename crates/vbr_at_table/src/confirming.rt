@@ -7,6 +7,7 @@ ghost use Rattle.vbr_at_table.specs.Answering.{AnswersAbsent, AnswersLookUp};
 ghost use Rattle.vbr_at_table.specs.Answering.{FindsAnother, IsAbsent, IsPresent};
 ghost use Rattle.vbr_at_table.specs.Answering.{KeepsByLoad};
 ghost use Rattle.vbr_at_table.specs.Exchanges.{IsUnmarked};
+ghost use Rattle.vbr_at_table.specs.Held.{said, said_rollback};
 ghost use Rattle.vbr_at_table.specs.DecidedKeys.{TellsKey};
 ghost use Rattle.vbr_at_table.specs.Records.{ShowsEntry};
 ghost use Rattle.vbr_at_table.specs.Values.{AnswersEntry, IsAsked, IsOtherIn};
@@ -27,14 +28,18 @@ pub fn confirm_present<N: Nodes>(
     op: Op,
     held: &Held,
 ) -> Result<(), Rollback>
-    requires node { IsPresent (knows (trace_of at.old)) held.now }
+    requires node { IsPresent (knows (trace_of at.old)) (said at.old.slots.now held.now) }
     requires op { op ≢ Remove }
     requires asked { IsAsked (trace_of at.old) op held.now.at }
     ensures table { IsSameTable at.old at.new }
     ensures keeps { KeepsByLoad (pass_of at.old) (pass_of at.new) }
-    ensures answers { OnOk result (AnswersEntry (trace_of at.old) (trace_of at.new) op held.now) }
-    ensures there { OnOk result (ShowsEntry (trace_of at.old) (trace_of at.new) held.now) }
-    ensures lost { IfErr result (FindsAnother (trace_of at.old) (trace_of at.new) held.now) }
+    ensures answers { OnOk result (AnswersEntry (trace_of at.old) (trace_of at.new) op
+        (said at.old.slots.now held.now)) }
+    ensures there { OnOk result (ShowsEntry (trace_of at.old) (trace_of at.new)
+        (said at.old.slots.now held.now)) }
+    ensures lost { IfErr result (λ why.
+        FindsAnother (trace_of at.old) (trace_of at.new) (said at.old.slots.now held.now)
+        (said_rollback at.old.slots.now why)) }
 {
     at.law();
     let At::Slot(slot) = held.at else {
@@ -58,12 +63,15 @@ pub fn confirm_absent<N: Nodes>(
     key: u64,
     pred: &Held,
 ) -> Result<(), Rollback>
-    requires gap { IsAbsent (trace_of at.old).start (knows (trace_of at.old)) key pred.now }
+    requires gap { IsAbsent (trace_of at.old).start (knows (trace_of at.old)) key
+        (said at.old.slots.now pred.now) }
     requires op { IsOtherIn (trace_of at.old).start Insert op }
     ensures table { IsSameTable at.old at.new }
     ensures keeps { KeepsByLoad (pass_of at.old) (pass_of at.new) }
     ensures answers { OnOk result (AnswersAbsent (trace_of at.old) (trace_of at.new) op key) }
-    ensures lost { IfErr result (FindsAnother (trace_of at.old) (trace_of at.new) pred.now) }
+    ensures lost { IfErr result (λ why.
+        FindsAnother (trace_of at.old) (trace_of at.new) (said at.old.slots.now pred.now)
+        (said_rollback at.old.slots.now why)) }
 {
     at.law();
     match at.confirm_absent(op, key, pred.at, pred.word) {
@@ -84,12 +92,14 @@ pub fn confirm_look_up<N: Nodes>(
     held: &Held,
     present: bool,
 ) -> Result<(), Rollback>
-    requires held { IsUnmarked (knows (trace_of at.old)) held.now }
-    requires decides { TellsKey (trace_of at.old) key held.now present }
+    requires held { IsUnmarked (knows (trace_of at.old)) (said at.old.slots.now held.now) }
+    requires decides { TellsKey (trace_of at.old) key (said at.old.slots.now held.now) present }
     ensures table { IsSameTable at.old at.new }
     ensures keeps { KeepsByLoad (pass_of at.old) (pass_of at.new) }
     ensures answers { OnOk result (AnswersLookUp (trace_of at.old) (trace_of at.new) key present) }
-    ensures lost { IfErr result (FindsAnother (trace_of at.old) (trace_of at.new) held.now) }
+    ensures lost { IfErr result (λ why.
+        FindsAnother (trace_of at.old) (trace_of at.new) (said at.old.slots.now held.now)
+        (said_rollback at.old.slots.now why)) }
 {
     at.law();
     match at.confirm_look_up(present, key, held.at, held.word) {

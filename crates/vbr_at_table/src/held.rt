@@ -1,9 +1,9 @@
 //! What a caller holds between calls.
 ghost use Rattle.std.specs.Prelude.{◌≡◌, true, MatchOption};
 ghost use Rattle.vbr_words.specs.Words.{link_of};
-ghost use Rattle.vbr_at_table.specs.Held.{IsUnmarkedOrHead, held_of};
+ghost use Rattle.vbr_at_table.specs.Held.{IsUnmarkedOrHead, held_of, said_in, said_marked_in};
 
-use vbr_words::{At, decode};
+use vbr_words::{At, Layout, decode};
 
 /// A checkpoint: the epoch that a pass read, to which it rolls back.
 #[derive(Clone, Copy, Debug, PartialEq, Eq)]
@@ -42,13 +42,14 @@ pub struct Marked {
 impl Marked {
     /// What is held, if it is a marked node.
     #[inline]
-    pub fn of(held: &Held) -> Option<Marked>
+    pub fn of(held: &Held, layout: Layout) -> Option<Marked>
         ensures { MatchOption result
-            (IsUnmarkedOrHead held.now)
-            (λ marked. (held_of marked ≡ held.now) × ((link_of marked.word).mark ≡ true)) }
+            (IsUnmarkedOrHead (said_in layout held.now))
+            (λ marked. let told = said_marked_in layout marked in
+            (held_of told ≡ said_in layout held.now) × ((link_of told.word).mark ≡ true)) }
     {
         match held.at {
-            At::Slot(slot) if decode(held.word).mark => Some(Marked {
+            At::Slot(slot) if decode(held.word, layout).mark => Some(Marked {
                 slot,
                 birth: held.birth,
                 word: held.word,

@@ -4,6 +4,7 @@ ghost use Rattle.vbr_slots.specs.AtTables.{IsSameTable, trace_of, pass_of};
 ghost use Rattle.vbr_slots.specs.Views.{knows};
 ghost use Rattle.vbr_at_table.specs.Answering.{KeepsIn, IsPresent};
 ghost use Rattle.vbr_at_table.specs.Exchanges.{LosesExchange};
+ghost use Rattle.vbr_at_table.specs.Held.{said, said_marked, said_rollback};
 ghost use Rattle.vbr_at_table.specs.Records.{MarksHeld};
 ghost use Rattle.vbr_at_table.specs.Values.{IsValued, MarksEntry};
 
@@ -17,13 +18,18 @@ use vbr_words::{At, Nodes, with_mark};
 /// one that is held. Else it answers LostExchange: no call was made, and what the pass knew it knows.
 #[inline]
 pub fn mark<N: Nodes>(at: &mut AtTable<'_, N>, held: &Held) -> Result<Marked, Rollback>
-    requires node { IsPresent (knows (trace_of at.old)) held.now }
+    requires node { IsPresent (knows (trace_of at.old)) (said at.old.slots.now held.now) }
     requires valued { IsValued (trace_of at.old) held.now.at }
     ensures table { IsSameTable at.old at.new }
     ensures keeps { KeepsIn (pass_of at.old) (pass_of at.new) 1 }
-    ensures removed { IfOk result (MarksEntry (trace_of at.old) (trace_of at.new) held.now) }
-    ensures there { IfOk result (λ _. MarksHeld (trace_of at.old) (trace_of at.new) held.now) }
-    ensures lost { IfErr result (LosesExchange (trace_of at.old) (trace_of at.new) held.now) }
+    ensures removed { IfOk result (λ marked.
+        MarksEntry (trace_of at.old) (trace_of at.new) (said at.old.slots.now held.now)
+        (said_marked at.old.slots.now marked)) }
+    ensures there { IfOk result (λ _. MarksHeld (trace_of at.old) (trace_of at.new)
+        (said at.old.slots.now held.now)) }
+    ensures lost { IfErr result (λ why.
+        LosesExchange (trace_of at.old) (trace_of at.new) (said at.old.slots.now held.now)
+        (said_rollback at.old.slots.now why)) }
 {
     at.law();
     let At::Slot(slot) = held.at else {
@@ -33,7 +39,7 @@ pub fn mark<N: Nodes>(at: &mut AtTable<'_, N>, held: &Held) -> Result<Marked, Ro
         Ok(()) => Ok(Marked {
             slot,
             birth: held.birth,
-            word: with_mark(held.word),
+            word: with_mark(held.word, at.slots.layout()),
             epoch: held.epoch,
         }),
         Err(found) => Err(Rollback::LostExchange { found }),

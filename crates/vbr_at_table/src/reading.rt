@@ -3,7 +3,7 @@ ghost use Rattle.std.specs.Prelude.{◌≡◌, ◌<◌, true, IfOk, IfErr};
 ghost use Rattle.vbr_slots.specs.AtTables.{IsSameTable, pass_of, trace_of};
 ghost use Rattle.vbr_slots.specs.Views.{knows};
 ghost use Rattle.vbr_at_table.specs.StepCosts.{steps_to_birth};
-ghost use Rattle.vbr_at_table.specs.Held.{IsSlot, IsHeld};
+ghost use Rattle.vbr_at_table.specs.Held.{IsHeld, IsSlot, said, said_if};
 ghost use Rattle.vbr_at_table.specs.Moments.{ShowsBirth};
 ghost use Rattle.vbr_at_table.specs.Reading.{IsCheckpoint, IsHeadRead, IsKeyRead, IsNextRead};
 ghost use Rattle.vbr_at_table.specs.Reading.{BirthMoved, IsBirthRead, ReadsIn, RollsBack, steps_to_next};
@@ -54,7 +54,8 @@ pub fn first<N: Nodes>(
     requires bucket { bucket < at.old.slots.now.start.shape.buckets }
     ensures table { IsSameTable at.old at.new }
     ensures reads { ReadsIn (pass_of at.old) (pass_of at.new) 2 }
-    ensures head { IfOk result (IsHeadRead (pass_of at.old) (pass_of at.new) bucket) }
+    ensures head { IfOk result (λ head.
+        IsHeadRead (pass_of at.old) (pass_of at.new) bucket (said at.old.slots.now head)) }
     ensures moved { IfErr result (RollsBack (pass_of at.old) (pass_of at.new)) }
 {
     at.law();
@@ -77,14 +78,17 @@ pub fn first<N: Nodes>(
 /// EpochMoved is its one error, as of [`first`].
 #[inline]
 pub fn next<N: Nodes>(at: &mut AtTable<'_, N>, held: &Held) -> Result<Option<Held>, Rollback>
-    requires held { IsHeld (knows (trace_of at.old)) held.now }
+    requires held { IsHeld (knows (trace_of at.old)) (said at.old.slots.now held.now) }
     ensures table { IsSameTable at.old at.new }
-    ensures reads { ReadsIn (pass_of at.old) (pass_of at.new) (steps_to_next held.now) }
-    ensures next { IfOk result (IsNextRead (pass_of at.old) (pass_of at.new) held.now) }
+    ensures reads { ReadsIn (pass_of at.old) (pass_of at.new)
+        (steps_to_next (said at.old.slots.now held.now)) }
+    ensures next { IfOk result (λ found.
+        IsNextRead (pass_of at.old) (pass_of at.new) (said at.old.slots.now held.now)
+        (said_if at.old.slots.now found)) }
     ensures moved { IfErr result (RollsBack (pass_of at.old) (pass_of at.new)) }
 {
     at.law();
-    let Some(slot) = decode(held.word).slot else {
+    let Some(slot) = decode(held.word, at.slots.layout()).slot else {
         return Ok(None);
     };
     let before = at.epoch();
@@ -105,7 +109,7 @@ pub fn next<N: Nodes>(at: &mut AtTable<'_, N>, held: &Held) -> Result<Option<Hel
 /// EpochMoved is its one error, as of [`first`].
 #[inline]
 pub fn key_of<N: Nodes>(at: &mut AtTable<'_, N>, node: &Held) -> Result<u64, Rollback>
-    requires held { IsHeld (knows (trace_of at.old)) node.now }
+    requires held { IsHeld (knows (trace_of at.old)) (said at.old.slots.now node.now) }
     requires slot { IsSlot node.now.at }
     ensures table { IsSameTable at.old at.new }
     ensures reads { ReadsIn (pass_of at.old) (pass_of at.new) 2 }
@@ -130,7 +134,7 @@ pub fn key_of<N: Nodes>(at: &mut AtTable<'_, N>, node: &Held) -> Result<u64, Rol
 #[inline]
 pub fn value_of<N: Nodes>(at: &mut AtTable<'_, N>, node: &Held) -> Result<u64, Rollback>
     requires values { at.old.slots.now.start.shape.values ≡ true }
-    requires held { IsHeld (knows (trace_of at.old)) node.now }
+    requires held { IsHeld (knows (trace_of at.old)) (said at.old.slots.now node.now) }
     requires slot { IsSlot node.now.at }
     ensures table { IsSameTable at.old at.new }
     ensures reads { ReadsIn (pass_of at.old) (pass_of at.new) 2 }
@@ -153,14 +157,17 @@ pub fn value_of<N: Nodes>(at: &mut AtTable<'_, N>, node: &Held) -> Result<u64, R
 /// step. EpochMoved says that the epoch is another one than the one under which it is held.
 #[inline]
 pub fn birth_after<N: Nodes>(at: &mut AtTable<'_, N>, held: &Held) -> Result<u64, Rollback>
-    requires held { IsHeld (knows (trace_of at.old)) held.now }
+    requires held { IsHeld (knows (trace_of at.old)) (said at.old.slots.now held.now) }
     ensures table { IsSameTable at.old at.new }
-    ensures reads { ReadsIn (pass_of at.old) (pass_of at.new) (steps_to_birth held.now.word) }
-    ensures birth { IfOk result (IsBirthRead (pass_of at.old) (pass_of at.new) held.now.word) }
-    ensures moved { IfErr result (BirthMoved (pass_of at.old) (pass_of at.new) held.now.word) }
+    ensures reads { ReadsIn (pass_of at.old) (pass_of at.new)
+        (steps_to_birth (said at.old.slots.now held.now).word) }
+    ensures birth { IfOk result (IsBirthRead (pass_of at.old) (pass_of at.new)
+        (said at.old.slots.now held.now).word) }
+    ensures moved { IfErr result (BirthMoved (pass_of at.old) (pass_of at.new)
+        (said at.old.slots.now held.now).word) }
 {
     at.law();
-    let Some(slot) = decode(held.word).slot else {
+    let Some(slot) = decode(held.word, at.slots.layout()).slot else {
         return Ok(0);
     };
     let birth = at.load_birth(slot);

@@ -4,6 +4,7 @@ ghost use Rattle.vbr_slots.specs.AtTables.{IsSameTable, trace_of, pass_of};
 ghost use Rattle.vbr_slots.specs.Views.{knows};
 ghost use Rattle.vbr_at_table.specs.Exchanges.{StoresIn, GivesBack};
 ghost use Rattle.vbr_at_table.specs.Hands.{IsHandOf};
+ghost use Rattle.vbr_at_table.specs.Held.{said, said_marked, said_rollback};
 ghost use Rattle.vbr_at_table.specs.Records.{PublishesSlot};
 ghost use Rattle.vbr_at_table.specs.Replacing.{IsReplaceable, ReplacesHeld};
 ghost use Rattle.vbr_at_table.specs.Values.{steps_to_update};
@@ -31,16 +32,20 @@ pub fn replace<N: Nodes>(
     value: u64,
     hand: Hand,
 ) -> Result<Marked, (Hand, Rollback)>
-    requires node { IsReplaceable (trace_of at.old) held.now key next_birth }
+    requires node { IsReplaceable (trace_of at.old) (said at.old.slots.now held.now)
+        key next_birth }
     requires hand { IsHandOf (pass_of at.old) hand }
     ensures table { IsSameTable at.old at.new }
     ensures stores { StoresIn (pass_of at.old) (pass_of at.new)
         (steps_to_update (trace_of at.old).start) }
     ensures replaced { IfOk result
-        (ReplacesHeld (pass_of at.old) (pass_of at.new) held.now key value) }
+        (λ marked. ReplacesHeld (pass_of at.old) (pass_of at.new) (said at.old.slots.now held.now)
+        key value (said_marked at.old.slots.now marked)) }
     ensures published { IfOk result
         (λ _. PublishesSlot (trace_of at.old) (trace_of at.new) hand.slot hand.birth key) }
-    ensures lost { IfErr result (GivesBack (pass_of at.old) (pass_of at.new) held.now hand) }
+    ensures lost { IfErr result (λ back.
+        GivesBack (pass_of at.old) (pass_of at.new) (said at.old.slots.now held.now) hand
+        (back.0, said_rollback at.old.slots.now back.1)) }
 {
     let At::Slot(slot) = held.at else {
         unreachable!()
@@ -48,7 +53,7 @@ pub fn replace<N: Nodes>(
     fill(at, &hand, key, value, held, next_birth);
     at.law();
     let new = hand.slot();
-    let word = marked_link_to(new, held.birth, hand.birth());
+    let word = marked_link_to(new, held.birth, hand.birth(), at.slots.layout());
     match at.replace(slot, held.word, new, word) {
         Ok(()) => {
             hand.spent_by(at);

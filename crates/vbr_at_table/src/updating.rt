@@ -6,23 +6,25 @@ ghost use Rattle.vbr_slots.specs.AtTables.{IsSameTable, trace_of, pass_of};
 ghost use Rattle.vbr_slots.specs.Views.{knows};
 ghost use Rattle.vbr_at_table.specs.Hands.{IsHandOf};
 ghost use Rattle.vbr_at_table.specs.Exchanges.{StoresIn, IsGap, GivesBack};
-ghost use Rattle.vbr_at_table.specs.Held.{IsHeld, IsSucc};
+ghost use Rattle.vbr_at_table.specs.Held.{IsHeld, IsSucc, said, said_rollback, said_succ};
 ghost use Rattle.vbr_at_table.specs.Records.{PublishesSlot};
 ghost use Rattle.vbr_at_table.specs.Values.{FillsEntry, LinksEntry, PutsValue};
 ghost use Rattle.vbr_at_table.specs.Values.{steps_to_update, steps_to_value};
 
 use crate::hand::Hand;
 use crate::held::Held;
-use crate::links::link_to;
+use crate::links::{link_to, link_to_same};
 use crate::rollback::Rollback;
 use vbr_slots::AtTable;
-use vbr_words::{Nodes, decode};
+use vbr_words::Nodes;
 
 // The birth of the node that the link of `pred` names; 0 of none.
 #[inline]
 fn birth_named<N: Nodes>(at: &AtTable<'_, N>, pred: &Held, succ: Option<&Held>) -> u64
-    requires { IsSucc (knows (trace_of at.now)) pred.now succ }
-    ensures { BirthNamed (knows (trace_of at.now)) (link_of pred.now.word).slot result }
+    requires { IsSucc (knows (trace_of at.now)) (said at.now.slots.now pred.now)
+        (said_succ at.now.slots.now succ) }
+    ensures { BirthNamed (knows (trace_of at.now))
+        (link_of (said at.now.slots.now pred.now).word).slot result }
 {
     let _at = at;
     match succ {
@@ -59,19 +61,22 @@ pub(crate) fn fill<N: Nodes>(
     birth: u64,
 )
     requires hand { IsHandOf (pass_of at.old) hand.now }
-    requires pred { IsHeld (knows (trace_of at.old)) pred.now }
-    requires birth { BirthNamed (knows (trace_of at.old)) (link_of pred.now.word).slot birth }
+    requires pred { IsHeld (knows (trace_of at.old)) (said at.old.slots.now pred.now) }
+    requires birth { BirthNamed (knows (trace_of at.old))
+        (link_of (said at.old.slots.now pred.now).word).slot birth }
     ensures table { IsSameTable at.old at.new }
     ensures stores { StoresIn (pass_of at.old) (pass_of at.new)
         (1 + steps_to_value (trace_of at.old).start.shape.values + 1) }
-    ensures fills { FillsEntry (pass_of at.old) (pass_of at.new) pred.now hand.now key value birth }
+    ensures fills { FillsEntry (pass_of at.old) (pass_of at.new) (said at.old.slots.now pred.now)
+        hand.now key value birth }
 {
+    let layout = at.slots.layout();
     let slot = hand.slot();
     at.law();
     at.store_key(slot, key);
     put_value(at, slot, value);
     at.law();
-    let link = link_to(decode(pred.word).slot, hand.birth(), birth);
+    let link = link_to_same(pred.word, hand.birth(), birth, layout);
     at.store_link(slot, link);
 }
 
@@ -89,8 +94,9 @@ pub fn update<N: Nodes>(
     value: u64,
     hand: Hand,
 ) -> Result<(), (Hand, Rollback)>
-    requires gap { IsGap (trace_of at.old) key pred.now }
-    requires succ { IsSucc (knows (trace_of at.old)) pred.now succ }
+    requires gap { IsGap (trace_of at.old) key (said at.old.slots.now pred.now) }
+    requires succ { IsSucc (knows (trace_of at.old)) (said at.old.slots.now pred.now)
+        (said_succ at.old.slots.now succ) }
     requires hand { IsHandOf (pass_of at.old) hand }
     ensures table { IsSameTable at.old at.new }
     ensures stores { StoresIn (pass_of at.old) (pass_of at.new)
@@ -99,13 +105,15 @@ pub fn update<N: Nodes>(
         (λ _. LinksEntry (pass_of at.old) (pass_of at.new) key value) }
     ensures published { IfOk result
         (λ _. PublishesSlot (trace_of at.old) (trace_of at.new) hand.slot hand.birth key) }
-    ensures lost { IfErr result (GivesBack (pass_of at.old) (pass_of at.new) pred.now hand) }
+    ensures lost { IfErr result (λ back.
+        GivesBack (pass_of at.old) (pass_of at.new) (said at.old.slots.now pred.now) hand
+        (back.0, said_rollback at.old.slots.now back.1)) }
 {
     let birth = birth_named(at, pred, succ);
     fill(at, &hand, key, value, pred, birth);
     at.law();
     let slot = hand.slot();
-    let new = link_to(Some(slot), pred.birth, hand.birth());
+    let new = link_to(Some(slot), pred.birth, hand.birth(), at.slots.layout());
     match at.publish(pred.at, pred.word, slot, new) {
         Ok(()) => {
             hand.spent_by(at);

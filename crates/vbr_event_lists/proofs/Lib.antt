@@ -1,3 +1,4 @@
+mod RowLists
 mod WorkedRows
 mod StandingRows
 mod ValuedRows

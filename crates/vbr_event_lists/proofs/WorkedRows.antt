@@ -8,20 +8,21 @@ use Rattle.vbr_words.specs.Buckets.{bucket_of}
 use Rattle.vbr_machine.specs.Machine.{World, after, opening}
 use Rattle.vbr_machine.specs.declared.event.Effect.{Effect}
 use Rattle.vbr_machine.specs.declared.event.Step.{Step}
+use Rattle.vbr_event_lists.proofs.RowLists as rows
 use Rattle.vbr_event_lists.specs.Worked.{AreWorked, names_link, others_of, three_slots, one_slot}
-use Rattle.vbr_event_lists.specs.declared.lists.TheConstants.{REBORN_SLOT, SAME_WORD, TWO_HELPERS, REBORN_SLOT_WORDS}
+use Rattle.vbr_event_lists.specs.declared.lists.TheConstants.{REBORN_SLOT_WORDS}
 use Rattle.vbr_event_lists.specs.declared.lists.TheConstants.{SAME_WORD_WORDS, TWO_HELPERS_WORDS}
-use Rattle.vbr_event_lists.specs.declared.raised.TheConstants.{RAISED_IN_HAND, RAISED_IN_HAND_WORDS}
+use Rattle.vbr_event_lists.specs.declared.raised.TheConstants.{RAISED_IN_HAND_WORDS}
 
-pub two_helpers : AreWorked one_slot (opening one_slot) TWO_HELPERS TWO_HELPERS_WORDS
+pub two_helpers : AreWorked one_slot (opening one_slot) rows.two_helpers TWO_HELPERS_WORDS
 unfolding bucket_of link_of word_of has_flag first_bits flag_word
 two_helpers = search (rules, tests)
 
-pub reborn_slot : AreWorked three_slots (opening three_slots) REBORN_SLOT REBORN_SLOT_WORDS
+pub reborn_slot : AreWorked three_slots (opening three_slots) rows.reborn_slot REBORN_SLOT_WORDS
 unfolding bucket_of link_of word_of has_flag first_bits flag_word
 reborn_slot = search (rules, tests)
 
-pub raised_in_hand : AreWorked one_slot (opening one_slot) RAISED_IN_HAND RAISED_IN_HAND_WORDS
+pub raised_in_hand : AreWorked one_slot (opening one_slot) rows.raised_in_hand RAISED_IN_HAND_WORDS
 unfolding bucket_of link_of word_of has_flag first_bits flag_word
 raised_in_hand = search (rules, tests)
 
@@ -49,11 +50,11 @@ worked_in_two start (suc n) (row ∷ rows) w words first later = (
 )
 
 -- in three parts, since the whole is too long for one search
-pub same_word : AreWorked three_slots (opening three_slots) SAME_WORD SAME_WORD_WORDS
+pub same_word : AreWorked three_slots (opening three_slots) rows.same_word SAME_WORD_WORDS
 unfolding bucket_of link_of word_of has_flag first_bits flag_word
 same_word =
-    worked_in_two three_slots 18 SAME_WORD (opening three_slots) SAME_WORD_WORDS (search (rules, tests))
-    (worked_in_two three_slots 9 (drop 18 SAME_WORD)
-    (left_after three_slots 18 SAME_WORD (opening three_slots) SAME_WORD_WORDS).0
-    (left_after three_slots 18 SAME_WORD (opening three_slots) SAME_WORD_WORDS).1 (search (rules, tests))
+    worked_in_two three_slots 18 rows.same_word (opening three_slots) SAME_WORD_WORDS (search (rules, tests))
+    (worked_in_two three_slots 9 (drop 18 rows.same_word)
+    (left_after three_slots 18 rows.same_word (opening three_slots) SAME_WORD_WORDS).0
+    (left_after three_slots 18 rows.same_word (opening three_slots) SAME_WORD_WORDS).1 (search (rules, tests))
     (search (rules, tests)))

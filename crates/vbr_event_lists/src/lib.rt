@@ -9,9 +9,10 @@ mod standing;
 mod valued;
 
 pub use lists::{
-    REBORN_SLOT, REBORN_SLOT_WORDS, Row, SAME_WORD, SAME_WORD_WORDS, TWO_HELPERS, TWO_HELPERS_WORDS,
+    REBORN_SLOT_WORDS, Row, SAME_WORD_WORDS, TWO_HELPERS_WORDS, reborn_slot, same_word, two_helpers,
 };
-pub use raised::{RAISED_IN_HAND, RAISED_IN_HAND_WORDS};
-pub use replaced::{REPLACED_VALUE, REPLACED_VALUE_WORDS};
-pub use standing::{STANDING, STANDING_WITH_VALUES, STANDING_WORDS};
-pub use valued::{STORED_VALUE, STORED_VALUE_WORDS, with_values};
+pub use raised::{RAISED_IN_HAND_WORDS, raised_in_hand};
+pub use replaced::{REPLACED_VALUE_WORDS, replaced_value};
+pub use rows::numbered;
+pub use standing::{STANDING_WORDS, standing_rows, standing_rows_with_values};
+pub use valued::{STORED_VALUE_WORDS, stored_value, with_values};

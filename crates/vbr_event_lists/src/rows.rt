@@ -1,9 +1,21 @@
 //! Lists of events as a text, a row or a few in each line.
+ghost use Rattle.std.specs.Prelude.{◌≡◌};
+
+use vbr_words::link::MAX_SLOTS;
+use vbr_words::{Layout, WideWord};
+
+/// The link word with this number.
+pub fn numbered(number: u64) -> WideWord
+    ensures { result ≡ number }
+{
+    vbr_words::wide(number, Layout::of(MAX_SLOTS))
+}
 
 // The rows of a list on nodes that are bare or valued. A line is one of these:
 // - `PASS STEP => EFFECT;`, one row. With `valued` ahead it is of lists on nodes that have values alone.
 // - `PASS makes { .. };`: it takes a slot, and stores the birth, the key and, in such lists, the value.
-// - `PASS links { .. };`: it stores the link of the node that it made, and publishes the node.
+// - `PASS links { .. };`: it stores the link of the node that it made, and publishes the node. What is expected there is
+//   the number of a link word; elsewhere it is written `numbered(NUMBER)`.
 // - `PASS visits { .. };`: it loads and checks a link, and then the key, the value, the birth and the own
 //   link of the node that is named there. What isn't given isn't loaded.
 // - `inserts_7;`: pass 0 inserts 7 into an empty list, in epoch 1; its value is 107.
@@ -34,7 +46,7 @@ macro_rules! rows {
         $($later:tt)*) => {
         rows!(@ $kind [$($made)*]
             $pass StoreLink { slot: $slot, next: $next } => Done;
-            $pass Publish { pred: $pred, expected: $expected, slot: $slot } => Won;
+            $pass Publish { pred: $pred, expected: numbered($expected), slot: $slot } => Won;
             $($later)*)
     };
     (@ $kind:ident [$($made:tt)*]
@@ -52,10 +64,12 @@ macro_rules! rows {
             $($later)*)
     };
     (@ valued [$($made:tt)*] valued $($later:tt)*) => { rows!(@ valued [$($made)*] $($later)*) };
-    (@ bare [$($made:tt)*] valued $pass:literal $step:ident $fields:tt => $effect:ident $(($what:expr))?; $($later:tt)*) => {
+    (@ bare [$($made:tt)*] valued $pass:literal $step:ident $fields:tt => $effect:ident
+    $(($what:expr))?; $($later:tt)*) => {
         rows!(@ bare [$($made)*] $($later)*)
     };
-    (@ $kind:ident [$($made:tt)*] $pass:literal $step:ident $({ $($fields:tt)* })? => $effect:ident $(($what:expr))?; $($later:tt)*) => {
+    (@ $kind:ident [$($made:tt)*] $pass:literal $step:ident $({ $($fields:tt)* })? => $effect:ident
+    $(($what:expr))?; $($later:tt)*) => {
         rows!(@ $kind [$($made)* ($pass, Step::$step $({ $($fields)* })?, Effect::$effect $(($what))?),] $($later)*)
     };
 }

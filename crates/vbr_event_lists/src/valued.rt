@@ -1,33 +1,41 @@
 //! Worked lists of events on nodes that have values.
 ghost use Rattle.std.specs.Prelude.{◌≡◌, IfOk};
-ghost use Rattle.vbr_event_lists.specs.Valued.{value_row, with_values};
+ghost use Rattle.vbr_event_lists.specs.Valued.{value_row, valued, with_values};
+ghost use Rattle.vbr_machine.specs.Machine.{opening};
+ghost use Rattle.vbr_event_lists.specs.Worked.{AreWorked, one_slot};
+ghost use Rattle.vbr_event_lists.specs.declared.valued.TheConstants.{STORED_VALUE_WORDS};
 
 use crate::lists::Row;
-use crate::rows::rows;
+use crate::rows::{numbered, rows};
 use std::alloc::{AllocError, Global};
 use vbr_machine::{Effect, Op, Step};
 use vbr_words::At;
 
 /// Pass 0 inserts 7 with the value 107 and reads the value back. Pass 1 reads both and gets the value,
 /// then pass 0 removes 7, and a second get of pass 1 is lost.
-pub const STORED_VALUE: [Row; 21] = rows![valued:
-    inserts_7;
-    0 LoadValue { slot: 0 } => Value(107);
-    0 ReadEpoch => Value(1);
-    1 ReadEpoch => Value(1);
-    1 LoadLink { at: At::Head(0) } => Value(33_554_433);
-    1 ReadEpoch => Value(1);
-    1 LoadKey { slot: 0 } => Value(7);
-    1 LoadLink { at: At::Slot(0) } => Value(33_554_432);
-    1 LoadValue { slot: 0 } => Value(107);
-    1 ReadEpoch => Value(1);
-    1 ConfirmPresent { op: Op::Get, slot: 0, expected: 33_554_432 } => Answered(true);
-    0 Mark { slot: 0, expected: 33_554_432 } => Won;
-    1 ConfirmPresent { op: Op::Get, slot: 0, expected: 33_554_432 } => Lost(50_331_648);
-];
+pub fn stored_value() -> [Row; 21]
+    ensures worked { AreWorked (valued one_slot) (opening (valued one_slot)) result
+        STORED_VALUE_WORDS }
+{
+    rows![valued:
+        inserts_7;
+        0 LoadValue { slot: 0 } => Value(107);
+        0 ReadEpoch => Value(1);
+        1 ReadEpoch => Value(1);
+        1 LoadLink { at: At::Head(0) } => Value(4_294_967_297);
+        1 ReadEpoch => Value(1);
+        1 LoadKey { slot: 0 } => Value(7);
+        1 LoadLink { at: At::Slot(0) } => Value(4_294_967_296);
+        1 LoadValue { slot: 0 } => Value(107);
+        1 ReadEpoch => Value(1);
+        1 ConfirmPresent { op: Op::Get, slot: 0, expected: numbered(4_294_967_296) } => Answered(true);
+        0 Mark { slot: 0, expected: numbered(4_294_967_296) } => Won;
+        1 ConfirmPresent { op: Op::Get, slot: 0, expected: numbered(4_294_967_296) } => Lost(6_442_450_944);
+    ]
+}
 
 /// The link words that the callers of its steps name.
-pub const STORED_VALUE_WORDS: [u64; 2] = [33_554_432, 33_554_433];
+pub const STORED_VALUE_WORDS: [u64; 2] = [4_294_967_296, 4_294_967_297];
 
 // The row that stores a value after a step that stores a key.
 fn value_row(pass: u32, step: Step) -> Option<Row>

@@ -133,6 +133,7 @@ module _ (numbers : ShapeNumbers) (shape : Dimensions) (spread : shape ≡ sprea
         buckets = bare.buckets;
         some_epoch = bare.some_epoch;
         last_epoch = bare.last_epoch;
+        room = bare.room;
       }
 
   pub of_as_many_slots : (P : ℕ → Type 0) → P shape.slots → P numbers.slots

@@ -12,9 +12,11 @@ use Rattle.vbr_at_table.specs.declared.aside.Aside.{Aside}
 use Rattle.vbr_at_table.specs.declared.refusal.Refusal.{Refusal}
 use Rattle.vbr_list.specs.Told.{is_yes}
 use Rattle.vbr_set.specs.Members.{MemberView as Member}
+use Rattle.vbr_handles.specs.AmpleBudgets.{budget_of}
 use Rattle.vbr_handles.specs.Calls.{TellsUnlessHeld, UnlessHeld}
 use Rattle.vbr_handles.specs.Codes.{call_code, held_code}
-use Rattle.vbr_handles.specs.ToppingUp.{CallsAndTopsUp, TopsUpReserve, TopsUpWhere, lacks_slots, left_of, reserve_of}
+use Rattle.vbr_handles.specs.ToppingUp.{CallsAndTopsUp, CallsBySteps, TopsUpReserve, TopsUpWhere, lacks_slots, left_of}
+use Rattle.vbr_handles.specs.ToppingUp.{reserve_of}
 use Rattle.vbr_handles.specs.ValueCalls.{GivesUnlessHeld, StoresBy, WritesGiven}
 use Rattle.vbr_handles.specs.declared.owner.Owner.{Owner}
 
@@ -160,31 +162,40 @@ aside_still budget m b n shown before added aside is_shown counted tops =
     still_aside (added && lacks_slots b) budget m.pass.trace b n
     (tops m.pass.trace (counted ∙ ap (λ (p : PassView). counted_steps (steps_of p.trace)) is_shown)) ∙ aside
 
-pub tells_topped_up : (Calls : Member → Member → Result Bool Refusal → Type 0) (adds : Result Bool Refusal → Bool)
-    (budget : ℕ) {owner asked : Owner Member} {m : Member} {code : ℤ} {shown : PassView} {before : ℕ} (b n : Member)
-    (answer : Result Bool Refusal) (added : Bool) → asked ≡ owner → asked.member ≡ Some m → is_some m.aside ≡ false →
-    code ≡ call_code answer →
-    Calls m b answer → b.aside ≡ m.aside → TookWithin m.pass.trace b.pass.trace budget → added ≡ adds answer →
+-- the budget was that which so many steps give
+by_steps : {A : Type 0} (Calls : ℕ → Member → Member → Result A Refusal → Type 0) (adds : Result A Refusal → Bool)
+    (steps : ℕ) {budget : ℕ} (m n : Member) (answer : Result A Refusal) → budget ≡ budget_of m steps →
+    CallsAndTopsUp (Calls budget) adds budget m n answer → CallsBySteps Calls adds steps m n answer
+by_steps Calls adds steps m n answer is =
+    subst (λ (b : ℕ). CallsAndTopsUp (Calls b) adds b m n answer) is
+
+pub tells_topped_up : (Calls : ℕ → Member → Member → Result Bool Refusal → Type 0) (adds : Result Bool Refusal → Bool)
+    (steps : ℕ) {budget : ℕ} {owner asked : Owner Member} {m : Member} {code : ℤ} {shown : PassView} {before : ℕ}
+    (b n : Member) (answer : Result Bool Refusal) (added : Bool) → budget ≡ budget_of m steps → asked ≡ owner →
+    asked.member ≡ Some m → is_some m.aside ≡ false → code ≡ call_code answer →
+    Calls budget m b answer → b.aside ≡ m.aside → TookWithin m.pass.trace b.pass.trace budget → added ≡ adds answer →
     shown ≡ m.pass → before ≡ counted_steps (steps_of shown.trace)
     → ((p : Trace) → before ≡ counted_steps (steps_of p) → TopsUpWhere (added && lacks_slots b) budget p b n) →
-    TellsUnlessHeld (CallsAndTopsUp Calls adds budget) owner.member (Some n) code
-tells_topped_up Calls adds budget {owner} {asked} {m} {code} {shown} {before} b n answer added same lent free codes
-    called aside steps is is_shown counted tops =
-    tells_call (CallsAndTopsUp Calls adds budget) same lent free codes
-    (calls_and_tops_up b answer added called steps is is_shown counted tops)
+    TellsUnlessHeld (CallsBySteps Calls adds steps) owner.member (Some n) code
+tells_topped_up Calls adds steps {budget} {owner} {asked} {m} {code} {shown} {before} b n answer added gives same lent
+    free codes called aside took is is_shown counted tops =
+    tells_call (CallsBySteps Calls adds steps) same lent free codes
+    (by_steps Calls adds steps m n answer gives
+    (calls_and_tops_up b answer added called took is is_shown counted tops))
     (aside_still budget m b n shown before added aside is_shown counted tops)
 
-pub gives_topped_up : {A : Type 0} (Calls : Member → Member → Result (Option A) Refusal → Type 0)
-    (adds : Result (Option A) Refusal → Bool) (budget : ℕ) (old new : A) {owner asked : Owner Member} {m : Member}
-    {code : ℤ} {shown : PassView} {before : ℕ} (b n : Member) (answer : Result (Option A) Refusal) (added : Bool) →
-    asked ≡ owner → asked.member ≡ Some m → is_some m.aside ≡ false → code ≡ call_code (is_yes answer) →
-    Calls m b answer →
+pub gives_topped_up : {A : Type 0} (Calls : ℕ → Member → Member → Result (Option A) Refusal → Type 0)
+    (adds : Result (Option A) Refusal → Bool) (steps : ℕ) (old new : A) {budget : ℕ} {owner asked : Owner Member}
+    {m : Member} {code : ℤ} {shown : PassView} {before : ℕ} (b n : Member) (answer : Result (Option A) Refusal)
+    (added : Bool) → budget ≡ budget_of m steps → asked ≡ owner → asked.member ≡ Some m →
+    is_some m.aside ≡ false → code ≡ call_code (is_yes answer) → Calls budget m b answer →
     b.aside ≡ m.aside → TookWithin m.pass.trace b.pass.trace budget → added ≡ adds answer → shown ≡ m.pass →
     before ≡ counted_steps (steps_of shown.trace)
     → ((p : Trace) → before ≡ counted_steps (steps_of p) → TopsUpWhere (added && lacks_slots b) budget p b n) →
-    WritesGiven answer old new → StoresBy (CallsAndTopsUp Calls adds budget) owner.member (Some n) old new code
-gives_topped_up Calls adds budget old new {owner} {asked} {m} {code} {shown} {before} b n answer added same lent free
-    codes called aside steps is is_shown counted tops writes =
-    gives_call (CallsAndTopsUp Calls adds budget) (λ answer. call_code (is_yes answer)) old new same lent free codes
-    (calls_and_tops_up b answer added called steps is is_shown counted tops)
+    WritesGiven answer old new → StoresBy (CallsBySteps Calls adds steps) owner.member (Some n) old new code
+gives_topped_up Calls adds steps old new {budget} {owner} {asked} {m} {code} {shown} {before} b n answer added gives
+    same lent free codes called aside took is is_shown counted tops writes =
+    gives_call (CallsBySteps Calls adds steps) (λ answer. call_code (is_yes answer)) old new same lent free codes
+    (by_steps Calls adds steps m n answer gives
+    (calls_and_tops_up b answer added called took is is_shown counted tops))
     (aside_still budget m b n shown before added aside is_shown counted tops) writes

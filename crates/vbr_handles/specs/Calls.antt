@@ -8,7 +8,7 @@ use Rattle.vbr_set.specs.MapCalls.{InsertsEntry}
 use Rattle.vbr_set.specs.Members.{Called}
 use Rattle.vbr_set.specs.Members.{MemberView as Member}
 use Rattle.vbr_handles.specs.Codes.{call_code, empty_code, held_code}
-use Rattle.vbr_handles.specs.ToppingUp.{CallsAndTopsUp, has_added}
+use Rattle.vbr_handles.specs.ToppingUp.{CallsBySteps, has_added}
 
 -- of a call that would take a slot: the one where a slot is held, and else the other
 abbrev pub UnlessHeld : Option Aside → Type 0 → Type 0 → Type 0
@@ -47,8 +47,8 @@ TellsCall op m n key budget code = TellsBy (λ m n answer. Called op m n key bud
 
 -- of an insert of a key, which is refused while a slot is held, and after which a full handle keeps its reserve
 abbrev pub TellsInsert : Option Member → Option Member → ℕ → ℕ → ℤ → Type 0
-TellsInsert m n key budget code = TellsUnlessHeld (CallsAndTopsUp (λ m n answer. Called Insert m n key budget answer) has_added budget) m n code
+TellsInsert m n key steps code = TellsUnlessHeld (CallsBySteps (λ budget m n answer. Called Insert m n key budget answer) has_added steps) m n code
 
 -- and of one of an entry
 abbrev pub TellsInsertEntry : Option Member → Option Member → ℕ → ℕ → ℕ → ℤ → Type 0
-TellsInsertEntry m n key value budget code = TellsUnlessHeld (CallsAndTopsUp (λ m n answer. InsertsEntry m n key value budget answer) has_added budget) m n code
+TellsInsertEntry m n key value steps code = TellsUnlessHeld (CallsBySteps (λ budget m n answer. InsertsEntry m n key value budget answer) has_added steps) m n code

@@ -13,6 +13,7 @@ use Rattle.vbr_set.specs.Members.{MemberView as Member}
 use Rattle.vbr_set.specs.RecordCalls.{TakesAside, InsertsHeldBy, insert_told, store_told}
 use Rattle.vbr_set.specs.declared.record_refusals.HeldRefusal.{HeldRefusal}
 use Rattle.vbr_set.specs.declared.record_refusals.HoldRefusal.{HoldRefusal}
+use Rattle.vbr_handles.specs.AmpleBudgets.{budget_of}
 use Rattle.vbr_handles.specs.Codes.{empty_code, hold_code, held_call_code, let_go_code}
 use Rattle.vbr_handles.specs.ToppingUp.{TopsUpWhere, lacks_slots}
 use Rattle.vbr_handles.specs.ValueCalls.{WritesGiven}
@@ -34,10 +35,10 @@ pub record HoldsAndWrites (m n : Member) (budget old new : ℕ) (code : ℤ) : T
 
 -- so it is of a full handle; an empty one stays so, has a code of its own, and nothing is written
 abbrev pub TellsHold : Option Member → Option Member → ℕ → ℕ → ℕ → ℤ → Type 0
-TellsHold None None budget old new code = (code ≡ empty_code) × (new ≡ old)
-TellsHold None (Some n) budget old new code = ⊥
-TellsHold (Some m) None budget old new code = ⊥
-TellsHold (Some m) (Some n) budget old new code = HoldsAndWrites m n budget old new code
+TellsHold None None steps old new code = (code ≡ empty_code) × (new ≡ old)
+TellsHold None (Some n) steps old new code = ⊥
+TellsHold (Some m) None steps old new code = ⊥
+TellsHold (Some m) (Some n) steps old new code = HoldsAndWrites m n (budget_of m steps) old new code
 
 -- ---- letting go
 

@@ -14,6 +14,7 @@ pub mod AllHandles
 pub mod AskingAll
 pub mod RenewingAll
 pub mod OpeningCodes
+pub mod AmpleBudgets
 pub mod Calls
 pub mod ValueCalls
 pub mod Iterating

@@ -3,6 +3,7 @@ use Rattle.std.specs.Prelude.{◌≡◌, ℕ, ◌<◌, ◌≤◌, ◌⊎◌, All
 use Rattle.std.specs.List.Sorted.{IsStrictlyIncreasing}
 use Rattle.vbr_words.specs.Buckets.{multiplier_of}
 use Rattle.vbr_words.specs.Dimensions.{Dimensions, IsShape}
+use Rattle.vbr_words.specs.Shapes.{last_epoch_for}
 use Rattle.vbr_machine.specs.Start.{Start, start_with}
 use Rattle.vbr_slots.specs.Views.{TableView}
 use Rattle.vbr_set.specs.Members.{MemberView as Member, new_members}
@@ -15,7 +16,7 @@ use Rattle.vbr_handles.specs.declared.opening.OpenRefusal.TheVariants.{InUse, Sh
 
 -- the shape of these numbers with its keys spread over the buckets by their seed, whose nodes have values or not
 abbrev pub spread_shape : ShapeNumbers → Bool → Dimensions
-spread_shape numbers values = record { slots = numbers.slots; buckets = numbers.buckets; spread = Some (multiplier_of numbers.seed); last_epoch = numbers.last_epoch; values = values }
+spread_shape numbers values = record { slots = numbers.slots; buckets = numbers.buckets; spread = Some (multiplier_of numbers.seed); last_epoch = last_epoch_for numbers.slots numbers.last_epoch; values = values }
 
 -- a set of these numbers, with its keys spread over the buckets, which opens with these keys
 abbrev pub spread_start : ShapeNumbers → List ℕ → Start

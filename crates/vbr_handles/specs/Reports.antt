@@ -76,9 +76,6 @@ pub record TellsReportSlotsBy {Item R I H : Type 0} (L : Listing R I) (kind : Ki
   pub slots : WritesSlots told.answer at at'
 
 -- so it is of a set, whose report lists keys
-abbrev pub TellsClose : Option Member → Option Member → List ℕ → List ℕ → ReportNumbers → ReportNumbers → ℤ → Type 0
-TellsClose = TellsCloseBy as_keys Closes
-
 abbrev pub TellsCloseAll : List Handle → List Handle → List ℕ → List ℕ → ReportNumbers → ReportNumbers → ℤ → Type 0
 TellsCloseAll = TellsCloseAllBy as_keys Closes (λ (handle : Handle). handle.owned.member)
 
@@ -89,9 +86,6 @@ abbrev pub TellsReportSlots : List Handle → List Handle → List ℕ → List 
 TellsReportSlots = TellsReportSlotsBy as_keys as_set (λ (handle : Handle). handle.owned.member)
 
 -- and so of a map, whose report lists entries
-abbrev pub TellsMapClose : Option Member → Option Member → List Entry → List Entry → ReportNumbers → ReportNumbers → ℤ → Type 0
-TellsMapClose = TellsCloseBy as_entries MapCloses
-
 abbrev pub TellsMapCloseAll : List MapHandle → List MapHandle → List Entry → List Entry → ReportNumbers → ReportNumbers → ℤ → Type 0
 TellsMapCloseAll = TellsCloseAllBy as_entries MapCloses (λ (handle : MapHandle). handle.owned.member)
 

@@ -6,6 +6,7 @@ use Rattle.vbr_at_table.specs.Reserving.{TopsUp}
 use Rattle.vbr_at_table.specs.WithinBudget.{TookWithin}
 use Rattle.vbr_at_table.specs.declared.refusal.Refusal.{Refusal}
 use Rattle.vbr_set.specs.Members.{MemberView as Member}
+use Rattle.vbr_handles.specs.AmpleBudgets.{budget_of}
 use Rattle.vbr_handles.specs.declared.numbers.topping_up.TheConstants.{MOST, PARTS}
 
 -- how many slots a handle of a set or a map keeps in reserve: 32, or an eighth of its share of the slots where that is less
@@ -60,3 +61,7 @@ module _ {A : Type 0} (Calls : Member → Member → Result A Refusal → Type 0
     pub called : Calls m between answer
     pub tops_up : TopsUpWhere (adds answer && lacks_slots between) budget m.pass.trace between n
     pub steps : TookWithin m.pass.trace n.pass.trace budget
+
+-- so it is with the budget that so many steps give a call which may take a slot
+abbrev pub CallsBySteps : {A : Type 0} → (ℕ → Member → Member → Result A Refusal → Type 0) → (Result A Refusal → Bool) → ℕ → Member → Member → Result A Refusal → Type 0
+CallsBySteps Calls adds steps m n answer = CallsAndTopsUp (Calls (budget_of m steps)) adds (budget_of m steps) m n answer

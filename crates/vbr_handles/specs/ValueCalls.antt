@@ -4,9 +4,10 @@ use Rattle.vbr_list.specs.Told.{is_yes}
 use Rattle.vbr_at_table.specs.declared.refusal.Refusal.{Refusal}
 use Rattle.vbr_set.specs.MapCalls.{ExchangesEntry, GetsEntry, GetsOrInsertsEntry, PutsEntry, RemovesEntry, RemovesIf, ReplacesEntry}
 use Rattle.vbr_set.specs.Members.{MemberView as Member}
+use Rattle.vbr_handles.specs.AmpleBudgets.{budget_of}
 use Rattle.vbr_handles.specs.Codes.{call_code, empty_code, exchange_code}
 use Rattle.vbr_handles.specs.Calls.{RefusesHeld, UnlessHeld}
-use Rattle.vbr_handles.specs.ToppingUp.{CallsAndTopsUp, has_stored_new}
+use Rattle.vbr_handles.specs.ToppingUp.{CallsBySteps, has_stored_new}
 
 -- what is given is written where the answer is yes, and else nothing is written
 abbrev pub WritesGiven : {A E : Type 0} → Result (Option A) E → A → A → Type 0
@@ -57,18 +58,18 @@ StoresBy Calls m n old new code = GivesUnlessHeld Calls (λ answer. call_code (i
 
 -- of a replacement: what was there is given
 abbrev pub TellsReplace : Option Member → Option Member → ℕ → ℕ → ℕ → ℕ → ℕ → ℤ → Type 0
-TellsReplace m n key value budget old new code = StoresBy (λ m n answer. ReplacesEntry m n key value budget answer) m n old new code
+TellsReplace m n key value steps old new code = StoresBy (λ m n answer. ReplacesEntry m n key value (budget_of m steps) answer) m n old new code
 
 -- so it is of a put and of a get that inserts, after which a full handle keeps its reserve
 abbrev pub TellsPut : Option Member → Option Member → ℕ → ℕ → ℕ → ℕ → ℕ → ℤ → Type 0
-TellsPut m n key value budget old new code = StoresBy (CallsAndTopsUp (λ m n answer. PutsEntry m n key value budget answer) has_stored_new budget) m n old new code
+TellsPut m n key value steps old new code = StoresBy (CallsBySteps (λ budget m n answer. PutsEntry m n key value budget answer) has_stored_new steps) m n old new code
 
 abbrev pub TellsGetOrInsert : Option Member → Option Member → ℕ → ℕ → ℕ → ℕ → ℕ → ℤ → Type 0
-TellsGetOrInsert m n key value budget old new code = StoresBy (CallsAndTopsUp (λ m n answer. GetsOrInsertsEntry m n key value budget answer) has_stored_new budget) m n old new code
+TellsGetOrInsert m n key value steps old new code = StoresBy (CallsBySteps (λ budget m n answer. GetsOrInsertsEntry m n key value budget answer) has_stored_new steps) m n old new code
 
 -- and of an exchange and a remove that go by the value that is expected, whose code tells whether it was there
 abbrev pub TellsExchange : Option Member → Option Member → ℕ → ℕ → ℕ → ℕ → ℕ → ℕ → ℤ → Type 0
-TellsExchange m n key expected value budget old new code = GivesUnlessHeld (λ m n answer. ExchangesEntry m n key expected value budget answer) (exchange_code expected) m n old new code
+TellsExchange m n key expected value steps old new code = GivesUnlessHeld (λ m n answer. ExchangesEntry m n key expected value (budget_of m steps) answer) (exchange_code expected) m n old new code
 
 abbrev pub TellsRemoveIf : Option Member → Option Member → ℕ → ℕ → ℕ → ℕ → ℕ → ℤ → Type 0
 TellsRemoveIf m n key expected budget old new code = GivesAs (λ m n answer. RemovesIf m n key expected budget answer) (exchange_code expected) m n old new code

@@ -7,6 +7,7 @@
 //! ([`Listed`]) has entries in place of keys where it is a map.
 #![tactic(auto)]
 
+mod ample;
 pub mod asking_all;
 pub mod closing;
 pub mod closing_all;
@@ -30,6 +31,7 @@ pub mod report_numbers;
 pub mod reserves;
 pub mod shown;
 
+pub use ample::AMPLE_STEPS;
 pub use asking_all::AskRefusal;
 pub use closing::{CloseRefusal, abandon, close};
 pub use closing_all::{CloseAllRefusal, abandon_all, close_all, report_all, report_all_with_slots};

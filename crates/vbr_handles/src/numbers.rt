@@ -24,6 +24,7 @@ pub mod records;
 pub mod reserving;
 pub mod topping_up;
 
+use crate::ample::budget_of;
 use crate::closing::CloseRefusal;
 use crate::closing_all::CloseAllRefusal;
 use crate::handle_of::HandleOf;
@@ -102,8 +103,8 @@ pub fn open_many<N: Kind, I: Listed<N>, H: HandleOf<N>>(
 
 /// Adds a key by the member of a handle, and then keeps the reserve of the handle ([`topping_up`]). While the member
 /// holds a slot it does nothing.
-pub fn insert(owner: &mut Owner<Member<Keys>>, key: u64, budget: u32) -> i32
-    ensures { TellsInsert owner.old.member owner.new.member key budget result }
+pub fn insert(owner: &mut Owner<Member<Keys>>, key: u64, steps: u32) -> i32
+    ensures { TellsInsert owner.old.member owner.new.member key steps result }
 {
     if owner.is_empty() {
         return EMPTY;
@@ -112,6 +113,7 @@ pub fn insert(owner: &mut Owner<Member<Keys>>, key: u64, budget: u32) -> i32
     if holds_slot(member) {
         return HELD;
     }
+    let budget = budget_of(member, steps);
     let before = member.pass().steps();
     let answer = member.insert(key, budget);
     top_up_after(member, has_added(&answer), budget, before);

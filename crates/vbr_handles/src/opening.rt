@@ -35,7 +35,7 @@ pub struct ShapeNumbers {
     pub slots: u32,
     /// How many buckets.
     pub buckets: u32,
-    /// The last epoch.
+    /// The last epoch; `MAX_EPOCH` means the greatest of so many slots, where that is less.
     pub last_epoch: u64,
     /// By which seed keys are spread over the buckets.
     pub seed: u64,

@@ -17,6 +17,7 @@ use Rattle.vbr_list.specs.declared.call.PendingCall.{PendingCall}
 use Rattle.vbr_list.specs.declared.found.Found.{Found}
 use Rattle.vbr_list.proofs.Disturbing.{run_at}
 use Rattle.vbr_list.proofs.Moments.{by_found, key_known}
+use Rattle.vbr_list.specs.Words.{wide_found}
 
 -- ---- what a read link shows
 
@@ -86,10 +87,11 @@ clear_found {p} {q} key found start same x =
 
 -- of a walk that ended with room in its budget
 pub clear_walked : {N : Type 0} {kind : Ghosts N} → (c d : PendingCall N kind) (found : Option Found) →
-    IsStart (trace_in c).start → IsSame (trace_in c) (trace_in d) → IfSome found (SearchFinds c d) →
-    IfNone found (SearchTires c d) → d.used + PIECE ≤ c.budget → WasClear (trace_in c) (trace_in d) c.key
+    IsStart (trace_in c).start → IsSame (trace_in c) (trace_in d) →
+    IfSome found (λ told. SearchFinds c d (wide_found c told)) → IfNone found (SearchTires c d) → d.used + PIECE ≤
+    c.budget → WasClear (trace_in c) (trace_in d) c.key
 clear_walked c d None start same x tired room = let short = tired.tired in absurd (omega (arith, short, room))
-clear_walked c d (Some found) start same x tired room = clear_found c.key found start same x.found
+clear_walked c d (Some found) start same x tired room = clear_found c.key (wide_found c found) start same x.found
 
 -- ---- a part of what the pass did
 

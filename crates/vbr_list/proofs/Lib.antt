@@ -1,4 +1,5 @@
 mod Names
+mod WideWords
 mod Traversals
 mod EntryAnswers
 mod Publishing

@@ -25,6 +25,7 @@ use Rattle.vbr_list.proofs.Disturbing.{same_between, unchanged_at, undisturbed}
 use Rattle.vbr_list.proofs.Going.{by_either}
 use Rattle.vbr_list.proofs.Preparing.{if_failed}
 use Rattle.vbr_list.proofs.Walking.{HasRepeated, call_paid}
+use Rattle.vbr_list.specs.Words.{wide_found}
 
 -- ---- a search
 
@@ -46,7 +47,7 @@ lost_unlinking {p = p} {q = q} {steps = steps} {pred = pred} before tried failed
 
 -- whatever it came to
 pub walked : {N : Type 0} {kind : Ghosts N} (c d : PendingCall N kind) (found : Option Found) →
-    IfSome found (SearchFinds c d) → IfNone found (SearchTires c d) →
+    IfSome found (λ told. SearchFinds c d (wide_found c told)) → IfNone found (SearchTires c d) →
     WalksAgain 9 (trace_in c) (trace_in d) c.key c.used d.used
 walked c d found x tired = grind arith
 

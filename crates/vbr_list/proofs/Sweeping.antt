@@ -14,6 +14,7 @@ use Rattle.vbr_list.specs.declared.found.Found.{Found}
 use Rattle.vbr_list.proofs.Clearing.{was_shown}
 use Rattle.vbr_list.proofs.Disturbing.{run_at}
 use Rattle.vbr_list.proofs.Moments.{by_found, key_known}
+use Rattle.vbr_list.specs.Words.{wide_found}
 
 -- ---- from the start of one trace to that of another
 
@@ -70,10 +71,12 @@ swept_found key found start ok quiet x node removed of_key = found_swept key sta
 -- of a walk that ended with room in its budget
 pub swept_walked : {N : Type 0} {kind : Ghosts N} → (c d : PendingCall N kind) (found : Option Found) →
     IsStart (trace_in c).start → IsRun (trace_in c).start (trace_in c).passes (trace_in c).seen →
-    Quiet (trace_in c) (trace_in d) → IfSome found (SearchFinds c d) → IfNone found (SearchTires c d) →
+    Quiet (trace_in c) (trace_in d) → IfSome found (λ told. SearchFinds c d (wide_found c told)) →
+    IfNone found (SearchTires c d) →
     d.used + PIECE ≤ c.budget → Sweeps (trace_in c) (trace_in d) c.key
 swept_walked c d None start ok quiet x tired room = let short = tired.tired in absurd (omega (arith, short, room))
-swept_walked c d (Some found) start ok quiet x tired room = swept_found c.key found start ok quiet x.found
+swept_walked c d (Some found) start ok quiet x tired room = swept_found c.key (wide_found c found) start ok quiet
+    x.found
 
 -- ---- an unlinking
 

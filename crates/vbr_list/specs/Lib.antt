@@ -9,6 +9,7 @@ pub mod Told
 pub mod Wanted
 pub mod CallBounds
 pub mod Expecting
+pub mod Words
 pub mod Pieces
 pub mod Walking
 pub mod Visiting

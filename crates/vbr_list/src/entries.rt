@@ -8,6 +8,7 @@ ghost use Rattle.vbr_list.specs.OtherEntries.{IsNodeOf};
 ghost use Rattle.vbr_list.specs.Pieces.{HasRoomForPiece, Settles, trace_in};
 ghost use Rattle.vbr_slots.specs.Calls.{OnlyLoads, Took};
 ghost use Rattle.vbr_slots.specs.Views.{IsOf};
+ghost use Rattle.vbr_list.specs.Words.{wide_sight};
 
 use crate::call::{PendingCall, begin};
 use crate::found::Found;
@@ -86,14 +87,15 @@ impl<N: Nodes> PendingCall<'_, N> {
     // Answers a look-up, or a get, by what it came to, and gives the entry.
     #[inline(always)]
     fn settle_entry(&mut self, gives: bool, sight: Sight) -> Result<Option<Entry>, Rollback>
-        requires sight { IsSightFor self.old sight }
+        requires sight { IsSightFor self.old (wide_sight self.old sight) }
         requires asked { IsAskedOf self.old gives }
         requires room { HasRoomForPiece self.old }
         ensures settles { Settles self.old self.new }
         ensures few { self.new.used ≤ self.old.used + steps_to_answer gives }
         ensures only_loads { OnlyLoads (trace_in self.old) (trace_in self.new) }
         ensures answers { IfOk result (EntryAnswers gives self.old self.new) }
-        ensures rolls { IfErr result (LookUpRollsBack self.old self.new sight) }
+        ensures rolls { IfErr result (LookUpRollsBack self.old self.new
+            (wide_sight self.old sight)) }
     {
         match sight {
             Sight::Present(node) => match self.give_node(gives, &node) {

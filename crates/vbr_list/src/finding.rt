@@ -3,9 +3,10 @@ ghost use Rattle.std.specs.Prelude.{◌≡◌, None, IfOk, IfErr, IfSome, IfNone
 ghost use Rattle.vbr_slots.specs.Calls.{Took};
 ghost use Rattle.vbr_slots.specs.Views.{IsOf};
 ghost use Rattle.vbr_at_table.specs.KeptSlots.{TakesNoSlot};
-ghost use Rattle.vbr_list.specs.Found.{FindsIn, FindGivesUp};
+ghost use Rattle.vbr_list.specs.Found.{FindGivesUp, FindsIn};
 ghost use Rattle.vbr_list.specs.Pieces.{GoesOn, HasRoomForPiece};
 ghost use Rattle.vbr_list.specs.Traversing.{SearchFinds, SearchTires};
+ghost use Rattle.vbr_list.specs.Words.{wide_found, said_found};
 
 use crate::call::{PendingCall, begin};
 use crate::found::Found;
@@ -20,7 +21,8 @@ impl<N: Nodes> PendingCall<'_, N> {
     #[inline(always)]
     pub(crate) fn search(&mut self) -> Option<Found>
         ensures goes { GoesOn self.old self.new }
-        ensures found { IfSome result (SearchFinds self.old self.new) }
+        ensures found { IfSome result (λ told.
+            SearchFinds self.old self.new (wide_found self.old told)) }
         ensures tired { IfNone result (SearchTires self.old self.new) }
     {
         self.at.law();
@@ -37,7 +39,8 @@ impl<N: Nodes> PendingCall<'_, N> {
     #[inline(always)]
     pub(crate) fn reach(&mut self) -> Option<Found>
         ensures goes { GoesOn self.old self.new }
-        ensures found { IfSome result (SearchFinds self.old self.new) }
+        ensures found { IfSome result (λ told.
+            SearchFinds self.old self.new (wide_found self.old told)) }
         ensures room { IfSome result (λ _. HasRoomForPiece self.new) }
         ensures tired { IfNone result (SearchTires self.old self.new) }
     {
@@ -67,7 +70,8 @@ pub fn find<N: Nodes>(
     requires empty_hand { pass.old.hand ≡ None }
     ensures hand { pass.new.hand ≡ None }
     ensures takes_no_slot { TakesNoSlot pass.old pass.new }
-    ensures found { IfOk result (FindsIn pass.old pass.new key budget) }
+    ensures found { IfOk result (λ told.
+        FindsIn pass.old pass.new key budget (said_found slots.now told)) }
     ensures tired { IfErr result (FindGivesUp pass.old pass.new key budget) }
 {
     pass.during(
@@ -90,7 +94,8 @@ fn find_by<N: Nodes>(
     ensures took { Took stepper.old.trace stepper.new.trace result.1 }
     ensures hand { stepper.new.hand ≡ None }
     ensures takes_no_slot { TakesNoSlot stepper.old stepper.new }
-    ensures found { IfOk result.0 (FindsIn stepper.old stepper.new key budget) }
+    ensures found { IfOk result.0 (λ told.
+        FindsIn stepper.old stepper.new key budget (said_found slots.now told)) }
     ensures tired { IfErr result.0 (FindGivesUp stepper.old stepper.new key budget) }
 {
     let mut call = begin!(slots, stepper, key, budget, 0);

@@ -2,6 +2,7 @@
 ghost use Rattle.std.specs.Prelude.{◌≤◌, IfOk, IfErr};
 ghost use Rattle.vbr_slots.specs.AtTables.{IsSameTable, pass_of, trace_of};
 ghost use Rattle.vbr_slots.specs.Views.{IsOf};
+ghost use Rattle.vbr_at_table.specs.Held.{said, said_marked};
 ghost use Rattle.vbr_list.specs.Helping.{GoesIn, Helps, HelpsNone, MayHelp, RetiresMarked};
 
 use vbr_at_table::{Held, Marked, Rollback, retire, steps_to_unlink, unlink};
@@ -16,17 +17,21 @@ pub(crate) fn unlink_and_retire<N: Nodes>(
     pred: &Held,
     marked: Marked,
 ) -> (Result<Held, Rollback>, u32)
-    requires may { MayHelp (trace_of at.old) pred.now marked }
+    requires may { MayHelp (trace_of at.old) (said at.old.slots.now pred.now)
+        (said_marked at.old.slots.now marked) }
     ensures table { IsSameTable at.old at.new }
     ensures goes { GoesIn (pass_of at.old) (pass_of at.new) result.1 }
     ensures few { result.1 ≤ 6 }
-    ensures unlinks { IfOk result.0
-        (RetiresMarked (pass_of at.old) (pass_of at.new) pred.now marked) }
-    ensures lost { IfErr result.0 (HelpsNone (pass_of at.old) (pass_of at.new) pred.now) }
+    ensures unlinks { IfOk result.0 (λ place.
+        RetiresMarked (pass_of at.old) (pass_of at.new) (said at.old.slots.now pred.now)
+        (said_marked at.old.slots.now marked) (said at.old.slots.now place)) }
+    ensures lost { IfErr result.0 (HelpsNone (pass_of at.old) (pass_of at.new)
+        (said at.old.slots.now pred.now)) }
 {
     at.law();
+    let layout = at.slots.layout();
     let outcome = unlink(at, pred, marked);
-    let used = steps_to_unlink(marked.word, &outcome);
+    let used = steps_to_unlink(marked.word, layout, &outcome);
     match outcome {
         Err(rollback) => (Err(rollback), used),
         Ok((unlinked, place)) => {
@@ -44,12 +49,16 @@ pub(crate) fn help<N: Nodes>(
     pred: &Held,
     marked: Marked,
 ) -> (Result<Held, Rollback>, u32)
-    requires may { MayHelp (trace_of at.old) pred.now marked }
+    requires may { MayHelp (trace_of at.old) (said at.old.slots.now pred.now)
+        (said_marked at.old.slots.now marked) }
     ensures table { IsSameTable at.old at.new }
     ensures goes { GoesIn (pass_of at.old) (pass_of at.new) result.1 }
     ensures few { result.1 ≤ 6 }
-    ensures helps { IfOk result.0 (Helps (pass_of at.old) (pass_of at.new) pred.now marked) }
-    ensures lost { IfErr result.0 (HelpsNone (pass_of at.old) (pass_of at.new) pred.now) }
+    ensures helps { IfOk result.0 (λ place.
+        Helps (pass_of at.old) (pass_of at.new) (said at.old.slots.now pred.now)
+        (said_marked at.old.slots.now marked) (said at.old.slots.now place)) }
+    ensures lost { IfErr result.0 (HelpsNone (pass_of at.old) (pass_of at.new)
+        (said at.old.slots.now pred.now)) }
 {
     let (outcome, used) = unlink_and_retire(at, pred, marked);
     match outcome {
@@ -73,11 +82,13 @@ fn help_apart<N: Nodes>(
     marked: Marked,
 ) -> (Result<Held, Rollback>, u32)
     requires own { IsOf stepper.old.trace slots.now }
-    requires may { MayHelp stepper.old.trace pred marked }
+    requires may { MayHelp stepper.old.trace (said slots.now pred)
+        (said_marked slots.now marked) }
     ensures goes { GoesIn stepper.old stepper.new result.1 }
     ensures few { result.1 ≤ 6 }
-    ensures helps { IfOk result.0 (Helps stepper.old stepper.new pred marked) }
-    ensures lost { IfErr result.0 (HelpsNone stepper.old stepper.new pred) }
+    ensures helps { IfOk result.0 (λ place. Helps stepper.old stepper.new (said slots.now pred)
+        (said_marked slots.now marked) (said slots.now place)) }
+    ensures lost { IfErr result.0 (HelpsNone stepper.old stepper.new (said slots.now pred)) }
 {
     help(&mut AtTable { slots, stepper }, &pred, marked)
 }
@@ -90,12 +101,16 @@ pub(crate) fn help_by_copy<N: Nodes>(
     pred: Held,
     marked: Marked,
 ) -> (Result<Held, Rollback>, u32)
-    requires may { MayHelp (trace_of at.old) pred marked }
+    requires may { MayHelp (trace_of at.old) (said at.old.slots.now pred)
+        (said_marked at.old.slots.now marked) }
     ensures table { IsSameTable at.old at.new }
     ensures goes { GoesIn (pass_of at.old) (pass_of at.new) result.1 }
     ensures few { result.1 ≤ 6 }
-    ensures helps { IfOk result.0 (Helps (pass_of at.old) (pass_of at.new) pred marked) }
-    ensures lost { IfErr result.0 (HelpsNone (pass_of at.old) (pass_of at.new) pred) }
+    ensures helps { IfOk result.0 (λ place.
+        Helps (pass_of at.old) (pass_of at.new) (said at.old.slots.now pred)
+        (said_marked at.old.slots.now marked) (said at.old.slots.now place)) }
+    ensures lost { IfErr result.0 (HelpsNone (pass_of at.old) (pass_of at.new)
+        (said at.old.slots.now pred)) }
 {
     let slots = at.slots;
     help_apart(slots, at.stepper, pred, marked)

@@ -15,6 +15,7 @@ ghost use Rattle.vbr_list.specs.Telling.{KnowsThere};
 ghost use Rattle.vbr_list.specs.Traversing.{LocatesFor};
 ghost use Rattle.vbr_slots.specs.Calls.{Took};
 ghost use Rattle.vbr_slots.specs.Views.{IsOf};
+ghost use Rattle.vbr_list.specs.Words.{wide_found};
 
 use crate::call::{PendingCall, begin};
 use crate::entries::{Entry, is_node_of};
@@ -86,13 +87,15 @@ impl<N: Nodes> PendingCall<'_, N> {
         value: u64,
         hand: Hand,
     ) -> Result<Option<u64>, Hand>
-        requires found { FoundWithValue self.old found.now }
+        requires found { FoundWithValue self.old (wide_found self.old found.now) }
         requires hand { HasHandAndRoom (pass_in self.old) hand }
         requires room { HasRoomForPiece self.old }
         ensures settles { MaySettle self.old self.new }
         ensures had { HasUnused (pass_in self.old) (pass_in self.new) result }
-        ensures replaced { IfOk result (ReplacesByHand value self.old self.new hand found.now) }
-        ensures back { IfErr result (LeavesInHand self.old self.new found.now hand) }
+        ensures replaced { IfOk result
+            (ReplacesByHand value self.old self.new hand (wide_found self.old found.now)) }
+        ensures back { IfErr result
+            (LeavesInHand self.old self.new (wide_found self.old found.now) hand) }
     {
         self.at.law();
         let Ok(there) = self.read_found(found) else {
@@ -110,14 +113,15 @@ impl<N: Nodes> PendingCall<'_, N> {
     // comes back.
     #[inline(always)]
     fn link_by_held(&mut self, found: &Found, value: u64, hand: Hand) -> Result<(), Hand>
-        requires knows { KnowsThere self.old found.now None }
+        requires knows { KnowsThere self.old (wide_found self.old found.now) None }
         requires hand { HasHandAndRoom (pass_in self.old) hand }
         requires room { HasRoomForPiece self.old }
         ensures settles { MaySettle self.old self.new }
         ensures had { HasUnused (pass_in self.old) (pass_in self.new) result }
         ensures linked { IfOk result
-            (λ _. StoresByHand value self.old self.new hand found.now None) }
-        ensures back { IfErr result (LeavesInHand self.old self.new found.now hand) }
+            (λ _. StoresByHand value self.old self.new hand (wide_found self.old found.now) None) }
+        ensures back { IfErr result
+            (LeavesInHand self.old self.new (wide_found self.old found.now) hand) }
     {
         self.at.law();
         self.used += 4;
@@ -138,13 +142,15 @@ impl<N: Nodes> PendingCall<'_, N> {
     // gives the value that was there. Else the hand comes back.
     #[inline(always)]
     fn put_found(&mut self, found: &Found, value: u64, hand: Hand) -> Result<Option<u64>, Hand>
-        requires found { LocatesFor self.old found.now }
+        requires found { LocatesFor self.old (wide_found self.old found.now) }
         requires has { HasHandForValue self.old hand }
         requires room { HasRoomForPiece self.old }
         ensures settles { MaySettle self.old self.new }
         ensures had { HasUnused (pass_in self.old) (pass_in self.new) result }
-        ensures put { IfOk result (StoresByHand value self.old self.new hand found.now) }
-        ensures back { IfErr result (LeavesInHand self.old self.new found.now hand) }
+        ensures put { IfOk result
+            (StoresByHand value self.old self.new hand (wide_found self.old found.now)) }
+        ensures back { IfErr result
+            (LeavesInHand self.old self.new (wide_found self.old found.now) hand) }
     {
         if found.present {
             return self.replace_by_held(found, value, hand);

@@ -5,6 +5,7 @@ ghost use Rattle.std.specs.Prelude.{◌≡◌, IfOk, IfErr, IfSome, IfNone};
 ghost use Rattle.vbr_at_table.specs.Held.{held_of};
 ghost use Rattle.vbr_list.specs.LookUpPieces.{LookTires, Sees, WalkStops, WalksTo};
 ghost use Rattle.vbr_list.specs.Pieces.{GoesOn, Observes, trace_in};
+ghost use Rattle.vbr_list.specs.Words.{wide_sight};
 
 use crate::call::PendingCall;
 use crate::traversal::Stop;
@@ -41,7 +42,8 @@ impl<N: Nodes> PendingCall<'_, N> {
     fn walk(&mut self) -> Result<Sight, Stop>
         ensures goes { GoesOn self.old self.new }
         ensures observes { Observes (trace_in self.old) (trace_in self.new) }
-        ensures sight { IfOk result (WalksTo self.old self.new) }
+        ensures sight { IfOk result (λ sight.
+            WalksTo self.old self.new (wide_sight self.old sight)) }
         ensures stopped { IfErr result (WalkStops self.old self.new) }
     {
         self.at.law();
@@ -52,7 +54,7 @@ impl<N: Nodes> PendingCall<'_, N> {
             return Err(Stop::Again);
         };
         let mut here = pred;
-        while decode(here.word).slot.is_some() {
+        while decode(here.word, self.at.slots.layout()).slot.is_some() {
             if !affords(self.budget, self.used) {
                 return Err(Stop::Tired);
             }
@@ -80,7 +82,8 @@ impl<N: Nodes> PendingCall<'_, N> {
     pub(crate) fn look(&mut self) -> Option<Sight>
         ensures goes { GoesOn self.old self.new }
         ensures observes { Observes (trace_in self.old) (trace_in self.new) }
-        ensures sight { IfSome result (Sees self.old self.new) }
+        ensures sight { IfSome result (λ sight.
+            Sees self.old self.new (wide_sight self.old sight)) }
         ensures tired { IfNone result (LookTires self.old self.new) }
     {
         self.at.law();

@@ -9,8 +9,9 @@ ghost use Rattle.vbr_list.specs.declared.looking.Sight.TheVariants.{Present, Abs
 ghost use Rattle.vbr_list.specs.LookUpPieces.{GivesNone, GivesValueOf};
 ghost use Rattle.vbr_list.specs.LookUpPieces.{IsAskedOf, IsSightFor, LookUpAnswers, LookUpRollsBack, steps_to_answer};
 ghost use Rattle.vbr_list.specs.Pieces.{HasRoomForPiece, Settles, trace_in};
-ghost use Rattle.vbr_list.specs.Places.{sighted, is_present};
+ghost use Rattle.vbr_list.specs.Places.{is_present, sighted};
 ghost use Rattle.vbr_list.specs.Told.{given_in, look_up_op};
+ghost use Rattle.vbr_list.specs.Words.{wide_held, wide_sight};
 
 use crate::call::{PendingCall, begin};
 use crate::looking::Sight;
@@ -25,13 +26,14 @@ impl<N: Nodes> PendingCall<'_, N> {
     // Answers a look-up by what it came to, in one step, if the link that was read still stands there.
     #[inline(always)]
     fn answer_has(&mut self, sight: Sight) -> Result<Option<u64>, Rollback>
-        requires sight { IsSightFor self.old sight }
+        requires sight { IsSightFor self.old (wide_sight self.old sight) }
         requires room { HasRoomForPiece self.old }
         ensures settles { Settles self.old self.new }
         ensures few { self.new.used ≡ self.old.used + 1 }
         ensures only_loads { OnlyLoads (trace_in self.old) (trace_in self.new) }
         ensures answers { IfOk result (LookUpAnswers false self.old self.new) }
-        ensures rolls { IfErr result (LookUpRollsBack self.old self.new sight) }
+        ensures rolls { IfErr result (LookUpRollsBack self.old self.new
+            (wide_sight self.old sight)) }
     {
         let (held, present) = told_by(sight);
         let outcome = confirm_look_up(&mut self.at, self.key, &held, present);
@@ -46,14 +48,16 @@ impl<N: Nodes> PendingCall<'_, N> {
     // epoch and the node's link still stand.
     #[inline(always)]
     pub(crate) fn give_value(&mut self, node: &Held) -> Result<Option<u64>, Rollback>
-        requires sight { IsSightFor self.old (Present node.now) }
+        requires sight { IsSightFor self.old (Present (wide_held self.old node.now)) }
         requires values { (trace_in self.old).start.shape.values ≡ true }
         requires room { HasRoomForPiece self.old }
         ensures settles { Settles self.old self.new }
         ensures few { self.new.used ≤ self.old.used + 3 }
         ensures only_loads { OnlyLoads (trace_in self.old) (trace_in self.new) }
-        ensures answers { IfOk result (GivesValueOf true self.old self.new node.now) }
-        ensures rolls { IfErr result (LookUpRollsBack self.old self.new (Present node.now)) }
+        ensures answers { IfOk result (GivesValueOf true self.old self.new
+            (wide_held self.old node.now)) }
+        ensures rolls { IfErr result (LookUpRollsBack self.old self.new
+            (Present (wide_held self.old node.now))) }
     {
         let read = value_if_any(&mut self.at, node);
         self.used += steps_to_value_of(self.at.slots);
@@ -69,13 +73,15 @@ impl<N: Nodes> PendingCall<'_, N> {
     // Answers a look-up with the node of the key, in one step, if its link still stands; it gives 0.
     #[inline(always)]
     fn show_node(&mut self, node: &Held) -> Result<Option<u64>, Rollback>
-        requires sight { IsSightFor self.old (Present node.now) }
+        requires sight { IsSightFor self.old (Present (wide_held self.old node.now)) }
         requires room { HasRoomForPiece self.old }
         ensures settles { Settles self.old self.new }
         ensures few { self.new.used ≡ self.old.used + 1 }
         ensures only_loads { OnlyLoads (trace_in self.old) (trace_in self.new) }
-        ensures answers { IfOk result (GivesValueOf false self.old self.new node.now) }
-        ensures rolls { IfErr result (LookUpRollsBack self.old self.new (Present node.now)) }
+        ensures answers { IfOk result (GivesValueOf false self.old self.new
+            (wide_held self.old node.now)) }
+        ensures rolls { IfErr result (LookUpRollsBack self.old self.new
+            (Present (wide_held self.old node.now))) }
     {
         let outcome = confirm_present(&mut self.at, Op::Has, node);
         self.used += 1;
@@ -88,14 +94,16 @@ impl<N: Nodes> PendingCall<'_, N> {
     // Answers a look-up, or a get, with the node of the key.
     #[inline(always)]
     pub(crate) fn give_node(&mut self, gives: bool, node: &Held) -> Result<Option<u64>, Rollback>
-        requires sight { IsSightFor self.old (Present node.now) }
+        requires sight { IsSightFor self.old (Present (wide_held self.old node.now)) }
         requires asked { IsAskedOf self.old gives }
         requires room { HasRoomForPiece self.old }
         ensures settles { Settles self.old self.new }
         ensures few { self.new.used ≤ self.old.used + steps_to_answer gives }
         ensures only_loads { OnlyLoads (trace_in self.old) (trace_in self.new) }
-        ensures answers { IfOk result (GivesValueOf gives self.old self.new node.now) }
-        ensures rolls { IfErr result (LookUpRollsBack self.old self.new (Present node.now)) }
+        ensures answers { IfOk result (GivesValueOf gives self.old self.new
+            (wide_held self.old node.now)) }
+        ensures rolls { IfErr result (LookUpRollsBack self.old self.new
+            (Present (wide_held self.old node.now))) }
     {
         if gives {
             self.give_value(node)
@@ -108,14 +116,15 @@ impl<N: Nodes> PendingCall<'_, N> {
     // stands.
     #[inline(always)]
     pub(crate) fn give_none(&mut self, gives: bool, pred: &Held) -> Result<Option<u64>, Rollback>
-        requires sight { IsSightFor self.old (Absent pred.now) }
+        requires sight { IsSightFor self.old (Absent (wide_held self.old pred.now)) }
         requires asked { IsAskedOf self.old gives }
         requires room { HasRoomForPiece self.old }
         ensures settles { Settles self.old self.new }
         ensures few { self.new.used ≡ self.old.used + 1 }
         ensures only_loads { OnlyLoads (trace_in self.old) (trace_in self.new) }
         ensures answers { IfOk result (GivesNone gives self.old self.new) }
-        ensures rolls { IfErr result (LookUpRollsBack self.old self.new (Absent pred.now)) }
+        ensures rolls { IfErr result (LookUpRollsBack self.old self.new
+            (Absent (wide_held self.old pred.now))) }
     {
         let outcome = confirm_absent(&mut self.at, look_up_op(gives), self.key, pred);
         self.used += 1;
@@ -128,14 +137,15 @@ impl<N: Nodes> PendingCall<'_, N> {
     // Answers a look-up, or a get, by what it came to.
     #[inline(always)]
     fn settle_look_up(&mut self, gives: bool, sight: Sight) -> Result<Option<u64>, Rollback>
-        requires sight { IsSightFor self.old sight }
+        requires sight { IsSightFor self.old (wide_sight self.old sight) }
         requires asked { IsAskedOf self.old gives }
         requires room { HasRoomForPiece self.old }
         ensures settles { Settles self.old self.new }
         ensures few { self.new.used ≤ self.old.used + steps_to_answer gives }
         ensures only_loads { OnlyLoads (trace_in self.old) (trace_in self.new) }
         ensures answers { IfOk result (LookUpAnswers gives self.old self.new) }
-        ensures rolls { IfErr result (LookUpRollsBack self.old self.new sight) }
+        ensures rolls { IfErr result (LookUpRollsBack self.old self.new
+            (wide_sight self.old sight)) }
     {
         if !gives {
             return self.answer_has(sight);

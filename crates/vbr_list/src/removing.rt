@@ -13,6 +13,7 @@ ghost use Rattle.vbr_list.specs.Removing.{Clears, IsMarkedFor, MayExpect, Remove
 ghost use Rattle.vbr_list.specs.RemovingExactly.{RemovesExactly, RemovesKeyExactly, RemovesNodeExactly};
 ghost use Rattle.vbr_list.specs.Traversing.{LocatesFor};
 ghost use Rattle.vbr_list.specs.Walking.{WalksAgain};
+ghost use Rattle.vbr_list.specs.Words.{wide_found, wide_held, wide_marked};
 
 use crate::call::{PendingCall, begin};
 use crate::entries::{Entry, is_node_of};
@@ -72,11 +73,12 @@ impl<N: Nodes> PendingCall<'_, N> {
     // its list, by this pass or another.
     #[inline(always)]
     fn unlink_marked(&mut self, pred: &Held, marked: Marked)
-        requires marked { IsMarkedFor self.old pred.now marked }
+        requires marked { IsMarkedFor self.old (wide_held self.old pred.now)
+            (wide_marked self.old marked) }
         requires room { HasRoomForPiece self.old }
         ensures goes { GoesOn self.old self.new }
         ensures clear { Clears self.old self.new }
-        ensures paid { UnlinksOrSearches self.old self.new pred.now }
+        ensures paid { UnlinksOrSearches self.old self.new (wide_held self.old pred.now) }
     {
         let (outcome, made) = unlink_and_retire(&mut self.at, pred, marked);
         self.used += made;
@@ -95,13 +97,15 @@ impl<N: Nodes> PendingCall<'_, N> {
         expected: Option<u64>,
     ) -> Result<Option<u64>, Rollback>
         requires expects { MayExpect self.old expected }
-        requires locates { LocatesFor self.old found.now }
+        requires locates { LocatesFor self.old (wide_found self.old found.now) }
         requires present { found.now.present ≡ true }
         requires room { HasRoomForPiece self.old }
         ensures settles { Settles self.old self.new }
         ensures some { IfOk result (λ answer. is_some answer ≡ true) }
-        ensures answers { IfOk result (RemoveAnswers expected self.old self.new found.now) }
-        ensures rolls { IfErr result (RemoveRollsBack self.old self.new found.now) }
+        ensures answers { IfOk result
+            (RemoveAnswers expected self.old self.new (wide_found self.old found.now)) }
+        ensures rolls { IfErr result
+            (RemoveRollsBack self.old self.new (wide_found self.old found.now)) }
     {
         let Some(cur) = &found.cur else {
             unreachable!()
@@ -131,11 +135,13 @@ impl<N: Nodes> PendingCall<'_, N> {
         expected: Option<u64>,
     ) -> Result<Option<u64>, Rollback>
         requires expects { MayExpect self.old expected }
-        requires locates { LocatesFor self.old found.now }
+        requires locates { LocatesFor self.old (wide_found self.old found.now) }
         requires room { HasRoomForPiece self.old }
         ensures settles { Settles self.old self.new }
-        ensures answers { IfOk result (RemoveAnswers expected self.old self.new found.now) }
-        ensures rolls { IfErr result (RemoveRollsBack self.old self.new found.now) }
+        ensures answers { IfOk result
+            (RemoveAnswers expected self.old self.new (wide_found self.old found.now)) }
+        ensures rolls { IfErr result
+            (RemoveRollsBack self.old self.new (wide_found self.old found.now)) }
     {
         self.at.law();
         if found.present {

@@ -1,10 +1,12 @@
 //! Replacing a node: its key gets another value, and the old node leaves its list.
 ghost use Rattle.std.specs.Prelude.{◌+◌, ◌≡◌, ◌≤◌, IfOk, IfErr};
+ghost use Rattle.vbr_words.specs.Packing.{unpacked};
 ghost use Rattle.vbr_at_table.specs.StepCosts.{steps_to_birth};
 ghost use Rattle.vbr_list.specs.Inserting.{GivesHandBack, HasHandAndRoom};
 ghost use Rattle.vbr_list.specs.Pieces.{GoesOn, pass_in};
 ghost use Rattle.vbr_list.specs.Replacing.{HasUnused, IsOldNode, KnowsFoundValue, LeavesWithRoom, MayStoreNode, PublishesOrKeeps, ReplacesFound, ReplacesAndLeaves, ReplacesPaid, UnlinksReplaced};
 ghost use Rattle.vbr_list.specs.Settling.{MaySettle, SettlesNone};
+ghost use Rattle.vbr_list.specs.Words.{wide_found, wide_held, wide_marked};
 
 use crate::call::PendingCall;
 use crate::found::Found;
@@ -12,15 +14,19 @@ use crate::helping::unlink_and_retire;
 use crate::removing::walk_on;
 use vbr_at_table::budget::affords;
 use vbr_at_table::{Hand, Held, Marked, birth_after, replace};
-use vbr_words::{Nodes, decode};
+use vbr_words::{Layout, Nodes, decode};
 
 // How many steps it takes to read the birth of what a link names, by the link's word.
 #[inline(always)]
-fn steps_to_birth(word: u64) -> u32
-    ensures is { result ≡ steps_to_birth word }
+fn steps_to_birth(word: u64, layout: Layout) -> u32
+    ensures is { result ≡ steps_to_birth (unpacked layout word) }
     ensures few { result ≤ 2 }
 {
-    if decode(word).slot.is_some() { 2 } else { 0 }
+    if decode(word, layout).slot.is_some() {
+        2
+    } else {
+        0
+    }
 }
 
 impl<N: Nodes> PendingCall<'_, N> {
@@ -33,21 +39,25 @@ impl<N: Nodes> PendingCall<'_, N> {
         value: u64,
         hand: Hand,
     ) -> Result<Marked, Hand>
-        requires read { KnowsFoundValue self.old found.now }
+        requires read { KnowsFoundValue self.old (wide_found self.old found.now) }
         requires hand { HasHandAndRoom (pass_in self.old) hand }
         requires room { self.old.used + 6 ≤ self.old.budget }
         ensures tries { MayStoreNode self.old self.new }
         ensures had { HasUnused (pass_in self.old) (pass_in self.new) result }
-        ensures replaced { IfOk result (ReplacesFound value self.old self.new found.now) }
+        ensures replaced { IfOk result (λ marked.
+            ReplacesFound value self.old self.new (wide_found self.old found.now)
+            (wide_marked self.old marked)) }
         ensures by { PublishesOrKeeps self.old self.new hand result }
-        ensures back { IfErr result (GivesHandBack self.old self.new found.now) }
+        ensures back { IfErr result
+            (GivesHandBack self.old self.new (wide_found self.old found.now)) }
     {
         self.at.law();
         let Some(cur) = &found.cur else {
             unreachable!()
         };
+        let layout = self.at.slots.layout();
         let named = birth_after(&mut self.at, cur);
-        self.used += steps_to_birth(cur.word);
+        self.used += steps_to_birth(cur.word, layout);
         let Ok(birth) = named else {
             return Err(hand);
         };
@@ -62,10 +72,11 @@ impl<N: Nodes> PendingCall<'_, N> {
     // on until it is out of its list, by this pass or another.
     #[inline(always)]
     pub(crate) fn unlink_replaced(&mut self, pred: &Held, marked: Marked)
-        requires old { IsOldNode self.old pred.now marked }
+        requires old { IsOldNode self.old (wide_held self.old pred.now)
+            (wide_marked self.old marked) }
         ensures goes { GoesOn self.old self.new }
         ensures leaves { LeavesWithRoom self.old self.new marked.slot }
-        ensures paid { UnlinksReplaced self.old self.new pred.now marked.slot }
+        ensures paid { UnlinksReplaced self.old self.new (wide_held self.old pred.now) marked.slot }
     {
         self.at.law();
         let fits = affords(self.budget, self.used);
@@ -89,15 +100,17 @@ impl<N: Nodes> PendingCall<'_, N> {
         value: u64,
         hand: Hand,
     ) -> Result<(), Hand>
-        requires read { KnowsFoundValue self.old found.now }
+        requires read { KnowsFoundValue self.old (wide_found self.old found.now) }
         requires hand { HasHandAndRoom (pass_in self.old) hand }
         requires room { self.old.used + 6 ≤ self.old.budget }
         ensures settles { MaySettle self.old self.new }
         ensures had { HasUnused (pass_in self.old) (pass_in self.new) result }
         ensures replaced { IfOk result
-            (λ _. ReplacesAndLeaves value self.old self.new found.now) }
-        ensures paid { IfOk result (λ _. ReplacesPaid self.old self.new found.now) }
-        ensures back { IfErr result (SettlesNone 6 self.old self.new found.now) }
+            (λ _. ReplacesAndLeaves value self.old self.new (wide_found self.old found.now)) }
+        ensures paid { IfOk result
+            (λ _. ReplacesPaid self.old self.new (wide_found self.old found.now)) }
+        ensures back { IfErr result
+            (SettlesNone 6 self.old self.new (wide_found self.old found.now)) }
     {
         self.at.law();
         let marked = match self.replace_found(found, value, hand) {

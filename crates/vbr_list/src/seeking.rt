@@ -53,7 +53,7 @@ fn walk<N: Nodes>(
     let Ok(mut here) = head else {
         return Err(Stop::Again);
     };
-    while decode(here.word).slot.is_some() {
+    while decode(here.word, at.slots.layout()).slot.is_some() {
         if !affords(budget, *used) {
             return Err(Stop::Tired);
         }
@@ -62,13 +62,13 @@ fn walk<N: Nodes>(
             Ok(Visited::Marked(marked)) => here = held_of(marked),
             Ok(Visited::Smaller(node)) => here = node,
             Ok(Visited::Beyond(node, key)) => {
+                let is_last = decode(node.word, at.slots.layout()).slot.is_none();
                 let read = value_if_any(at, &node);
                 *used += steps_to_value_of(at.slots);
                 let Ok(value) = read else {
                     return Err(Stop::Again);
                 };
                 let entry = named(&node, value);
-                let is_last = decode(node.word).slot.is_none();
                 return Ok(Some(NextNode {
                     key,
                     entry,

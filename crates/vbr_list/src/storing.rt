@@ -10,6 +10,7 @@ ghost use Rattle.vbr_list.specs.Storing.{CallsStore, HasUnstored};
 ghost use Rattle.vbr_list.specs.Telling.{KnowsThere};
 ghost use Rattle.vbr_list.specs.Traversing.{LocatesFor};
 ghost use Rattle.vbr_list.specs.declared.wanted.Wanted.TheVariants.{Absent, Anything, Present, Value};
+ghost use Rattle.vbr_list.specs.Words.{wide_found};
 
 use crate::call::{PendingCall, begin};
 use crate::found::Found;
@@ -56,12 +57,14 @@ impl<N: Nodes> PendingCall<'_, N> {
     #[inline(always)]
     fn ask(&mut self, found: &Found, wanted: Wanted) -> Result<Met, Rollback>
         requires values { (trace_in self.old).start.shape.values ≡ true }
-        requires locates { LocatesFor self.old found.now }
+        requires locates { LocatesFor self.old (wide_found self.old found.now) }
         requires open { has_wanted wanted found.now.present ≡ false }
         requires room { HasRoomForPiece self.old }
         ensures asks { Asks self.old self.new }
-        ensures met { IfOk result (AsksMet wanted self.old self.new found.now) }
-        ensures lost { IfErr result (λ _. AskLoses self.old self.new found.now) }
+        ensures met { IfOk result
+            (AsksMet wanted self.old self.new (wide_found self.old found.now)) }
+        ensures lost { IfErr result
+            (λ _. AskLoses self.old self.new (wide_found self.old found.now)) }
     {
         self.at.law();
         let there = self.read_found(found)?;
@@ -132,14 +135,15 @@ impl<N: Nodes> PendingCall<'_, N> {
     // hand comes back.
     #[inline(always)]
     fn link_found(&mut self, found: &Found, value: u64, hand: Hand) -> Result<(), Hand>
-        requires knows { KnowsThere self.old found.now None }
+        requires knows { KnowsThere self.old (wide_found self.old found.now) None }
         requires hand { HasHandAndRoom (pass_in self.old) hand }
         requires room { self.old.used + 6 ≤ self.old.budget }
         ensures settles { MaySettle self.old self.new }
         ensures few { self.new.used ≡ self.old.used + 4 }
         ensures had { HasUnused (pass_in self.old) (pass_in self.new) result }
         ensures stored { IfOk result (λ _. StoresAndLeaves value self.old self.new None) }
-        ensures back { IfErr result (SettlesNone 6 self.old self.new found.now) }
+        ensures back { IfErr result
+            (SettlesNone 6 self.old self.new (wide_found self.old found.now)) }
     {
         self.at.law();
         self.used += 4;
@@ -166,14 +170,16 @@ impl<N: Nodes> PendingCall<'_, N> {
         value: u64,
         hand: Hand,
     ) -> Result<(), Hand>
-        requires knows { KnowsThere self.old found.now there }
+        requires knows { KnowsThere self.old (wide_found self.old found.now) there }
         requires hand { HasHandAndRoom (pass_in self.old) hand }
         requires room { self.old.used + 6 ≤ self.old.budget }
         ensures settles { MaySettle self.old self.new }
         ensures had { HasUnused (pass_in self.old) (pass_in self.new) result }
         ensures stored { IfOk result (λ _. StoresAndLeaves value self.old self.new there) }
-        ensures paid { IfOk result (λ _. ChangePaid self.old self.new found.now there) }
-        ensures back { IfErr result (SettlesNone 6 self.old self.new found.now) }
+        ensures paid { IfOk result
+            (λ _. ChangePaid self.old self.new (wide_found self.old found.now) there) }
+        ensures back { IfErr result
+            (SettlesNone 6 self.old self.new (wide_found self.old found.now)) }
     {
         match there {
             None => self.link_found(found, value, hand),
@@ -191,14 +197,16 @@ impl<N: Nodes> PendingCall<'_, N> {
         wanted: Wanted,
         hand: Hand,
     ) -> Result<Option<u64>, Hand>
-        requires found { LocatesFor self.old found.now }
+        requires found { LocatesFor self.old (wide_found self.old found.now) }
         requires has { HasHandForValue self.old hand }
         requires room { HasRoomForPiece self.old }
         ensures settles { MaySettle self.old self.new }
         ensures had { HasUnstored wanted (pass_in self.old) (pass_in self.new) result }
         ensures answers { IfOk result (StoreAnswers value wanted self.old self.new) }
-        ensures paid { IfOk result (SettlesPaid wanted self.old self.new found.now) }
-        ensures back { IfErr result (SettlesNone 8 self.old self.new found.now) }
+        ensures paid { IfOk result
+            (SettlesPaid wanted self.old self.new (wide_found self.old found.now)) }
+        ensures back { IfErr result
+            (SettlesNone 8 self.old self.new (wide_found self.old found.now)) }
     {
         self.at.law();
         let Ok(there) = self.read_found(found) else {

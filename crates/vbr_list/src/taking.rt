@@ -8,6 +8,7 @@ ghost use Rattle.vbr_list.specs.Inserting.{AnswersNone, Prepares, PreparesHand, 
 ghost use Rattle.vbr_list.specs.Pieces.{HasRoomForPiece, IsSameCall, Replies, pass_in, trace_in};
 ghost use Rattle.vbr_list.specs.Traversing.{LocatesFor};
 ghost use Rattle.vbr_list.specs.declared.wanted.Wanted.TheVariants.{Absent};
+ghost use Rattle.vbr_list.specs.Words.{wide_found};
 
 use crate::call::PendingCall;
 use crate::found::Found;
@@ -21,14 +22,15 @@ impl<N: Nodes> PendingCall<'_, N> {
     /// where the key is present, else a remove.
     #[inline]
     pub(crate) fn answer_no(&mut self, found: &Found) -> Result<(), Rollback>
-        requires locates { LocatesFor self.old found.now }
+        requires locates { LocatesFor self.old (wide_found self.old found.now) }
         requires room { HasRoomForPiece self.old }
         ensures call { IsSameCall self.old self.new }
         ensures keeps { KeepsIn (pass_in self.old) (pass_in self.new) 1 }
         ensures used { self.new.used ≡ self.old.used + 1 }
         ensures made { IfOk result
             (λ _. Replies (denied found.now.present) self.old self.new false) }
-        ensures rolls { IfErr result (λ _. AnswersNone self.old self.new found.now) }
+        ensures rolls { IfErr result
+            (λ _. AnswersNone self.old self.new (wide_found self.old found.now)) }
     {
         self.at.law();
         self.used += 1;

@@ -8,6 +8,7 @@ ghost use Rattle.vbr_list.specs.Inserting.{AnswersNone};
 ghost use Rattle.vbr_list.specs.Pieces.{HasRoomForPiece, IsSameCall, pass_in, trace_in};
 ghost use Rattle.vbr_list.specs.Telling.{KnowsThere, LosesRead, ReadsFound, TellsThere};
 ghost use Rattle.vbr_list.specs.Traversing.{LocatesFor};
+ghost use Rattle.vbr_list.specs.Words.{wide_found};
 
 use crate::call::PendingCall;
 use crate::found::Found;
@@ -20,14 +21,15 @@ impl<N: Nodes> PendingCall<'_, N> {
     #[inline]
     pub(crate) fn read_found(&mut self, found: &Found) -> Result<Option<u64>, Rollback>
         requires values { (trace_in self.old).start.shape.values ≡ true }
-        requires locates { LocatesFor self.old found.now }
+        requires locates { LocatesFor self.old (wide_found self.old found.now) }
         requires room { HasRoomForPiece self.old }
         ensures call { IsSameCall self.old self.new }
         ensures used { self.new.used ≡ self.old.used + steps_where found.now.present }
         ensures reads { ReadsIn (pass_in self.old) (pass_in self.new)
             (steps_where found.now.present) }
-        ensures found { IfOk result (ReadsFound self.old self.new found.now) }
-        ensures lost { IfErr result (λ _. LosesRead self.old self.new found.now) }
+        ensures found { IfOk result (ReadsFound self.old self.new (wide_found self.old found.now)) }
+        ensures lost { IfErr result
+            (λ _. LosesRead self.old self.new (wide_found self.old found.now)) }
     {
         self.at.law();
         if !found.present {
@@ -48,13 +50,14 @@ impl<N: Nodes> PendingCall<'_, N> {
     /// value that was read of the node, or no where the key is absent.
     #[inline]
     pub(crate) fn tell_found(&mut self, found: &Found, there: Option<u64>) -> Result<(), Rollback>
-        requires knows { KnowsThere self.old found.now there }
+        requires knows { KnowsThere self.old (wide_found self.old found.now) there }
         requires left { self.old.used < self.old.budget }
         ensures call { IsSameCall self.old self.new }
         ensures keeps { KeepsIn (pass_in self.old) (pass_in self.new) 1 }
         ensures used { self.new.used ≡ self.old.used + 1 }
         ensures told { IfOk result (λ _. TellsThere self.old self.new there) }
-        ensures lost { IfErr result (λ _. AnswersNone self.old self.new found.now) }
+        ensures lost { IfErr result
+            (λ _. AnswersNone self.old self.new (wide_found self.old found.now)) }
     {
         self.at.law();
         self.used += 1;

@@ -7,6 +7,7 @@ ghost use Rattle.vbr_list.specs.Helping.{Helps, HelpsNone};
 ghost use Rattle.vbr_list.specs.Pieces.{GoesOn, HasRoomForPiece, Observes, pass_in, trace_in};
 ghost use Rattle.vbr_list.specs.Traversing.{HasComeTo, IsPredFor, SearchStops, WalkFinds};
 ghost use Rattle.vbr_list.specs.Visiting.{IsVisit, MeetsBehind, RollsBackFrom, StartsAt, StartsNone};
+ghost use Rattle.vbr_list.specs.Words.{wide_found, wide_held, wide_marked, wide_visited};
 
 use crate::call::PendingCall;
 use crate::found::Found;
@@ -33,10 +34,10 @@ impl<N: Nodes> PendingCall<'_, N> {
         ensures goes { GoesOn self.old self.new }
         ensures observes { Observes (trace_in self.old) (trace_in self.new) }
         ensures used { self.new.used ≡ self.old.used + 3 }
-        ensures head { IfOk result (StartsAt (trace_in self.old) (trace_in self.new)
-            self.old.bucket) }
-        ensures come { IfOk result (HasComeTo (trace_in self.old) (trace_in self.new)
-            self.old.key) }
+        ensures head { IfOk result (λ head. StartsAt (trace_in self.old) (trace_in self.new)
+            self.old.bucket (wide_held self.old head)) }
+        ensures come { IfOk result (λ head. HasComeTo (trace_in self.old) (trace_in self.new)
+            self.old.key (wide_held self.old head)) }
         ensures moved { IfErr result (StartsNone (trace_in self.old) (trace_in self.new)) }
     {
         let head = start_at(&mut self.at, self.bucket);
@@ -47,14 +48,15 @@ impl<N: Nodes> PendingCall<'_, N> {
     // Visits the node that the link of a place names, in three steps if it is marked, else in five.
     #[inline(always)]
     pub(crate) fn visit(&mut self, here: &Held) -> Result<Visited, Rollback>
-        requires held { IsHeld (knows (trace_in self.old)) here.now }
-        requires some { IsSome (link_of here.now.word).slot }
+        requires held { IsHeld (knows (trace_in self.old)) (wide_held self.old here.now) }
+        requires some { IsSome (link_of (wide_held self.old here.now).word).slot }
         requires room { HasRoomForPiece self.old }
         ensures goes { GoesOn self.old self.new }
         ensures observes { Observes (trace_in self.old) (trace_in self.new) }
         ensures used { IsVisit self.old.used self.new.used }
-        ensures met { IfOk result (MeetsBehind (trace_in self.old) (trace_in self.new)
-            self.old.used self.new.used here.now self.old.key) }
+        ensures met { IfOk result (λ met. MeetsBehind (trace_in self.old) (trace_in self.new)
+            self.old.used self.new.used (wide_held self.old here.now) self.old.key
+            (wide_visited self.old met)) }
         ensures moved { IfErr result (RollsBackFrom (trace_in self.old) (trace_in self.new)) }
     {
         // Once it is read, its range is known: so the steps that it has room for are counted without overflow.
@@ -68,14 +70,18 @@ impl<N: Nodes> PendingCall<'_, N> {
     // register for these.
     #[inline(always)]
     fn help(&mut self, pred: Held, marked: Marked) -> Result<Held, Rollback>
-        requires pred { IsPredFor self.old pred }
-        requires marked { HoldsMarked (knows (trace_in self.old)) marked }
-        requires names { Names pred marked.slot }
+        requires pred { IsPredFor self.old (wide_held self.old pred) }
+        requires marked { HoldsMarked (knows (trace_in self.old))
+            (wide_marked self.old marked) }
+        requires names { Names (wide_held self.old pred) marked.slot }
         requires room { HasRoomForPiece self.old }
         ensures goes { GoesOn self.old self.new }
         ensures few { self.new.used ≤ self.old.used + 6 }
-        ensures helps { IfOk result (Helps (pass_in self.old) (pass_in self.new) pred marked) }
-        ensures lost { IfErr result (HelpsNone (pass_in self.old) (pass_in self.new) pred) }
+        ensures helps { IfOk result (λ place. Helps (pass_in self.old) (pass_in self.new)
+            (wide_held self.old pred) (wide_marked self.old marked)
+            (wide_held self.old place)) }
+        ensures lost { IfErr result (HelpsNone (pass_in self.old) (pass_in self.new)
+            (wide_held self.old pred)) }
     {
         let epoch = marked.epoch;
         let (outcome, made) = help_by_copy(&mut self.at, Held { epoch, ..pred }, marked);
@@ -91,7 +97,8 @@ impl<N: Nodes> PendingCall<'_, N> {
     #[inline(always)]
     pub(crate) fn traverse(&mut self) -> Result<Found, Stop>
         ensures goes { GoesOn self.old self.new }
-        ensures found { IfOk result (WalkFinds self.old self.new) }
+        ensures found { IfOk result (λ told.
+            WalkFinds self.old self.new (wide_found self.old told)) }
         ensures stopped { IfErr result (SearchStops self.old self.new) }
     {
         self.at.law();
@@ -101,7 +108,7 @@ impl<N: Nodes> PendingCall<'_, N> {
         let Ok(mut pred) = self.start() else {
             return Err(Stop::Again);
         };
-        while decode(pred.word).slot.is_some() {
+        while decode(pred.word, self.at.slots.layout()).slot.is_some() {
             if !affords(self.budget, self.used) {
                 return Err(Stop::Tired);
             }

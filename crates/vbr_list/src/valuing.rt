@@ -2,7 +2,7 @@
 ghost use Rattle.std.specs.Prelude.{◌≡◌, IfOk, IfErr};
 ghost use Rattle.vbr_slots.specs.AtTables.{IsSameTable, pass_of, trace_of};
 ghost use Rattle.vbr_slots.specs.Views.{knows};
-ghost use Rattle.vbr_at_table.specs.Held.{IsHeld, IsSlot};
+ghost use Rattle.vbr_at_table.specs.Held.{IsHeld, IsSlot, said};
 ghost use Rattle.vbr_at_table.specs.Reading.{ReadsIn};
 ghost use Rattle.vbr_at_table.specs.Values.{steps_to_update};
 ghost use Rattle.vbr_list.specs.Budgets.{steps_to_value_of};
@@ -16,7 +16,7 @@ use vbr_words::Nodes;
 /// Reads the value of a node, in two steps, where nodes have values; else it makes no step, and gives 0.
 #[inline(always)]
 pub(crate) fn value_if_any<N: Nodes>(at: &mut AtTable<'_, N>, node: &Held) -> Result<u64, Rollback>
-    requires held { IsHeld (knows (trace_of at.old)) node.now }
+    requires held { IsHeld (knows (trace_of at.old)) (said at.old.slots.now node.now) }
     requires slot { IsSlot node.now.at }
     ensures table { IsSameTable at.old at.new }
     ensures reads { ReadsIn (pass_of at.old) (pass_of at.new)

@@ -4,11 +4,12 @@ ghost use Rattle.std.specs.Prelude.{◌+◌, ◌<◌, ◌≤◌, IsSome, IfOk, I
 ghost use Rattle.vbr_words.specs.Words.{link_of};
 ghost use Rattle.vbr_slots.specs.AtTables.{IsSameTable, pass_of, trace_of};
 ghost use Rattle.vbr_slots.specs.Views.{knows};
-ghost use Rattle.vbr_at_table.specs.Held.{IsHeld};
+ghost use Rattle.vbr_at_table.specs.Held.{IsHeld, said};
 ghost use Rattle.vbr_at_table.specs.Reading.{ReadsIn};
 ghost use Rattle.vbr_at_table.specs.declared.budget.TheConstants.{PIECE};
 ghost use Rattle.vbr_list.specs.Pieces.{LooksOn};
 ghost use Rattle.vbr_list.specs.Visiting.{IsVisit, MeetsBehind, RollsBackFrom, StartsAt, StartsNone};
+ghost use Rattle.vbr_list.specs.Words.{said_visited};
 
 use vbr_at_table::{Held, Marked, Rollback, checkpoint, first, key_of, next};
 use vbr_slots::AtTable;
@@ -31,7 +32,8 @@ pub(crate) fn start_at<N: Nodes>(at: &mut AtTable<'_, N>, bucket: u32) -> Result
     requires bucket { bucket < at.old.slots.now.start.shape.buckets }
     ensures table { IsSameTable at.old at.new }
     ensures reads { ReadsIn (pass_of at.old) (pass_of at.new) 3 }
-    ensures head { IfOk result (StartsAt (trace_of at.old) (trace_of at.new) bucket) }
+    ensures head { IfOk result (λ head.
+        StartsAt (trace_of at.old) (trace_of at.new) bucket (said at.old.slots.now head)) }
     ensures moved { IfErr result (StartsNone (trace_of at.old) (trace_of at.new)) }
 {
     let point = checkpoint(at);
@@ -46,20 +48,21 @@ pub(crate) fn visit_behind<N: Nodes>(
     number: u64,
     used: &mut u32,
 ) -> Result<Visited, Rollback>
-    requires held { IsHeld (knows (trace_of at.old)) here.now }
-    requires some { IsSome (link_of here.now.word).slot }
+    requires held { IsHeld (knows (trace_of at.old)) (said at.old.slots.now here.now) }
+    requires some { IsSome (link_of (said at.old.slots.now here.now).word).slot }
     requires room { used.old + PIECE ≤ 4294967295 }
     ensures table { IsSameTable at.old at.new }
     ensures looks { LooksOn (pass_of at.old) (pass_of at.new) used.old used.new }
     ensures used { IsVisit used.old used.new }
-    ensures met { IfOk result (MeetsBehind (trace_of at.old) (trace_of at.new)
-        used.old used.new here.now number) }
+    ensures met { IfOk result (λ met. MeetsBehind (trace_of at.old) (trace_of at.new)
+        used.old used.new (said at.old.slots.now here.now) number
+        (said_visited at.old.slots.now met)) }
     ensures moved { IfErr result (RollsBackFrom (trace_of at.old) (trace_of at.new)) }
 {
     let node = next(at, here);
     *used += 3;
     let Some(node) = node? else { unreachable!() };
-    if let Some(marked) = Marked::of(&node) {
+    if let Some(marked) = Marked::of(&node, at.slots.layout()) {
         return Ok(Visited::Marked(marked));
     }
     let read = key_of(at, &node);

@@ -112,3 +112,5 @@ pub use Rattle.vbr_machine.proofs.records.Entries.{entry_shown, same_birth_same_
 pub use Rattle.vbr_machine.proofs.records.Hands.{in_hand_alone, in_hand_new, in_hand_throughout}
 pub use Rattle.vbr_machine.proofs.records.KeptHands.{in_hand_since_its_birth}
 pub use Rattle.vbr_machine.proofs.records.Published.{published_entry, replacing_entry}
+-- The words of links that stand anywhere, and those that exchanges and stores of links expect and write, have room.
+pub use Rattle.vbr_machine.proofs.steps.FittingLinks.{exchanged_room, standing_room, stored_room}

@@ -16,3 +16,4 @@ pub mod Replacing
 pub mod UnlinkSteps
 pub mod Unlinking
 pub mod GivingUp
+pub mod FittingLinks

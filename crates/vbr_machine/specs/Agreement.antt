@@ -2,7 +2,7 @@
 use Rattle.std.specs.Prelude.{◌≡◌, ◌≢◌, ℕ, ◌-◌, ◌^◌, ◌<◌, ◌≤◌, min, Bool, true, false, List, map, Option, Some, None}
 use Rattle.std.specs.List.{AllByRecursion}
 use Rattle.vbr_machine.specs.Start.{Start, IsStart}
-use Rattle.vbr_words.specs.Words.{IsLink}
+use Rattle.vbr_words.specs.Links.{IsLinkOf}
 use Rattle.vbr_words.specs.declared.link.Link.{Link}
 use Rattle.vbr_words.specs.declared.place.At.{At}
 use Rattle.vbr_words.specs.declared.place.At.TheVariants.{Head, Slot}
@@ -154,7 +154,7 @@ pub record Fits (start : Start) (a : Incarnations) : Type 0 where
   pub is_start : IsStart start
   pub epoch : a.epoch ≤ start.shape.last_epoch
   pub slot : (c : ℕ) → c < a.count → a.slot c < start.shape.slots
-  pub link : (c : ℕ) → IsLink (a.link c)
+  pub link : (c : ℕ) → IsLinkOf start.shape (a.link c)
 
 -- a world, the incarnations of its chronicle and the notes of its passes agree; the births are counted up to the greatest number
 pub record Agrees (start : Start) (w : World) (a : Incarnations) (notes : ℕ → Notes) : Type 0 where

@@ -4,7 +4,7 @@ use Rattle.vbr_machine.specs.Start.{Start}
 use Rattle.vbr_words.specs.Words.{word_of}
 use Rattle.vbr_words.specs.Flags.{word_of_flag, flag_of, all_but, flag_word}
 use Rattle.vbr_words.specs.Places as places
-use Rattle.vbr_words.specs.declared.link.TheConstants.{MARK}
+use Rattle.vbr_words.specs.Packing.{slot_bits}
 use Rattle.vbr_words.specs.declared.link.Link.{Link}
 use Rattle.vbr_words.specs.declared.place.At.{At}
 use Rattle.vbr_words.specs.declared.place.At.TheVariants.{Head, Slot}
@@ -74,7 +74,7 @@ is_flagged start w s = nat_lt s start.shape.slots && is_shared (w.place s)
 
 -- the word that says what the shape is
 abbrev pub shape_word : Start → ℕ
-shape_word start = start.shape.slots + MARK * start.shape.last_epoch
+shape_word start = start.shape.slots + 2 ^ slot_bits start.shape.slots * start.shape.last_epoch
 
 -- the word at a place
 abbrev pub word_at : Start → World → Place → ℕ

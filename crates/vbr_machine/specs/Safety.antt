@@ -1,7 +1,7 @@
 -- What is true of every run.
 use Rattle.std.specs.Prelude.{◌≡◌, ℕ, ◌-◌, ◌^◌, ◌≤◌, min, List, ◌∷◌, ◌++◌, Option, Some, None, IsTrue}
 use Rattle.vbr_machine.specs.Start.{Start}
-use Rattle.vbr_words.specs.Words.{IsLink}
+use Rattle.vbr_words.specs.Links.{IsLinkOf}
 use Rattle.vbr_words.specs.declared.place.At.{At}
 use Rattle.vbr_machine.specs.Opened.{opening_keys, opening_payloads}
 use Rattle.vbr_machine.specs.History.{IsLegal, GiveStored}
@@ -103,7 +103,7 @@ pub record KnowsRight (start : Start) (run : List Event) (pass : ℕ) : Type 0 w
 
 -- a run is safe: it is what a lawful chronicle of incarnations stands for, and each of its exchanges and reads is right
 -- The words are the image of the chronicle. The calls are those of the chronicle, legal, and give the values that were stored. Births are counted.
--- The epoch is at most the last one, and each link fits into a word. What each pass knows is right, and each slot is in exactly one place.
+-- The epoch is at most the last one, and each link is one of the shape, for which a word has room. What each pass knows is right, and each slot is in exactly one place.
 -- Each exchange of a link that an event wins is right. No event bears in a slot whose last incarnation isn't over.
 pub record IsSafe (start : Start) (run : List Event) : Type 0 where
   pub lawful : IsLawful start (opening_keys start) (at_opening start) (chronicle start run)
@@ -113,7 +113,7 @@ pub record IsSafe (start : Start) (run : List Event) : Type 0 where
   pub values : GiveStored (opening_payloads start) (world_after start run).calls
   pub births : (world_after start run).births ≡ min (incarnations_after start run).count (2 ^ 64 - 1)
   pub epoch : (world_after start run).epoch ≤ start.shape.last_epoch
-  pub links : (place : At) → IsLink (link_at (world_after start run) place)
+  pub links : (place : At) → IsLinkOf start.shape (link_at (world_after start run) place)
   pub knows : (pass : ℕ) → KnowsRight start run pass
   pub slots : (passes : ℕ) → IsRun start passes run → ArePlaced start passes (world_after start run) (incarnations_after start run)
   pub exchanges : (before after : List Event) (event : Event) → run ≡ before ++ event ∷ after → IsRightAfter start before event

@@ -2,7 +2,7 @@
 use crate::history::Op;
 use std::error::Error;
 use std::fmt;
-use vbr_words::At;
+use vbr_words::{At, WideWord};
 
 /// One step of one pass.
 #[derive(Clone, Copy, Debug, PartialEq, Eq)]
@@ -84,32 +84,32 @@ pub enum Step {
     /// Links the incarnation in hand behind `pred`, if the word there is `expected`: an insert.
     Publish {
         pred: At,
-        expected: u64,
+        expected: WideWord,
         slot: u32,
     },
     /// Marks a node, if its link word is `expected`: a remove.
     Mark {
         slot: u32,
-        expected: u64,
+        expected: WideWord,
     },
     /// Marks a node, if its link word is `expected`, and links the incarnation in hand, which has its
     /// key, in its place: a remove and an insert in one step, where nodes have values.
     Replace {
         slot: u32,
-        expected: u64,
+        expected: WideWord,
         new: u32,
     },
     /// Unlinks a marked node behind `pred`, if the word there is `expected`.
     Unlink {
         pred: At,
-        expected: u64,
+        expected: WideWord,
         slot: u32,
     },
     /// Loads the link of a node; if it is `expected`, its key is present.
     ConfirmPresent {
         op: Op,
         slot: u32,
-        expected: u64,
+        expected: WideWord,
     },
     /// Loads a link word; if it is `expected`, the key, which would stand behind it, is absent.
     /// Marked nodes may stand between.
@@ -117,21 +117,21 @@ pub enum Step {
         op: Op,
         key: u64,
         at: At,
-        expected: u64,
+        expected: WideWord,
     },
 }
 
 /// What a step answers.
 #[derive(Clone, Copy, Debug, PartialEq, Eq)]
 pub enum Effect {
-    /// The value that was loaded.
-    Value(u64),
+    /// The word that was loaded. Of a link word it is the number, as [`WideWord`] has it.
+    Value(u128),
     /// The store was made.
     Done,
     /// The exchange was made.
     Won,
     /// The exchange, or the confirming load, found this word and not the expected one.
-    Lost(u64),
+    Lost(u128),
     /// The confirming load found the expected word, and the call is answered so.
     Answered(bool),
 }

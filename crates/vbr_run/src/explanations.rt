@@ -32,7 +32,7 @@ pub fn explanation(name: &str) -> Option<&'static str>
 const SHAPE_1: &str = "\
 vbr_run: shape fault 1
 
---slots isn't from 1 to 16777215. A slot holds one key at a time: take the most keys
+--slots isn't from 1 to 2147483647. A slot holds one key at a time: take the most keys
 that the script has at one time, and 64 more for each worker.
 ";
 
@@ -46,8 +46,11 @@ up to that number.
 const SHAPE_3: &str = "\
 vbr_run: shape fault 3
 
---last-epoch isn't from 1 to 549755813887. Leave the option out: the greatest number is
-its own value.
+--last-epoch is 0, or greater than so many slots leave room for. Up to 4095 slots leave
+room for 2251799813685247, up to 1048575 for 8796093022207, up to 16777215 for
+549755813887, and 2147483647 for 4294967295. Leave the option out: its own value,
+549755813887, is taken with any number of slots, and means the greatest where they
+leave room for less.
 ";
 
 const SCRIPT_1: &str = "\

@@ -1,11 +1,9 @@
 -- What is listed and counted of the nodes, slot by slot.
 use Rattle.std.proofs.Common.{◌≡◌, ℕ, suc, ◌+◌, ◌<◌, Bool, true, false, cond, List, [], ◌∷◌, ◌++◌, refl, sym, ap, ◌∙◌}
 use Rattle.std.proofs.Common.{add-one}
-use Rattle.std.specs.Prelude.{not, slice_index}
+use Rattle.std.specs.Prelude.{not}
 use Rattle.std.proofs.lemmas.Bool.{false≢true, true≢false}
 use Rattle.vbr_machine.specs.Start.{Start}
-use Rattle.vbr_words.specs.Places.{index_of}
-use Rattle.vbr_words.specs.Words.{link_of}
 use Rattle.vbr_words.specs.declared.link.Link.{Link}
 use Rattle.vbr_words.specs.declared.place.At.TheVariants.{Slot}
 use Rattle.vbr_words.specs.declared.place.Place.TheVariants as place
@@ -14,7 +12,7 @@ use Rattle.vbr_machine.specs.Incarnations.{State, Unborn, InHand, GivenUp, Linke
 use Rattle.vbr_machine.specs.Incarnations.{Incarnations}
 use Rattle.vbr_machine.specs.declared.event.Event.{Event}
 use Rattle.vbr_machine.specs.Nodes.{count_below, is_linked, is_marked, state_in, is_listed}
-use Rattle.vbr_set.specs.Walking.{AreAfter, NotesLists, linked_of, is_noted}
+use Rattle.vbr_set.specs.Walking.{AreAfter, NotesLists, linked_of, is_noted, link_in}
 use Rattle.vbr_set.proofs.ShownNodes.{link_read, mark_of_node}
 use Rattle.vbr_machine.proofs.Lemmas.{stands_in}
 
@@ -84,7 +82,7 @@ gathered_skip {T} {tell} {a} {s} start notes lists low absent g =
 -- whether the node in a list is marked is what its link says
 mark_read : {start : Start} {words : List ℕ} {run : List Event} → AreAfter start words run → (s : ℕ) →
     s < start.shape.slots → is_listed (state_in (incarnations_after start run) s) ≡ true →
-    (link_of (slice_index words (index_of start.shape (place.LinkOf s)))).mark
+    (link_in start.shape words (place.LinkOf s)).mark
     ≡ is_marked (state_in (incarnations_after start run) s)
 mark_read {start} {words} {run} x s low listed = ap (λ (l : Link). l.mark) (link_read x (Slot s) low)
     ∙ mark_of_node (stands_in (incarnations_after start run) s listed).1
@@ -93,7 +91,7 @@ mark_read {start} {words} {run} x s low listed = ap (λ (l : Link). l.mark) (lin
 pub gathered_marked : {T : Type 0} {tell : ℕ → T} {start : Start} {words : List ℕ} {run : List Event}
     {s live marked : ℕ} {listed : List T} (notes : List Bool) → AreAfter start words run →
     NotesLists start (incarnations_after start run) notes → s < start.shape.slots → is_noted notes s ≡ true
-    → (link_of (slice_index words (index_of start.shape (place.LinkOf s)))).mark ≡ true →
+    → (link_in start.shape words (place.LinkOf s)).mark ≡ true →
     Gathered tell (incarnations_after start run) s listed live marked →
     Gathered tell (incarnations_after start run) (s + 1) listed live (marked + 1)
 gathered_marked {T} {tell} {start} {words} {run} {s} notes x lists low there mark g =
@@ -111,7 +109,7 @@ gathered_marked {T} {tell} {start} {words} {run} {s} notes x lists low there mar
 pub gathered_linked : {T : Type 0} {tell : ℕ → T} {start : Start} {words : List ℕ} {run : List Event}
     {s live marked : ℕ} {listed : List T} (told : T) (notes : List Bool) → AreAfter start words run →
     NotesLists start (incarnations_after start run) notes → s < start.shape.slots → is_noted notes s ≡ true
-    → (link_of (slice_index words (index_of start.shape (place.LinkOf s)))).mark ≡ false → told ≡ tell s →
+    → (link_in start.shape words (place.LinkOf s)).mark ≡ false → told ≡ tell s →
     Gathered tell (incarnations_after start run) s listed live marked →
     Gathered tell (incarnations_after start run) (s + 1) (listed ++ told ∷ []) (live + 1) marked
 gathered_linked {T} {tell} {start} {words} {run} {s} told notes x lists low there mark is_told g =

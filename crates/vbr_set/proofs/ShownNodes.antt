@@ -3,11 +3,12 @@ use Rattle.std.proofs.Common.{◌≡◌, ℕ, ◌<◌, List, Option, refl, sym, 
 use Rattle.std.specs.Prelude.{slice_index}
 use Rattle.vbr_machine.specs.Start.{Start}
 use Rattle.vbr_words.specs.Places.{IsIn, index_of, place_of}
-use Rattle.vbr_words.specs.Words.{link_of}
+use Rattle.vbr_words.specs.Packing.{packed, slot_bits, unpacked}
+use Rattle.vbr_words.specs.Words.{link_of, word_of}
 use Rattle.vbr_words.specs.declared.place.At.{At}
 use Rattle.vbr_words.specs.declared.place.At.TheVariants.{Head, Slot}
 use Rattle.vbr_words.specs.declared.place.Place.TheVariants as place
-use Rattle.vbr_words.proofs.Lemmas.{link_of-word_of}
+use Rattle.vbr_words.proofs.Lemmas.{is_link, link_of-word_of, unpacked-packed}
 use Rattle.vbr_machine.specs.Accounts.{incarnations_after, notes_after}
 use Rattle.vbr_machine.specs.Agreement.{Agrees}
 use Rattle.vbr_machine.specs.Images.{slot_shown, link_in_state, link_shown, link_shown_at, value_shown}
@@ -17,9 +18,10 @@ use Rattle.vbr_machine.specs.Runs.{world_after}
 use Rattle.vbr_machine.specs.Safety.{IsSafe}
 use Rattle.vbr_machine.specs.Sound.{IsListed}
 use Rattle.vbr_machine.specs.declared.event.Event.{Event}
-use Rattle.vbr_machine.proofs.Lemmas.{every_run, run_agrees}
+use Rattle.vbr_machine.specs.Machine.{World, link_at}
+use Rattle.vbr_machine.proofs.Lemmas.{every_run, run_agrees, standing_room}
 use Rattle.vbr_machine.specs.Nodes.{state_shown, state_in, is_marked, key_in_slot, Stands}
-use Rattle.vbr_set.specs.Walking.{AreAfter}
+use Rattle.vbr_set.specs.Walking.{AreAfter, link_in}
 
 -- ---- words
 
@@ -33,12 +35,28 @@ safe {start} {words} {run} x = every_run start x.passes run x.is_start x.is_run
 -- the link of a word is the one that the incarnations show there
 pub link_read : {start : Start} {words : List ℕ} {run : List Event} → AreAfter start words run → (holder : At) →
     IsIn start.shape (place_of holder) →
-    link_of (slice_index words (index_of start.shape (place_of holder)))
+    link_in start.shape words (place_of holder)
     ≡ link_shown_at (incarnations_after start run) holder
-link_read {start} {words} {run} x (Head b) is = ap link_of (x.are.each (place.Head b) is)
-    ∙ link_of-word_of ((world_after start run).head b) ((safe x).links (Head b)) ∙ (agrees x).image.head b
-link_read {start} {words} {run} x (Slot s) is = ap link_of (x.are.each (place.LinkOf s) is)
-    ∙ link_of-word_of ((world_after start run).link s) ((safe x).links (Slot s)) ∙ (agrees x).image.link s
+link_read {start} {words} {run} x holder is =
+    ap (λ (n : ℕ). link_of (unpacked bits n)) (at holder is)
+    ∙ ap link_of (unpacked-packed bits (word_of (link_at w holder)) (standing_room start w _ _ 0 (agrees x) holder))
+    ∙ link_of-word_of (link_at w holder) (is_link x.is_start.shape ((safe x).links holder))
+    ∙ image holder
+  where
+    bits : ℕ
+    bits = slot_bits start.shape.slots
+
+    w : World
+    w = world_after start run
+
+    at : (holder : At) → IsIn start.shape (place_of holder) →
+        slice_index words (index_of start.shape (place_of holder)) ≡ packed bits (word_of (link_at w holder))
+    at (Head b) is = x.are.each (place.Head b) is
+    at (Slot s) is = x.are.each (place.LinkOf s) is
+
+    image : (holder : At) → link_at w holder ≡ link_shown_at (incarnations_after start run) holder
+    image (Head b) = (agrees x).image.head b
+    image (Slot s) = (agrees x).image.link s
 
 pub key_read : {start : Start} {words : List ℕ} {run : List Event} → AreAfter start words run → (s : ℕ) →
     s < start.shape.slots →

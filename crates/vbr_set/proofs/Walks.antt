@@ -1,12 +1,10 @@
 -- The slots noted along a bucket's list are those whose nodes stand before the one that is reached.
 use Rattle.std.proofs.Common.{◌≡◌, ◌≢◌, ℕ, zero, suc, ◌<◌, ◌≤◌, Bool, true, false, List, length, set, Option, Some}
 use Rattle.std.proofs.Common.{None, refl, sym, ap, ◌∙◌, subst, inl, inr, arith, get_or-set_other, get_or-set_same}
-use Rattle.std.specs.Prelude.{slice_index, nat_lt, ◌&&◌, ◌||◌, ◌⊎◌, if◌then◌else◌}
+use Rattle.std.specs.Prelude.{nat_lt, ◌&&◌, ◌||◌, ◌⊎◌, if◌then◌else◌}
 use Rattle.std.proofs.lemmas.Bool.{and_from, and_left, cases_Bool, cases_eq, lt-ltb}
 use Rattle.vbr_words.specs.Dimensions.{Dimensions}
 use Rattle.vbr_machine.specs.Start.{Start}
-use Rattle.vbr_words.specs.Places.{index_of}
-use Rattle.vbr_words.specs.Words.{link_of}
 use Rattle.vbr_words.specs.declared.link.Link.{Link}
 use Rattle.vbr_words.specs.declared.place.At.TheVariants.{Head, Slot}
 use Rattle.vbr_words.specs.declared.place.Place.TheVariants as place
@@ -22,7 +20,7 @@ use Rattle.vbr_machine.proofs.Lemmas.{in_list_from, in_list_is, lower_is, lower_
 use Rattle.vbr_machine.proofs.Lemmas.{one_fewer, slot_is_one, stands_key, stands_rank, stands_there}
 use Rattle.vbr_machine.specs.Nodes.{state_in, behind, count_below, is_behind, is_in_list, is_listed, is_lower}
 use Rattle.vbr_machine.specs.Nodes.{key_in_slot, rank_in_slot, Stands, InList}
-use Rattle.vbr_set.specs.Walking.{AreAfter, NotesList, NotesLists, is_noted}
+use Rattle.vbr_set.specs.Walking.{AreAfter, NotesList, NotesLists, is_noted, link_in}
 use Rattle.vbr_set.proofs.ShownNodes.{agrees, link_read, next_of_node}
 
 -- whether the node of a slot stands before the node that is reached, or there is none any more
@@ -53,7 +51,7 @@ abbrev pub turns : Dimensions → List ℕ → ℕ → Option ℕ → ℕ
 turns shape words zero next = 0
 turns shape words (suc n) None = 0
 turns shape words (suc n) (Some t) =
-    suc (turns shape words n (link_of (slice_index words (index_of shape (place.LinkOf t)))).slot)
+    suc (turns shape words n (link_in shape words (place.LinkOf t)).slot)
 
 -- how far the walk still goes: it meets each slot once at most
 abbrev pub left : Dimensions → List ℕ → Option ℕ → ℕ
@@ -170,7 +168,7 @@ first_reached sound fits bucket (Some n) is =
 pub walk_first : {start : Start} {words : List ℕ} {run : List Event} → AreAfter start words run →
     (bucket : ℕ) (notes : List Bool) → bucket < start.shape.buckets
     → Walked start (incarnations_after start run) bucket notes notes
-    (link_of (slice_index words (index_of start.shape (place.Head bucket)))).slot
+    (link_in start.shape words (place.Head bucket)).slot
 walk_first {start} {words} {run} x bucket notes low =
     let a = incarnations_after start run in
     let g = agrees x in
@@ -239,7 +237,7 @@ pub walk_next : {start : Start} {words : List ℕ} {run : List Event} → AreAft
     (bucket : ℕ) (before now : List Bool) (t : ℕ) → length now ≡ start.shape.slots →
     Walked start (incarnations_after start run) bucket before now (Some t)
     → Walked start (incarnations_after start run) bucket before (set now t true)
-    (link_of (slice_index words (index_of start.shape (place.LinkOf t)))).slot
+    (link_in start.shape words (place.LinkOf t)).slot
 walk_next {start} {words} {run} x bucket before now t room walked =
     let a = incarnations_after start run in
     let g = agrees x in
@@ -272,7 +270,7 @@ module _ {start : Start} {words : List ℕ} {run : List Event} (x : AreAfter sta
   after = incarnations_after start run
 
   named : (t c : ℕ) → t < start.shape.slots → InList start after bucket t c →
-      (link_of (slice_index words (index_of start.shape (place.LinkOf t)))).slot ≡ slot_shown after (after.next c)
+      (link_in start.shape words (place.LinkOf t)).slot ≡ slot_shown after (after.next c)
   named t c low here = ap (λ (l : Link). l.slot) (link_read x (Slot t) low) ∙ next_of_node here.stands
 
   -- the successor is in the list, and has one node fewer behind it
@@ -313,7 +311,7 @@ module _ {start : Start} {words : List ℕ} {run : List Event} (x : AreAfter sta
           earlier m there.0 there.1 (omega (arith, few, fewer))
 
   nearer : (t c : ℕ) → t < start.shape.slots → InList start after bucket t c →
-      left start.shape words (link_of (slice_index words (index_of start.shape (place.LinkOf t)))).slot
+      left start.shape words (link_in start.shape words (place.LinkOf t)).slot
       < left start.shape words (Some t)
   nearer t c low here = subst Q (sym (named t c low here)) (go (after.next c) refl)
     where
@@ -333,7 +331,7 @@ module _ {start : Start} {words : List ℕ} {run : List Event} (x : AreAfter sta
 pub walk_nearer : {start : Start} {words : List ℕ} {run : List Event} → AreAfter start words run →
     (bucket : ℕ) (before now : List Bool) (t : ℕ) →
     Walked start (incarnations_after start run) bucket before now (Some t)
-    → left start.shape words (link_of (slice_index words (index_of start.shape (place.LinkOf t)))).slot
+    → left start.shape words (link_in start.shape words (place.LinkOf t)).slot
     < left start.shape words (Some t)
 walk_nearer {start} {words} {run} x bucket before now t walked =
     let node = in_list_from start (incarnations_after start run) bucket t walked.reached.1 in

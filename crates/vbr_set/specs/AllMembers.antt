@@ -1,12 +1,9 @@
 -- How a set ends by all its members at once, and what they get.
 use Rattle.std.specs.Prelude.{◌≡◌, ◌<◌, ◌≤◌, List, [], ◌∷◌, length, map}
 use Rattle.vbr_slots.specs.Views.{PassView, TableView}
-use Rattle.vbr_set.specs.Closing.{Closes, MapCloses}
 use Rattle.vbr_set.specs.Members.{MemberView}
 use Rattle.vbr_set.specs.declared.close_all_error.CloseAllError.{CloseAllError}
 use Rattle.vbr_set.specs.declared.close_all_error.CloseAllError.TheVariants.{Missing, Memory}
-use Rattle.vbr_set.specs.declared.report.MapReport.{MapReport}
-use Rattle.vbr_set.specs.declared.report.Report.{Report}
 
 -- all are of the set
 abbrev pub AreOfSet : TableView → List MemberView → Type 0
@@ -30,14 +27,6 @@ module _ {R : Type 0} (tells : TableView → List PassView → R → Type 0) whe
     pub of_set : AreOfSet set members
     pub all : set.passes ≤ length members
     pub closes : tells set (map (λ m. m.pass) members) report
-
--- so it is of a set, whose report has keys
-abbrev pub ReportsAll : List MemberView → Report → Type 0
-ReportsAll = ReportsAllBy Closes
-
--- and so of a map, whose report has entries
-abbrev pub ReportsAllEntries : List MemberView → MapReport → Type 0
-ReportsAllEntries = ReportsAllBy MapCloses
 
 -- the members come back as they were
 abbrev pub HasBack : List MemberView → CloseAllError MemberView → Type 0

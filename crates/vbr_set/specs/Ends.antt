@@ -3,13 +3,10 @@ use Rattle.std.specs.Prelude.{◌≡◌, ℕ, ◌<◌, List, length, slice_index
 use Rattle.vbr_slots.specs.Views.{PassView, TableView}
 use Rattle.vbr_at_table.specs.GivingSlotsBack.{GivesSlotsBack}
 use Rattle.vbr_set.specs.LettingGo.{LetsGo}
-use Rattle.vbr_set.specs.Closing.{Closes, MapCloses}
 use Rattle.vbr_set.specs.Members.{MemberView, as_member}
 use Rattle.vbr_set.specs.Sharing.{ArePassesOf}
 use Rattle.vbr_set.specs.declared.end_error.EndError.{EndError}
 use Rattle.vbr_set.specs.declared.end_error.EndError.TheVariants.{Lost, Memory}
-use Rattle.vbr_set.specs.declared.report.MapReport.{MapReport}
-use Rattle.vbr_set.specs.declared.report.Report.{Report}
 
 -- each pass stands at its number
 abbrev pub AreNumbered : List PassView → Type 0
@@ -28,14 +25,6 @@ module _ {R : Type 0} (tells : TableView → List PassView → R → Type 0) whe
     pub all : AreAll set passes
     pub own : (d : PassView) → slice_index_or passes pass.trace.who d ≡ pass
     pub closes : tells set passes report
-
--- so it is of a set, whose report has keys
-abbrev pub EndsWith : TableView → PassView → Report → Type 0
-EndsWith = EndsBy Closes
-
--- and so of a map, whose report has entries
-abbrev pub EndsMapWith : TableView → PassView → MapReport → Type 0
-EndsMapWith = EndsBy MapCloses
 
 -- where there is no memory, the member comes back as it was
 abbrev pub IsBack : MemberView → EndError MemberView → Type 0

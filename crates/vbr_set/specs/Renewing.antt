@@ -2,11 +2,9 @@
 use Rattle.std.specs.Prelude.{◌≡◌, List}
 use Rattle.vbr_slots.specs.Views.{PassView, TableView}
 use Rattle.vbr_set.specs.Closing.{ClosesBy}
-use Rattle.vbr_set.specs.Kinds.{KindOf, as_map, as_set}
+use Rattle.vbr_set.specs.Kinds.{KindOf}
 use Rattle.vbr_set.specs.declared.renew_error.RenewError.{RenewError}
 use Rattle.vbr_set.specs.declared.renew_error.RenewError.TheVariants.{Missing, Memory, Closed}
-use Rattle.vbr_set.specs.declared.report.MapReport.{MapReport}
-use Rattle.vbr_set.specs.declared.report.Report.{Report}
 
 module _ {Item R : Type 0} (kind : KindOf Item R) where
   -- it is closed, with the report that its close gives, and the new one opens with what this report lists, which is what the calls of all passes leave in the old one; its shape is else the same, and so is its number of passes
@@ -21,20 +19,6 @@ module _ {Item R : Type 0} (kind : KindOf Item R) where
   IsUnrenewedBy (Missing t ps) table passes = (t ≡ table) × (ps.items ≡ passes)
   IsUnrenewedBy (Memory t ps) table passes = (t ≡ table) × (ps.items ≡ passes)
   IsUnrenewedBy (Closed report) table passes = ClosesBy kind table passes report
-
--- so it is of a set, which opens with the keys
-abbrev pub Renews : TableView → List PassView → TableView → Type 0
-Renews = RenewsBy as_set
-
-abbrev pub IsUnrenewed : RenewError TableView Report → TableView → List PassView → Type 0
-IsUnrenewed = IsUnrenewedBy as_set
-
--- and so of a map, which opens with the entries, each key with its value
-abbrev pub MapRenews : TableView → List PassView → TableView → Type 0
-MapRenews = RenewsBy as_map
-
-abbrev pub IsMapUnrenewed : RenewError TableView MapReport → TableView → List PassView → Type 0
-IsMapUnrenewed = IsUnrenewedBy as_map
 
 -- passes are missing; the other errors are that there is no memory
 abbrev pub LacksPasses : {S R : Type 0} → RenewError S R → Type 0

@@ -1,5 +1,11 @@
 -- Walking the lists of a closed table by its words. Only contracts of private functions cite this.
-use Rattle.std.specs.Prelude.{◌≡◌, ℕ, zero, suc, ◌<◌, ◌||◌, Bool, false, List, [], ◌∷◌, ◌++◌, slice_index_or, if◌then◌else◌}
+use Rattle.std.specs.Prelude.{◌≡◌, ℕ, zero, suc, ◌<◌, ◌||◌, Bool, false, List, [], ◌∷◌, ◌++◌, slice_index, slice_index_or, if◌then◌else◌}
+use Rattle.vbr_words.specs.Dimensions.{Dimensions}
+use Rattle.vbr_words.specs.Packing.{slot_bits, unpacked}
+use Rattle.vbr_words.specs.Places.{index_of}
+use Rattle.vbr_words.specs.Words.{link_of}
+use Rattle.vbr_words.specs.declared.link.Link.{Link}
+use Rattle.vbr_words.specs.declared.place.Place.{Place}
 use Rattle.vbr_machine.specs.Start.{Start, IsStart}
 use Rattle.vbr_machine.specs.Incarnations.{Incarnations}
 use Rattle.vbr_machine.specs.Runs.{IsRun, world_after}
@@ -13,6 +19,10 @@ pub record AreAfter (start : Start) (words : List ℕ) (run : List Event) : Type
   pub is_start : IsStart start
   pub is_run : IsRun start passes run
   pub are : AreWordsOf start (world_after start run) words
+
+-- the link that the words keep at a place
+abbrev pub link_in : Dimensions → List ℕ → Place → Link
+link_in shape words place = link_of (unpacked (slot_bits shape.slots) (slice_index words (index_of shape place)))
 
 -- whether a slot was noted
 abbrev pub is_noted : List Bool → ℕ → Bool

@@ -53,7 +53,8 @@ fn gather<N: Kind>(
         if !notes[slot as usize] {
             continue;
         }
-        if decode(words[place_index(shape, Place::LinkOf(slot))]).mark {
+        let word = words[place_index(shape, Place::LinkOf(slot))];
+        if decode(word, shape.layout()).mark {
             marked += 1;
         } else {
             live += 1;

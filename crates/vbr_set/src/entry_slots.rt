@@ -27,7 +27,8 @@ fn gather_keys(shape: &Shape, words: &[u64], notes: &[bool], keyed: &mut Vec<(u6
         keyed.new.items ≡ linked_of (key_with_slot nodes) nodes shape.now.slots }
 {
     for slot in 0..shape.slots() {
-        if !notes[slot as usize] || decode(words[place_index(shape, Place::LinkOf(slot))]).mark {
+        let word = words[place_index(shape, Place::LinkOf(slot))];
+        if !notes[slot as usize] || decode(word, shape.layout()).mark {
             continue;
         }
         let key = words[place_index(shape, Place::Key(slot))];

@@ -1,12 +1,11 @@
 //! Walking the lists of a closed table.
-ghost use Rattle.std.specs.Prelude.{◌≡◌, ℕ, ◌<◌, List, false, length, slice_index};
-ghost use Rattle.vbr_words.specs.Places.{IsIn, index_of, words_in};
-ghost use Rattle.vbr_words.specs.Words.{link_of};
+ghost use Rattle.std.specs.Prelude.{◌≡◌, ℕ, ◌<◌, List, false, length};
+ghost use Rattle.vbr_words.specs.Places.{IsIn, words_in};
 ghost use Rattle.vbr_machine.specs.Accounts.{incarnations_after};
 ghost use Rattle.vbr_machine.specs.declared.event.Event.{Event};
 ghost use Rattle.vbr_slots.specs.declared.rule.Opened.{Opened};
 ghost use Rattle.vbr_slots.specs.Rule.{with_opened};
-ghost use Rattle.vbr_set.specs.Walking.{AreAfter, NotesList, NotesLists, is_noted};
+ghost use Rattle.vbr_set.specs.Walking.{AreAfter, NotesList, NotesLists, is_noted, link_in};
 
 use vbr_words::{Place, Shape, decode, place_index};
 
@@ -14,9 +13,9 @@ use vbr_words::{Place, Shape, decode, place_index};
 fn next_at(shape: &Shape, words: &[u64], place: Place) -> Option<u32>
     requires place { IsIn shape.now place }
     requires words { length words.now ≡ words_in shape.now }
-    ensures { result ≡ (link_of (slice_index words.now (index_of shape.now place))).slot }
+    ensures { result ≡ (link_in shape.now words.now place).slot }
 {
-    decode(words[place_index(shape, place)]).slot
+    decode(words[place_index(shape, place)], shape.layout()).slot
 }
 
 // Notes the slots whose nodes are in the list of a bucket.

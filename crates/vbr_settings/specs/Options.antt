@@ -9,7 +9,7 @@ use Rattle.clap.specs.declared.builder.action.ArgAction.TheVariants.{Set, SetTru
 use Rattle.clap.specs.declared.builder.value_parser.ValueParser.TheVariants as value
 use Rattle.clap.specs.declared.error.kind.ErrorKind.{ErrorKind}
 use Rattle.vbr_settings.specs.declared.config.TheConstants.{MAX_WORKERS}
-use Rattle.vbr_words.specs.Shapes.{shape_error}
+use Rattle.vbr_words.specs.Shapes.{last_epoch_for, shape_error}
 use Rattle.vbr_words.specs.declared.shape.ShapeError.{ShapeError}
 use Rattle.vbr_words.specs.declared.shape.TheConstants.{MAX_EPOCH}
 use Rattle.vbr_settings.specs.Settings.{Settings}
@@ -95,7 +95,7 @@ settings_among rows = record {
     slots = number_among (codes "slots") rows;
     buckets = number_among (codes "buckets") rows;
     spread = None;
-    last_epoch = number_among (codes "last-epoch") rows;
+    last_epoch = last_epoch_for (number_among (codes "slots") rows) (number_among (codes "last-epoch") rows);
     values = false;
   };
   workers = number_among (codes "workers") rows;

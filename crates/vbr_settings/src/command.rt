@@ -56,6 +56,11 @@ there. A get is a look-up that gives the value: it and a remove are answered yes
 the value after it, as in yes 70. The last total is entries, with KEY=VALUE for each
 key that is left.
 
+The more slots, the less room for epochs: --last-epoch may be up to 2251799813685247
+with up to 4095 slots, 8796093022207 with up to 1048575, 549755813887 with up to
+16777215, and 4294967295 with 2147483647. Its default is taken with any number of
+slots: where they leave room for less, it means the greatest.
+
 Where standard error is a terminal, a line there tells which phase of a long script
 plays, and how many lines have been played. It is gone before anything is printed.
 
@@ -66,9 +71,9 @@ write fault, which leaves a beginning of the output.
 
   2  a fault in the options, or
      vbr_run: shape fault N
-       1  --slots isn't from 1 to 16777215
+       1  --slots isn't from 1 to 2147483647
        2  --buckets isn't from 1 to 65536
-       3  --last-epoch isn't from 1 to 549755813887
+       3  --last-epoch is 0, or greater than so many slots leave room for
   3  vbr_run: script fault N at line M
        the first faulty line, from 1, lines without words counted, and its first fault:
        1  it has neither three words nor the one word sync or renew
@@ -127,11 +132,12 @@ prints
 const WORKERS_HELP: &str = "How many workers play the script, from 1 to 16";
 
 const SLOTS_HELP: &str =
-    "How many slots the set has, from 1 to 16777215: the most keys at one time, and 64 for each worker";
+    "How many slots the set has, from 1 to 2147483647: the most keys at one time, and 64 for each worker";
 
 const BUCKETS_HELP: &str = "How many buckets the set has, from 1 to 65536";
 
-const LAST_EPOCH_HELP: &str = "The last epoch of the set, from 1 to 549755813887";
+const LAST_EPOCH_HELP: &str =
+    "The last epoch of the set, from 1 to as many as its slots leave room for";
 
 const BUDGET_HELP: &str = "How many steps a call may make, from 0 to 4294967295";
 

@@ -25,22 +25,23 @@ pub exact : {p lent : PassView} {q : Inside} {old : ℕ} → lent ≡ p → old 
     q.steps ≡ counted_steps (old + 1) → Took lent.trace q.stepper.trace 1 → IsExact q
 exact same is after took = record { steps = counts 1 same is after took }
 
-pub expects_took : (step : Step) (p q : PassView) (expected : ℕ) (answer : Result (Unit {0}) ℕ) →
-    OnOk answer (Finds step p q expected) → IfErr answer (FindsOther step p q expected) → Took p.trace q.trace 1
-expects_took step p q expected (Ok done) finds other = did_took finds.did
-expects_took step p q expected (Err found) finds other = did_took other.did
+pub expects_took : (reads : ℕ → ℕ) (step : Step) (p q : PassView) (expected : ℕ) (answer : Result (Unit {0}) ℕ) →
+    OnOk answer (Finds step p q expected) → IfErr answer (λ found. FindsOther step p q expected (reads found)) →
+    Took p.trace q.trace 1
+expects_took reads step p q expected (Ok done) finds other = did_took finds.did
+expects_took reads step p q expected (Err found) finds other = did_took other.did
 
-pub publishes_took : (pred : At) (expected slot : ℕ) (p q : PassView) (answer : Result (Unit {0}) ℕ) →
+pub publishes_took : (reads : ℕ → ℕ) (pred : At) (expected slot : ℕ) (p q : PassView) (answer : Result (Unit {0}) ℕ) →
     OnOk answer (Publishes pred expected slot p q) →
-    IfErr answer (FindsOther (Publish pred expected slot) p q expected) → Took p.trace q.trace 1
-publishes_took pred expected slot p q (Ok done) publishes other = did_took publishes.did
-publishes_took pred expected slot p q (Err found) publishes other = did_took other.did
+    IfErr answer (λ found. FindsOther (Publish pred expected slot) p q expected (reads found)) → Took p.trace q.trace 1
+publishes_took reads pred expected slot p q (Ok done) publishes other = did_took publishes.did
+publishes_took reads pred expected slot p q (Err found) publishes other = did_took other.did
 
-pub replaces_took : (slot expected new : ℕ) (p q : PassView) (answer : Result (Unit {0}) ℕ) →
+pub replaces_took : (reads : ℕ → ℕ) (slot expected new : ℕ) (p q : PassView) (answer : Result (Unit {0}) ℕ) →
     OnOk answer (ReplacesNode slot expected new p q) →
-    IfErr answer (FindsOther (Replace slot expected new) p q expected) → Took p.trace q.trace 1
-replaces_took slot expected new p q (Ok done) replaces other = did_took replaces.did
-replaces_took slot expected new p q (Err found) replaces other = did_took other.did
+    IfErr answer (λ found. FindsOther (Replace slot expected new) p q expected (reads found)) → Took p.trace q.trace 1
+replaces_took reads slot expected new p q (Ok done) replaces other = did_took replaces.did
+replaces_took reads slot expected new p q (Err found) replaces other = did_took other.did
 
 pub flag_took : (slot : ℕ) (p q : PassView) (answer : Result (Unit {0}) ℕ) → OnOk answer (TakesFlag slot p q) →
     IfErr answer (MissesFlag slot p q) → Took p.trace q.trace 1

@@ -8,6 +8,7 @@ use Rattle.atomic_table.specs.Table.{State as Standing, Me, keeps, Allows}
 use Rattle.atomic_table.proofs.Lists.{at_set}
 use Rattle.vbr_machine.specs.Start.{IsStart}
 use Rattle.vbr_words.specs.Places.{index_of}
+use Rattle.vbr_words.specs.declared.place.Place.{Place}
 use Rattle.vbr_machine.specs.Acceptance.{Accepts}
 use Rattle.vbr_machine.specs.Accounts.{incarnations_after, notes_after}
 use Rattle.vbr_machine.specs.Knowledge.{Know}
@@ -19,7 +20,8 @@ use Rattle.vbr_machine.proofs.Lemmas.{place_in, run_agrees, world_after-snoc}
 use Rattle.vbr_slots.specs.declared.rule.Witness.{Witness}
 use Rattle.vbr_slots.specs.TableStart.{TableStart}
 use Rattle.vbr_slots.specs.Rule.{witness, nobody, Caught, EachBegins, times, Kept, Shows, Told, opened_of}
-use Rattle.vbr_slots.specs.Words.{AreWordsOf}
+use Rattle.vbr_slots.specs.Words.{AreWordsOf, HasRoomAt, kept_at}
+use Rattle.vbr_slots.proofs.Packed.{Tells, Writes, room_at}
 use Rattle.vbr_slots.proofs.Members.{each_begins_more, two_in, one_in, times-set, times-first, times-members}
 use Rattle.vbr_slots.proofs.Sightings.{set_at}
 use Rattle.vbr_slots.proofs.Worlds.{words_after}
@@ -35,7 +37,11 @@ module _ (opening : TableStart) (is_start : IsStart opening.start) where
   moved : (words : List ℕ) (run : List Event) (e : Event) (i : ℕ) (f : ℕ → ℕ) → IsRun opening.start opening.passes run →
       Accepts opening.start (know_after opening.start run e.pass) e.step →
       i ≡ index_of opening.start.shape (place_of_step e.step)
-      → ((n : ℕ) → f n ≡ word_made (access_of (know_after opening.start run e.pass) e.step) n) →
+      → f (kept_at opening.start.shape (place_of_step e.step)
+      (found opening.start (world_after opening.start run) e.step))
+      ≡ kept_at opening.start.shape (place_of_step e.step)
+      (word_made (access_of (know_after opening.start run e.pass) e.step)
+      (found opening.start (world_after opening.start run) e.step)) →
       AreWordsOf opening.start (world_after opening.start run) words
       → AreWordsOf opening.start (world_after opening.start (run ++ e ∷ [])) (set words i (f (get_or words i 0)))
   moved words run e i f is_run ok place does are =
@@ -68,8 +74,9 @@ module _ (opening : TableStart) (is_start : IsStart opening.start) where
   pub plays : (slots id : ℕ) (e : Event) (seen : List Event) (others : List Witness) (cs : List (ℕ × Unit {0})) (i : ℕ)
       (f g : ℕ → ℕ) → e.pass < opening.passes → e.pass ≢ nobody →
       i ≡ index_of opening.start.shape (place_of_step e.step)
-      → ((n : ℕ) → f n ≡ word_made (access_of (know_after opening.start seen e.pass) e.step) n) →
-      ((n : ℕ) → Shows e.step (g n) n) → Accepts opening.start (know_after opening.start seen e.pass) e.step
+      → Writes opening.start.shape (place_of_step e.step) (access_of (know_after opening.start seen e.pass) e.step) f →
+      Tells opening.start.shape (place_of_step e.step) e.step g →
+      Accepts opening.start (know_after opening.start seen e.pass) e.step
       → Allows (Kept opening) slots id (witness (opened_of opening.start) e.pass seen ∷ others, cs) i f
       (λ r. Told opening e (witness (opened_of opening.start) e.pass seen ∷ others, cs) (g r))
   plays slots id e seen others cs i f g low other place does same ok s h _ at_index _ =
@@ -86,7 +93,14 @@ module _ (opening : TableStart) (is_start : IsStart opening.start) where
       is_run_after_others start opening.passes seen rest e before low none ok in
       let know : know_after start seen e.pass ≡ know_after start run e.pass =
       sym (others_leave_know start seen rest e.pass none) in
-      let does' = λ (n : ℕ). does n ∙ ap (λ (k : Know). word_made (access_of k e.step) n) know in
+      let at : Place = place_of_step e.step in
+      let here : ℕ = found start (world_after start run) e.step in
+      let room : HasRoomAt start.shape at here =
+      room_at start (world_after start run) (incarnations_after start run) (notes_after start run)
+      (run_agrees start opening.passes run is_start before) at in
+      let does' : f (kept_at start.shape at here)
+      ≡ kept_at start.shape at (word_made (access_of (know_after start run e.pass) e.step) here) =
+      does here room ∙ ap (λ (k : Know). kept_at start.shape at (word_made (access_of k e.step) here)) know in
       let words : AreWordsOf start (world_after start run) s.words =
       subst (λ (r : List Event). AreWordsOf start (world_after start r) s.words) is h.words in
       let ok' : Accepts start (know_after start run e.pass) e.step =
@@ -126,14 +140,15 @@ module _ (opening : TableStart) (is_start : IsStart opening.start) where
           none = none;
           now = refl;
           is_run = is_run;
-          shows = subst (λ (n : ℕ). Shows e.step (g (get_or s.words i 0)) n) (shown s.words run words)
-              (same (get_or s.words i 0));
+          shows = subst (λ (n : ℕ). Shows e.step (g n) here) (sym (shown s.words run words)) (same here room);
           others = theirs;
         },
       )
     where
       shown : (words : List ℕ) (run : List Event) → AreWordsOf opening.start (world_after opening.start run) words →
-          get_or words i 0 ≡ found opening.start (world_after opening.start run) e.step
+          get_or words i 0
+          ≡ kept_at opening.start.shape (place_of_step e.step)
+          (found opening.start (world_after opening.start run) e.step)
       shown words run are = ap (λ (j : ℕ). get_or words j 0) place
           ∙ are.each (place_of_step e.step) (place_in opening.start e.step ok.in_shape)
 
@@ -142,8 +157,8 @@ module _ (opening : TableStart) (is_start : IsStart opening.start) where
       (me : Me (Unit {0}) V) (i : ℕ) (f g : ℕ → ℕ) → me ≡ (witness (opened_of opening.start) e.pass seen ∷ others, cs) →
       e.pass < opening.passes → e.pass ≢ nobody
       → i ≡ index_of opening.start.shape (place_of_step e.step) →
-      ((n : ℕ) → f n ≡ word_made (access_of (know_after opening.start seen e.pass) e.step) n) →
-      ((n : ℕ) → Shows e.step (g n) n)
+      Writes opening.start.shape (place_of_step e.step) (access_of (know_after opening.start seen e.pass) e.step) f →
+      Tells opening.start.shape (place_of_step e.step) e.step g
       → Accepts opening.start (know_after opening.start seen e.pass) e.step →
       Allows (Kept opening) slots id me i f (λ r. Told opening e me (g r))
   plays_as slots id e seen others cs me i f g known low other place does same ok =

@@ -1,3 +1,5 @@
+mod Packed
+mod WideReads
 mod Worlds
 mod Members
 mod Sightings

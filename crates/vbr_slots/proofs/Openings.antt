@@ -1,5 +1,5 @@
 -- The words at the opening are laid place by place: those of the bare world, then key after key.
-use Rattle.std.proofs.Common.{◌≡◌, ◌≢◌, ◌⊎◌, inl, inr, ℕ, zero, suc, ◌+◌, ◌-◌, ◌<◌, nat_lt, ◌≤◌, Bool, true, false}
+use Rattle.std.proofs.Common.{◌≡◌, ◌≢◌, ◌⊎◌, inl, inr, ℕ, zero, suc, ◌+◌, ◌-◌, ◌<◌, nat_lt, ◌≤◌, ◌^◌, Bool, true, false}
 use Rattle.std.proofs.Common.{List, Option, Some, None, ◌++◌, length, take, set, get_or, replicate, if◌then◌else◌, refl}
 use Rattle.std.proofs.Common.{sym, subst, ap, ◌∙◌, length-set, get_or-set_other, get_or-set_same, arith}
 use Rattle.std.specs.Prelude.{◌&&◌, bit_and}
@@ -9,16 +9,18 @@ use mathlib.Core.Logic.{dite}
 use native.Mathlib.Decide.{ℕ_discrete}
 use Rattle.vbr_words.specs.Dimensions.{Dimensions}
 use Rattle.vbr_machine.specs.Start.{Start, empty_start, start_with}
-use Rattle.vbr_words.specs.Words.{IsLink, word_of}
+use Rattle.vbr_words.specs.Words.{word_of}
 use Rattle.vbr_words.specs.Flags.{word_of_flag, all_but, flag_words, flag_word}
 use Rattle.vbr_words.specs.Places.{IsIn, index_of, place_of, words_in}
-use Rattle.vbr_words.specs.declared.link.TheConstants.{MARK, MAX_SLOTS, MAX_VERSION}
+use Rattle.vbr_words.specs.declared.link.TheConstants.{MARK}
+use Rattle.vbr_words.specs.Links.{IsLinkOf}
+use Rattle.vbr_words.specs.Packing.{packed, slot_bits}
 use Rattle.vbr_words.specs.declared.link.Link.{Link}
 use Rattle.vbr_words.specs.declared.place.At.{At}
 use Rattle.vbr_words.specs.declared.place.At.TheVariants as holder
 use Rattle.vbr_words.specs.declared.place.Place.{Place}
 use Rattle.vbr_words.specs.declared.place.Place.TheVariants.{Epoch, ShapeWord, Head, LinkOf, Birth, Key, Value, Flags}
-use Rattle.vbr_words.proofs.Lemmas.{flag_word_same, index_of-lt, same_place}
+use Rattle.vbr_words.proofs.Lemmas.{flag_word_same, index_of-lt, packed-none, packed-opening, same_place}
 use Rattle.vbr_machine.specs.Put.{put}
 use Rattle.vbr_words.specs.Buckets.{bucket_of}
 use Rattle.vbr_machine.specs.Links.{opening_link, link_to}
@@ -29,13 +31,13 @@ use Rattle.vbr_machine.specs.Making.{opening_from, with_key_ahead}
 use Rattle.vbr_machine.specs.declared.knowledge.SlotPlace.TheVariants.{Listed}
 use Rattle.vbr_machine.proofs.Lemmas.{FirstOrNone, bare, first_or_none, flag_in, opening_none, put_here, put_other}
 use Rattle.vbr_machine.proofs.Lemmas.{same_word, taken_word}
-use Rattle.vbr_slots.specs.Words.{AreWordsOf, HeadsFit}
+use Rattle.vbr_slots.specs.Words.{AreWordsOf, HeadsFit, kept_at}
 
 -- the words once the epoch, the shape, so many links and so many flag words are laid
 abbrev pub laid : Dimensions → ℕ → ℕ → Place → ℕ
 laid shape links flags Epoch = 1
 laid shape links flags ShapeWord = machine.shape_word (empty_start shape)
-laid shape links flags (LinkOf s) = if nat_lt s links then MARK else 0
+laid shape links flags (LinkOf s) = if nat_lt s links then 2 ^ slot_bits shape.slots else 0
 laid shape links flags (Flags number) = if nat_lt number flags then flag_word (λ s. nat_lt s shape.slots) number else 0
 laid shape links flags _ = 0
 
@@ -91,6 +93,13 @@ blank_head : word_of (link_to None 0 0) ≡ 0
 unfolding word_of
 blank_head = refl
 
+-- as a table keeps them
+kept_link : (bits : ℕ) → 2 ^ bits ≡ packed bits (word_of opening_link)
+kept_link bits = packed-opening bits ∙ ap (packed bits) (sym blank_link)
+
+kept_head : (bits : ℕ) → 0 ≡ packed bits (word_of (link_to None 0 0))
+kept_head bits = packed-none bits ∙ ap (packed bits) (sym blank_head)
+
 and_true : (b : Bool) → b ≡ (b && true)
 and_true true = refl
 and_true false = refl
@@ -104,9 +113,12 @@ laid_all shape words are keys payloads =
     (sym (opening_none (start_with shape keys payloads))) (record { count = are.count; each = each })
   where
     each : (place : Place) → IsIn shape place →
-        get_or words (index_of shape place) 0 ≡ machine.word_at (start_with shape keys payloads) bare place
-    each (Head b) here = are.each (Head b) here ∙ sym blank_head
-    each (LinkOf s) here = are.each (LinkOf s) here ∙ below s shape.slots MARK 0 here ∙ sym blank_link
+        get_or words (index_of shape place) 0
+        ≡ kept_at shape place (machine.word_at (start_with shape keys payloads) bare place)
+    each (Head b) here = are.each (Head b) here ∙ kept_head (slot_bits shape.slots)
+    each (LinkOf s) here =
+        are.each (LinkOf s) here ∙ below s shape.slots (2 ^ slot_bits shape.slots) 0 here
+        ∙ kept_link (slot_bits shape.slots)
     each (Flags number) here =
         are.each (Flags number) here
         ∙ below number (flag_words shape.slots) (flag_word (λ s. nat_lt s shape.slots) number) 0 here
@@ -118,27 +130,35 @@ laid_all shape words are keys payloads =
 
 -- one more word of a world
 written_at : (start : Start) (w v : World) (words : List ℕ) (place : Place) (i value : ℕ) →
-    i ≡ index_of start.shape place → IsIn start.shape place → machine.word_at start v place ≡ value →
+    i ≡ index_of start.shape place → IsIn start.shape place →
+    kept_at start.shape place (machine.word_at start v place) ≡ value →
     ((q : Place) → q ≢ place → machine.word_at start v q ≡ machine.word_at start w q)
     → AreWordsOf start w words → AreWordsOf start v (set words i value)
 written_at start w v words place i value index_is here is others are =
     let laid_on =
-    laid_at start.shape (machine.word_at start w) (machine.word_at start v) words place value here is others
+    laid_at start.shape (λ q. kept_at start.shape q (machine.word_at start w q))
+    (λ q. kept_at start.shape q (machine.word_at start v q)) words place value here is
+    (λ q ne. ap (kept_at start.shape q) (others q ne))
     (record { count = are.count; each = are.each }) in
     subst (λ (j : ℕ). AreWordsOf start v (set words j value)) (sym index_is)
     (record { count = laid_on.count; each = laid_on.each })
 
 module _ (start : Start) (w : World) (words : List ℕ) (are : AreWordsOf start w words) where
   link_laid : (place : At) (i value : ℕ) (link : Link) → i ≡ index_of start.shape (place_of place) →
-      IsIn start.shape (place_of place) → value ≡ word_of link →
+      IsIn start.shape (place_of place) → value ≡ packed (slot_bits start.shape.slots) (word_of link) →
       AreWordsOf start (with_link_at w place link) (set words i value)
   link_laid place i value link at low is =
       written_at start w (with_link_at w place link) words (place_of place) i value at low (here place ∙ sym is)
       (others place) are
     where
-      here : (place : At) → machine.word_at start (with_link_at w place link) (place_of place) ≡ word_of link
-      here (holder.Head b) = ap word_of (put_here w.head b link)
-      here (holder.Slot s) = ap word_of (put_here w.link s link)
+      bits : ℕ
+      bits = slot_bits start.shape.slots
+
+      here : (place : At) →
+          kept_at start.shape (place_of place) (machine.word_at start (with_link_at w place link) (place_of place))
+          ≡ packed bits (word_of link)
+      here (holder.Head b) = ap (λ (l : Link). packed bits (word_of l)) (put_here w.head b link)
+      here (holder.Slot s) = ap (λ (l : Link). packed bits (word_of l)) (put_here w.link s link)
 
       others : (place : At) (q : Place) → q ≢ place_of place →
           machine.word_at start (with_link_at w place link) q ≡ machine.word_at start w q
@@ -215,7 +235,7 @@ module _ (start : Start) (w : World) (words : List ℕ) (s value : ℕ) (are : A
     where
       each : (place : Place) → IsIn start.shape place →
           get_or words (index_of start.shape place) 0
-          ≡ machine.word_at start (record w { value = put w.value s value }) place
+          ≡ kept_at start.shape place (machine.word_at start (record w { value = put w.value s value }) place)
       each (Value t) here = absurd (let has = here.1 in cc)
       each q here = are.each q here
 
@@ -242,9 +262,9 @@ module _ (start : Start) (w : World) (words : List ℕ) (s value : ℕ) (are : A
 pub key_ahead : (start : Start) (w : World) (words valued : List ℕ) (number key value link first bits i j k m n : ℕ) →
     AreWordsOf start w words → KeyIndices start number (bucket_of start.shape key) i j k m n →
     number < start.shape.slots → bucket_of start.shape key < start.shape.buckets
-    → link ≡ word_of
-    (link_to (w.head (bucket_of start.shape key)).slot 1 (w.head (bucket_of start.shape key)).version) →
-    first ≡ word_of (link_to (Some number) 0 1) → bits ≡ all_but number
+    → link ≡ packed (slot_bits start.shape.slots)
+    (word_of (link_to (w.head (bucket_of start.shape key)).slot 1 (w.head (bucket_of start.shape key)).version)) →
+    first ≡ packed (slot_bits start.shape.slots) (word_of (link_to (Some number) 0 1)) → bits ≡ all_but number
     → IsValueWritten start number value (set (set (set (set words i link) j first) k 1) m key) valued
     → AreWordsOf start (with_key_ahead start number key value w) (set valued n (bit_and (get_or valued n 0) bits))
 key_ahead start w words valued number key value link first bits i j k m n are indices low in_shape link_is first_is
@@ -261,15 +281,15 @@ key_ahead start w words valued number key value link first bits i j k m n are in
 -- ---- heads
 
 -- each head names a slot of the shape or none
-pub heads_fit : (start : Start) (from : ℕ) → from ≤ key_count start → key_count start ≤ MAX_SLOTS →
-    HeadsFit (opening_from start from)
-heads_fit start from low few b =
+pub heads_fit : (start : Start) (from : ℕ) → from ≤ key_count start → key_count start ≤ start.shape.slots →
+    0 < start.shape.last_epoch → HeadsFit start.shape (opening_from start from)
+heads_fit start from low few some b =
     by_case (first_from start b from) (first_or_none (is_key_of start b) from (key_count start - from))
   where
     by_case : (first : Option ℕ) → FirstOrNone (is_key_of start b) from (from + (key_count start - from)) first →
-        IsLink (link_to_key start 0 first)
+        IsLinkOf start.shape (link_to_key start 0 first)
     by_case None none = record { slot = tt; version = omega arith }
     by_case (Some m) is = record { slot = (let high = is.high in omega (arith, high)); version = version }
       where
-        version : (link_to_key start 0 (Some m)).version ≤ MAX_VERSION
+        version : (link_to_key start 0 (Some m)).version ≤ start.shape.last_epoch
         version = grind (arith, nat_tests)

@@ -16,6 +16,7 @@ use Rattle.vbr_machine.specs.Start.{IsStart}
 use Rattle.vbr_words.specs.Places.{index_of, words_in}
 use Rattle.vbr_words.proofs.Lemmas.{index_of-lt}
 use Rattle.vbr_machine.specs.Machine.{word_at}
+use Rattle.vbr_slots.specs.Words.{kept_at}
 use Rattle.vbr_machine.proofs.Lemmas.{every_run}
 use Rattle.vbr_machine.specs.Runs.{Begins, world_after}
 use Rattle.vbr_machine.specs.declared.event.Event.{Event}
@@ -216,7 +217,7 @@ are_read t ms words count each =
             subst (λ (n : ℕ). index < n) (sym count) (index_of-lt t.start.shape place inside) in
             let it = each index low in
             it.found place inside refl
-            ∙ ap (λ (run : List Event). word_at t.start (world_after t.start run) place)
+            ∙ ap (λ (run : List Event). kept_at t.start.shape place (word_at t.start (world_after t.start run) place))
             (one_run it.run first.run ms it.latest first.latest);
       };
     }

@@ -4,13 +4,19 @@ use Rattle.atomic_table.specs.Table.{Me, Allows}
 use Rattle.atomic_table.specs.Seated.{TableId}
 use Rattle.atomic_table.specs.declared.shared.Seat.{Seat}
 use Rattle.vbr_machine.specs.Start.{Start, IsStart}
-use Rattle.vbr_words.specs.Places.{index_of, words_in}
+use Rattle.vbr_words.specs.Dimensions.{Dimensions}
+use Rattle.vbr_words.specs.Packing.{slot_bits, unpacked}
+use Rattle.vbr_words.specs.declared.link.TheConstants.{SLOT_BITS}
+use Rattle.vbr_words.specs.Places.{index_of, place_of, words_in}
+use Rattle.vbr_words.specs.declared.place.At.{At}
+use Rattle.vbr_words.specs.declared.place.At.TheVariants.{Head, Slot}
 use Rattle.vbr_words.specs.declared.place.Place.{Place}
-use Rattle.vbr_words.proofs.Lemmas.{index_of-lt}
+use Rattle.vbr_words.proofs.Lemmas.{index_of-lt, slot_bits-wide}
+use Rattle.vbr_slots.specs.WideWords.{wide_in}
 use Rattle.vbr_machine.specs.Acceptance.{Accepts}
 use Rattle.vbr_machine.specs.Knowledge.{Know}
 use Rattle.vbr_machine.specs.Learning.{learn}
-use Rattle.vbr_machine.specs.Machine.{word_made, access_of, found, place_of_step, stamp_shown}
+use Rattle.vbr_machine.specs.Machine.{access_of, found, place_of_step, stamp_shown}
 use Rattle.vbr_machine.specs.Runs.{IsRun, world_after, know_after, NoneOf}
 use Rattle.vbr_machine.specs.declared.event.Event.{Event}
 use Rattle.vbr_machine.specs.declared.event.Step.{Step}
@@ -30,6 +36,7 @@ use Rattle.vbr_slots.specs.RunnerView.{start_of, trace_of_runner, seen_of, IsSou
 use Rattle.vbr_slots.specs.SlotsView.{start_in, table_of, IsBuilt}
 use Rattle.vbr_slots.proofs.Calls.{steps_next, steps_left}
 use Rattle.vbr_slots.proofs.Keeps.{plays_as, catches_as}
+use Rattle.vbr_slots.proofs.Packed.{Tells, Writes}
 use Rattle.vbr_slots.proofs.Learning.{epoch_learned}
 
 -- a seat's view, and the slots of the table that it has taken
@@ -54,7 +61,7 @@ pub asks : {N : Type 0} {values : Bool} (t : SlotsInside N) (table : TableView) 
     → me ≡ (witness (opened_of w.start) w.who w.seen ∷ others, []) → (step : Step) (e : Event) (opening : TableStart) →
     NamesStep e opening w table step → (place : Place) (word : ℕ) (f g : ℕ → ℕ) →
     word ≡ index_of t.opening.shape place → place ≡ place_of_step step
-    → ((n : ℕ) → f n ≡ word_made (access_of (knows w) step) n) → ((n : ℕ) → Shows step (g n) n) →
+    → Writes t.opening.shape place (access_of (knows w) step) f → Tells t.opening.shape place step g →
     Accepts table.start (knows w) step
     → (z ≡ t.table.shared.table_id) × (word < t.table.shared.table_id.words) ×
     Allows (Kept t.table.shared.key) t.table.shared.table_id.slots id me word f (λ r. Told opening e me (g r))
@@ -77,7 +84,10 @@ asks t table built t_is w low own z z_is id me others is step e opening named pl
     subst (λ (n : ℕ). n ≤ nobody) (ap (λ (q : TableView). q.passes) t_is ∙ sym own.2) built.few in
     let apart : w.who ≢ nobody = λ same_number. absurd (omega (arith, low, few, same_number)) in
     let plain : Allows (Kept o) t.table.shared.table_id.slots id me word f (λ r. Told o d me (g r)) =
-    plays_as o is_start t.table.shared.table_id.slots id d w.seen others [] me word f g is low apart index_is does same
+    plays_as o is_start t.table.shared.table_id.slots id d w.seen others [] me word f g is low apart index_is
+    (subst (λ (x : Dimensions × Place). Writes x.0 x.1 (access_of (knows w) step) f)
+    (λ i. ((sym start i).shape, place_is i)) does)
+    (subst (λ (x : Dimensions × Place). Tells x.0 x.1 step g) (λ i. ((sym start i).shape, place_is i)) same)
     accepted in (
       z_is ∙ (own.0 ∙ sym (ap (λ (q : TableView). q.table) t_is)),
       omega (arith, index_is, size, in_table),
@@ -92,7 +102,7 @@ pub asks_alone : {N : Type 0} {values : Bool} {t : SlotsInside N} {table : Table
     → IsBuilt values t → table_of t ≡ table → IsSoundRunner p → trace_of_runner p ≡ w → IsOf w table →
     NamesStep e opening w table step → (id : ℕ) (place : Place) (word : ℕ) (f g : ℕ → ℕ) →
     word ≡ index_of t.opening.shape place → place ≡ place_of_step step
-    → ((n : ℕ) → f n ≡ word_made (access_of (knows w) step) n) → ((n : ℕ) → Shows step (g n) n) →
+    → Writes t.opening.shape place (access_of (knows w) step) f → Tells t.opening.shape place step g →
     Accepts table.start (knows w) step
     → (p.seat.table_id ≡ t.table.shared.table_id) × (word < t.table.shared.table_id.words) ×
     Allows (Kept t.table.shared.key) t.table.shared.table_id.slots id p.seat.me word f
@@ -218,6 +228,39 @@ module _ (p : RunnerInside) (w : Trace) (table : TableView) (step : Step) (e : E
   pub steps_did : Did step w (trace_of_runner (record p { seat = seat; epoch = epoch })) r
   steps_did =
       did p w sound is step r [] seat.me end (record p { seat = seat; epoch = epoch }) end.now (refl, refl, kept) home
+
+-- ---- steps at link words, which a table keeps packed
+
+-- the table of the opening has as many bits for a slot as the table
+pub named_bits : {N : Type 0} (t : SlotsInside N) {table : TableView} {e : Event} {opening : TableStart} {w : Trace}
+    {step : Step} → table_of t ≡ table → NamesStep e opening w table step →
+    slot_bits opening.start.shape.slots ≡ slot_bits t.opening.shape.slots
+named_bits t t_is named =
+    ap (λ (o : TableStart). slot_bits o.start.shape.slots) (named.opening_is ∙ sym (ap opening_of t_is))
+
+-- a step at a link word is no read of the epoch
+pub link_epoch : (holder : At) (step : Step) (r epoch : ℕ) → place_of holder ≡ place_of_step step →
+    epoch ≡ epoch_after step r epoch
+link_epoch (Head b) ReadEpoch r epoch at = absurd cc
+link_epoch (Slot s) ReadEpoch r epoch at = absurd cc
+link_epoch holder _ r epoch at = refl
+
+-- what is shown of a link word is what is kept, as the table reads it
+pub shown_link : {table : TableView} {e : Event} {opening : TableStart} {w q : Trace} {step : Step} (kept : ℕ) →
+    NamesStep e opening w table step → Did step w q (unpacked (slot_bits opening.start.shape.slots) kept) →
+    Did step w q (wide_in table kept)
+shown_link {w = w} {q = q} {step = step} kept named did =
+    subst (λ (o : TableStart). Did step w q (unpacked (slot_bits o.start.shape.slots) kept)) named.opening_is did
+
+-- the bits that name a slot of the table are few
+pub bits_few : {N : Type 0} {values : Bool} (t : SlotsInside N) → IsBuilt values t →
+    slot_bits t.opening.shape.slots ≤ SLOT_BITS
+bits_few t built = slot_bits-wide t.opening.shape.slots built.start.shape.slots
+
+-- and are as many as in what is seen of it
+pub bits_same : {N : Type 0} (t : SlotsInside N) {table : TableView} → table_of t ≡ table →
+    slot_bits table.start.shape.slots ≡ slot_bits t.opening.shape.slots
+bits_same t is = ap (λ (q : TableView). slot_bits q.start.shape.slots) (sym is)
 
 -- two seats made one
 pub together : (u v : Witness) (pm om given pm' : Sat) → pm ≡ (u ∷ [], []) → om ≡ (v ∷ [], []) → given ≡ (om.0, []) →

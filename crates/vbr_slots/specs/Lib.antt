@@ -1,5 +1,6 @@
 pub mod TableStart
 pub mod Words
+pub mod WideWords
 pub mod Rule
 pub mod Running
 pub mod Views

@@ -16,7 +16,7 @@ use Rattle.vbr_slots.specs.Views.{PassView, TableView, Trace, counted_steps, ste
 use Rattle.vbr_slots.specs.declared.runner.Runner.TheInside.{Inside as RunnerInside}
 use Rattle.vbr_slots.specs.declared.snapshot.Halted.{Halted}
 use Rattle.vbr_slots.specs.declared.stepper.Stepper.TheInside.{Inside as StepperInside}
-use Rattle.vbr_slots.specs.Words.{AreWordsOf}
+use Rattle.vbr_slots.specs.Words.{AreWordsOf, kept_at}
 
 -- the witnesses of the seats of passes
 abbrev pub witnesses_of : List PassView → List Witness
@@ -71,7 +71,7 @@ pub record IsWordAt (opening : TableStart) (ms : List Witness) (index r : ℕ) :
   pub run : List Event
   pub is_run : IsRun opening.start opening.passes run
   pub latest : IsLatest run ms
-  pub found : (place : Place) → IsIn opening.start.shape place → index_of opening.start.shape place ≡ index → r ≡ word_at opening.start (world_after opening.start run) place
+  pub found : (place : Place) → IsIn opening.start.shape place → index_of opening.start.shape place ≡ index → r ≡ kept_at opening.start.shape place (word_at opening.start (world_after opening.start run) place)
 
 -- what a load tells a seat that has the witnesses of all passes: the word after what these have seen, and nothing of the seat changes
 pub record ReadsWord (opening : TableStart) (index : ℕ) (m : Me (Unit {0}) (List Witness)) (r : ℕ) (n : Me (Unit {0}) (List Witness)) : Type 0 where

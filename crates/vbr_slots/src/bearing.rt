@@ -7,6 +7,7 @@ ghost use Rattle.vbr_slots.specs.Asked.{IsWritten};
 ghost use Rattle.vbr_slots.specs.OwnSlots.{BearsIn, epoch_of, holding_of};
 ghost use Rattle.vbr_slots.specs.Pools.{HasRoomFor};
 ghost use Rattle.vbr_slots.specs.Views.{IsOf, Did, KeepsPool, knows};
+ghost use Rattle.vbr_slots.specs.WideWords.{wide_in};
 
 use crate::pass::{Pass, steps_after};
 use crate::slots::Slots;
@@ -57,10 +58,13 @@ impl<N: Nodes> Slots<N> {
     pub fn store_link(&self, pass: &mut Pass, slot: u32, word: u64)
         requires own { IsOf pass.old.trace self.now }
         requires in_hand { pass.old.hand ≡ Some slot }
-        requires next_in { IsNextIn self.now.start (link_of word).slot }
-        requires next_held { IsNextHeld (knows pass.old.trace).checked (link_of word).slot }
-        requires word { IsWritten pass.old.trace (StoreLink slot (link_of word).slot) word }
-        ensures step { Did (StoreLink slot (link_of word).slot) pass.old.trace pass.new.trace word }
+        requires next_in { IsNextIn self.now.start (link_of (wide_in self.now word)).slot }
+        requires next_held { IsNextHeld (knows pass.old.trace).checked
+            (link_of (wide_in self.now word)).slot }
+        requires word { IsWritten pass.old.trace
+            (StoreLink slot (link_of (wide_in self.now word)).slot) (wide_in self.now word) }
+        ensures step { Did (StoreLink slot (link_of (wide_in self.now word)).slot) pass.old.trace
+            pass.new.trace (wide_in self.now word) }
         ensures pool { KeepsPool pass.old pass.new }
     {
         pass.steps = steps_after(pass.steps, 1);

@@ -6,6 +6,7 @@ ghost use Rattle.vbr_slots.specs.Asked.{IsChecked};
 ghost use Rattle.vbr_slots.specs.Expected.{Finds, FindsOther};
 ghost use Rattle.vbr_slots.specs.LookUpStep.{look_up};
 ghost use Rattle.vbr_slots.specs.Views.{IsOf, knows};
+ghost use Rattle.vbr_slots.specs.WideWords.{wide_in};
 
 use crate::pass::{Pass, steps_after};
 use crate::slots::Slots;
@@ -25,11 +26,14 @@ impl<N: Nodes> Slots<N> {
         requires own { IsOf pass.old.trace self.now }
         requires slot { slot < self.now.start.shape.slots }
         requires asked { IsOpIn self.now.start op }
-        requires checked { IsChecked self.now pass.old.trace (ConfirmPresent op slot expected) }
+        requires checked { IsChecked self.now pass.old.trace
+            (ConfirmPresent op slot (wide_in self.now expected)) }
         ensures found { OnOk result
-            (Finds (ConfirmPresent op slot expected) pass.old pass.new expected) }
-        ensures other { IfErr result
-            (FindsOther (ConfirmPresent op slot expected) pass.old pass.new expected) }
+            (Finds (ConfirmPresent op slot (wide_in self.now expected)) pass.old pass.new
+            (wide_in self.now expected)) }
+        ensures other { IfErr result (λ found.
+            FindsOther (ConfirmPresent op slot (wide_in self.now expected)) pass.old pass.new
+            (wide_in self.now expected) (wide_in self.now found)) }
     {
         pass.steps = steps_after(pass.steps, 1);
         self.at(&mut pass.stepper)
@@ -50,11 +54,13 @@ impl<N: Nodes> Slots<N> {
         requires holder { IsAtIn self.now.start holder }
         requires asked { IsOpIn self.now.start op }
         requires checked { IsChecked self.now pass.old.trace
-            (ConfirmAbsent op key holder expected) }
+            (ConfirmAbsent op key holder (wide_in self.now expected)) }
         ensures found { OnOk result
-            (Finds (ConfirmAbsent op key holder expected) pass.old pass.new expected) }
-        ensures other { IfErr result
-            (FindsOther (ConfirmAbsent op key holder expected) pass.old pass.new expected) }
+            (Finds (ConfirmAbsent op key holder (wide_in self.now expected)) pass.old pass.new
+            (wide_in self.now expected)) }
+        ensures other { IfErr result (λ found.
+            FindsOther (ConfirmAbsent op key holder (wide_in self.now expected)) pass.old pass.new
+            (wide_in self.now expected) (wide_in self.now found)) }
     {
         pass.steps = steps_after(pass.steps, 1);
         self.at(&mut pass.stepper)
@@ -73,11 +79,13 @@ impl<N: Nodes> Slots<N> {
     ) -> Result<(), u64>
         requires own { IsOf pass.old.trace self.now }
         requires accepted { Accepts self.now.start (knows pass.old.trace)
-            (look_up present key holder expected) }
+            (look_up present key holder (wide_in self.now expected)) }
         ensures found { OnOk result
-            (Finds (look_up present key holder expected) pass.old pass.new expected) }
-        ensures other { IfErr result
-            (FindsOther (look_up present key holder expected) pass.old pass.new expected) }
+            (Finds (look_up present key holder (wide_in self.now expected)) pass.old pass.new
+            (wide_in self.now expected)) }
+        ensures other { IfErr result (λ found.
+            FindsOther (look_up present key holder (wide_in self.now expected)) pass.old pass.new
+            (wide_in self.now expected) (wide_in self.now found)) }
     {
         pass.steps = steps_after(pass.steps, 1);
         self.at(&mut pass.stepper)

@@ -5,6 +5,7 @@ ghost use Rattle.vbr_machine.specs.declared.event.Step.TheVariants.{Publish, Mar
 ghost use Rattle.vbr_slots.specs.Asked.{IsChecked, IsWritten};
 ghost use Rattle.vbr_slots.specs.Expected.{Finds, FindsOther, Publishes, ReplacesNode};
 ghost use Rattle.vbr_slots.specs.Views.{IsOf};
+ghost use Rattle.vbr_slots.specs.WideWords.{wide_in};
 
 use crate::pass::{Pass, steps_after};
 use crate::slots::Slots;
@@ -24,11 +25,15 @@ impl<N: Nodes> Slots<N> {
         requires own { IsOf pass.old.trace self.now }
         requires in_hand { pass.old.hand ≡ Some slot }
         requires pred { IsAtIn self.now.start pred }
-        requires checked { IsChecked self.now pass.old.trace (Publish pred expected slot) }
-        requires new { IsWritten pass.old.trace (Publish pred expected slot) new }
-        ensures found { OnOk result (Publishes pred expected slot pass.old pass.new) }
-        ensures other { IfErr result
-            (FindsOther (Publish pred expected slot) pass.old pass.new expected) }
+        requires checked { IsChecked self.now pass.old.trace
+            (Publish pred (wide_in self.now expected) slot) }
+        requires new { IsWritten pass.old.trace (Publish pred (wide_in self.now expected) slot)
+            (wide_in self.now new) }
+        ensures found { OnOk result
+            (Publishes pred (wide_in self.now expected) slot pass.old pass.new) }
+        ensures other { IfErr result (λ found.
+            FindsOther (Publish pred (wide_in self.now expected) slot) pass.old pass.new
+            (wide_in self.now expected) (wide_in self.now found)) }
     {
         pass.steps = steps_after(pass.steps, 1);
         self.at(&mut pass.stepper)
@@ -40,9 +45,14 @@ impl<N: Nodes> Slots<N> {
     pub fn mark(&self, pass: &mut Pass, slot: u32, expected: u64) -> Result<(), u64>
         requires own { IsOf pass.old.trace self.now }
         requires slot { slot < self.now.start.shape.slots }
-        requires checked { IsChecked self.now pass.old.trace (Mark slot expected) }
-        ensures found { OnOk result (Finds (Mark slot expected) pass.old pass.new expected) }
-        ensures other { IfErr result (FindsOther (Mark slot expected) pass.old pass.new expected) }
+        requires checked { IsChecked self.now pass.old.trace
+            (Mark slot (wide_in self.now expected)) }
+        ensures found { OnOk result
+            (Finds (Mark slot (wide_in self.now expected)) pass.old pass.new
+            (wide_in self.now expected)) }
+        ensures other { IfErr result (λ found.
+            FindsOther (Mark slot (wide_in self.now expected)) pass.old pass.new
+            (wide_in self.now expected) (wide_in self.now found)) }
     {
         pass.steps = steps_after(pass.steps, 1);
         self.at(&mut pass.stepper).mark(slot, expected)
@@ -62,11 +72,15 @@ impl<N: Nodes> Slots<N> {
         requires in_hand { pass.old.hand ≡ Some new }
         requires slot { slot < self.now.start.shape.slots }
         requires values { self.now.start.shape.values ≡ true }
-        requires checked { IsChecked self.now pass.old.trace (Replace slot expected new) }
-        requires word { IsWritten pass.old.trace (Replace slot expected new) word }
-        ensures found { OnOk result (ReplacesNode slot expected new pass.old pass.new) }
-        ensures other { IfErr result
-            (FindsOther (Replace slot expected new) pass.old pass.new expected) }
+        requires checked { IsChecked self.now pass.old.trace
+            (Replace slot (wide_in self.now expected) new) }
+        requires word { IsWritten pass.old.trace (Replace slot (wide_in self.now expected) new)
+            (wide_in self.now word) }
+        ensures found { OnOk result
+            (ReplacesNode slot (wide_in self.now expected) new pass.old pass.new) }
+        ensures other { IfErr result (λ found.
+            FindsOther (Replace slot (wide_in self.now expected) new) pass.old pass.new
+            (wide_in self.now expected) (wide_in self.now found)) }
     {
         pass.steps = steps_after(pass.steps, 1);
         self.at(&mut pass.stepper)
@@ -86,11 +100,16 @@ impl<N: Nodes> Slots<N> {
         requires own { IsOf pass.old.trace self.now }
         requires pred { IsAtIn self.now.start pred }
         requires slot { slot < self.now.start.shape.slots }
-        requires checked { IsChecked self.now pass.old.trace (Unlink pred expected slot) }
-        requires new { IsWritten pass.old.trace (Unlink pred expected slot) new }
-        ensures found { OnOk result (Finds (Unlink pred expected slot) pass.old pass.new expected) }
-        ensures other { IfErr result
-            (FindsOther (Unlink pred expected slot) pass.old pass.new expected) }
+        requires checked { IsChecked self.now pass.old.trace
+            (Unlink pred (wide_in self.now expected) slot) }
+        requires new { IsWritten pass.old.trace (Unlink pred (wide_in self.now expected) slot)
+            (wide_in self.now new) }
+        ensures found { OnOk result
+            (Finds (Unlink pred (wide_in self.now expected) slot) pass.old pass.new
+            (wide_in self.now expected)) }
+        ensures other { IfErr result (λ found.
+            FindsOther (Unlink pred (wide_in self.now expected) slot) pass.old pass.new
+            (wide_in self.now expected) (wide_in self.now found)) }
     {
         pass.steps = steps_after(pass.steps, 1);
         self.at(&mut pass.stepper).unlink(pred, expected, slot, new)

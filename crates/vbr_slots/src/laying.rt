@@ -10,7 +10,8 @@ ghost use Rattle.vbr_slots.specs.Words.{AreWordsOf, HeadsFit};
 
 use std::alloc::{AllocError, Global};
 use vbr_words::flags::{all_but, flag_words, full_flags, word_of_flag};
-use vbr_words::link::{MARK, MAX_SLOTS, version_of};
+use vbr_words::link::{MAX_SLOTS, version_of};
+use vbr_words::shape::shape_word;
 use vbr_words::{Link, Place, Shape, decode, encode, place_index, word_count};
 
 // The words of the world that opens with these keys, and their values where nodes have values. They
@@ -60,10 +61,10 @@ fn empty_words(alloc: Global, shape: &Shape) -> Result<Vec<u64>, AllocError>
 {
     let mut words = vec![in alloc; 0; word_count(shape)]?;
     words[place_index(shape, Place::Epoch)] = 1;
-    words[place_index(shape, Place::ShapeWord)] = u64::from(shape.slots())
-        + MARK * shape.last_epoch();
+    words[place_index(shape, Place::ShapeWord)] = shape_word(shape);
+    let blank = shape.layout().mark();
     for slot in 0..shape.slots() {
-        words[place_index(shape, Place::LinkOf(slot))] = MARK;
+        words[place_index(shape, Place::LinkOf(slot))] = blank;
     }
     for number in 0..flag_words(shape) {
         words[place_index(shape, Place::Flags(number))] = full_flags(shape, number);
@@ -76,24 +77,26 @@ fn empty_words(alloc: Global, shape: &Shape) -> Result<Vec<u64>, AllocError>
 fn link_key(shape: &Shape, words: &mut [u64], number: u32, key: u64, value: u64)
     requires number { number < shape.now.slots }
     requires words { length words.old ≡ words_in shape.now }
-    ensures { (keys values : List ℕ) (w : World) → HeadsFit w →
+    ensures { (keys values : List ℕ) (w : World) → HeadsFit shape.now w →
         let whole = start_with shape.now keys values in AreWordsOf whole w words.old
         → AreWordsOf whole (with_key_ahead whole number key value w) words.new }
 {
     prove!(shape.slots() <= MAX_SLOTS);
     let head = place_index(shape, Place::Head(shape.bucket_of(key)));
-    let first = decode(words[head]);
+    let layout = shape.layout();
+    let first = decode(words[head], layout);
     let link = Link {
         slot: first.slot,
         mark: false,
         version: version_of(1, first.version),
     };
-    words[place_index(shape, Place::LinkOf(number))] = encode(link);
-    words[head] = encode(Link {
+    words[place_index(shape, Place::LinkOf(number))] = encode(link, layout);
+    let to_key = Link {
         slot: Some(number),
         mark: false,
         version: 1,
-    });
+    };
+    words[head] = encode(to_key, layout);
     words[place_index(shape, Place::Birth(number))] = 1;
     words[place_index(shape, Place::Key(number))] = key;
     if shape.has_values() {

@@ -4,6 +4,7 @@ ghost use Rattle.vbr_machine.specs.Acceptance.{IsAtIn};
 ghost use Rattle.vbr_machine.specs.Knowledge.{holds, holds_at};
 ghost use Rattle.vbr_machine.specs.declared.event.Step.TheVariants.{LoadLink, LoadBirth, LoadKey, LoadValue, PeekBirth};
 ghost use Rattle.vbr_slots.specs.Views.{IsOf, Did, KeepsPool, knows};
+ghost use Rattle.vbr_slots.specs.WideWords.{wide_in};
 
 use crate::pass::{Pass, steps_after};
 use crate::slots::Slots;
@@ -16,7 +17,8 @@ impl<N: Nodes> Slots<N> {
         requires own { IsOf pass.old.trace self.now }
         requires holder { IsAtIn self.now.start holder }
         requires held { IsTrue (holds_at (knows pass.old.trace).checked holder) }
-        ensures step { Did (LoadLink holder) pass.old.trace pass.new.trace result }
+        ensures step { Did (LoadLink holder) pass.old.trace pass.new.trace
+            (wide_in self.now result) }
         ensures pool { KeepsPool pass.old pass.new }
     {
         pass.steps = steps_after(pass.steps, 1);

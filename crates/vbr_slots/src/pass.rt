@@ -56,6 +56,14 @@ impl Pass {
         self.stepper.law();
     }
 
+    /// How many slots its table has.
+    #[inline]
+    pub fn slots(&self) -> u32
+        ensures { result ≡ self.now.trace.start.shape.slots }
+    {
+        self.stepper.runner.opening.shape.slots()
+    }
+
     /// How many steps it has made since the opening, counted up to the greatest number: its own events
     /// in what it has seen.
     #[inline]

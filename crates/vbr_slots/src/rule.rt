@@ -116,6 +116,19 @@ impl<E: Naming> Play<(), LinkedList<Witness>> for Does<E> {
     ghost then = { λ _. Told E.opening E.event };
 }
 
+/// The same at a link word, which the table keeps packed.
+pub struct DoesAtLink<E> {
+    event: PhantomData<E>,
+}
+
+impl<E: Naming> Play<(), LinkedList<Witness>> for DoesAtLink<E> {
+    ghost use Rattle.vbr_words.specs.Packing.{slot_bits, unpacked};
+    ghost use Rattle.vbr_slots.specs.Rule.{Told};
+
+    ghost then = { λ _ m r n. Told E.opening E.event m
+        (unpacked (slot_bits E.opening.start.shape.slots) r) n };
+}
+
 /// The pass of the event that `E` names sees all of the run, which is no event; the tokens beside it are
 /// spent.
 pub struct Catches<E> {

@@ -1,5 +1,7 @@
 //! The table.
 ghost use Rattle.std.specs.Prelude.{◌≡◌, ◌<◌, ◌≤◌, []};
+ghost use Rattle.vbr_words.specs.Packing.{slot_bits};
+ghost use Rattle.vbr_words.specs.declared.link.TheConstants.{SLOT_BITS};
 ghost use Rattle.vbr_machine.specs.Start.{IsStart};
 ghost use Rattle.vbr_slots.specs.declared.opening.TheConstants.{MAX_MANY_PASSES};
 
@@ -8,7 +10,7 @@ use atomic_table::Table;
 use std::alloc::Global;
 use std::collections::LinkedList;
 use std::marker::{Model, PhantomData};
-use vbr_words::{Keys, Nodes, Shape};
+use vbr_words::{Keys, Layout, Nodes, Shape};
 
 /// The words of a set, or of a map, shared by the passes that were opened with it. Its nodes are of one
 /// kind: [`Keys`], which is the table of a set, or [`vbr_words::Entries`], that of a map.
@@ -48,6 +50,15 @@ impl<N: Nodes> Slots<N> {
     {
         let _slots = self.opening.shape.slots();
         self.opening.shape
+    }
+
+    /// How its link words are kept.
+    #[inline]
+    pub fn layout(&self) -> Layout
+        ensures layout { result ≡ slot_bits self.now.start.shape.slots }
+        ensures few { result ≤ SLOT_BITS }
+    {
+        self.opening.shape.layout()
     }
 
     /// How many passes it was opened with: from 1 to `MAX_MANY_PASSES`.

@@ -15,8 +15,10 @@ ghost use Rattle.vbr_slots.specs.Reads.{Reads};
 ghost use Rattle.vbr_slots.specs.Stepping.{NamesStep};
 ghost use Rattle.vbr_slots.specs.Tokens.{Since};
 ghost use Rattle.vbr_slots.specs.Views.{IsOf, Did, KeepsPool, knows, epoch_after};
+ghost use Rattle.vbr_slots.specs.Words.{IsPlain};
+ghost use Rattle.vbr_slots.specs.WideWords.{wide_in};
 
-use crate::rule::{Both, Catches, Does, First, Naming, Note, Whole};
+use crate::rule::{Both, Catches, Does, DoesAtLink, First, Naming, Note, Whole};
 use crate::runner::{Runner, keep_epoch, keep_epoch_found};
 use crate::seen::Seen;
 use crate::slots::Slots;
@@ -24,17 +26,6 @@ use crate::stepper::Stepper;
 use std::marker::Brand;
 use vbr_machine::Step;
 use vbr_words::{At, Nodes, Place, Shape, place_index_in, words_of_node};
-
-// The place of a link word.
-#[inline]
-pub(crate) fn place_of_link(holder: At) -> Place
-    ensures { result ≡ places.place_of holder }
-{
-    match holder {
-        At::Head(bucket) => Place::Head(bucket),
-        At::Slot(slot) => Place::LinkOf(slot),
-    }
-}
 
 // The index of the link word at a place, where the words of slots begin at this one, and each slot has
 // so many. No branch is needed to find it.
@@ -70,12 +61,48 @@ impl<N: Nodes> Slots<N> {
         requires accepted { Accepts self.now.start (knows runner.old) step }
         requires place { places.place_of holder ≡ place_of_step step }
         requires access { access_of (knows runner.old) step ≡ Load }
-        ensures { Did step runner.old runner.new result }
+        ensures { Did step runner.old runner.new (wide_in self.now result) }
     {
+        let _ = &runner.epoch;
         let word = link_index_in::<N>(&self.opening.shape, holder);
-        let found = self.table.shared.load::<Does<E>>(&mut runner.seat, word);
-        keep_epoch(&mut runner.epoch, step, found);
-        found
+        self.table
+            .shared
+            .load::<DoesAtLink<E>>(&mut runner.seat, word)
+    }
+
+    // The same of a stepper, whose own pool and hand stay.
+    #[inline]
+    pub(crate) fn load_at(&self, stepper: &mut Stepper, step: Step, holder: At) -> u64
+        requires own { IsOf stepper.old.trace self.now }
+        requires accepted { Accepts self.now.start (knows stepper.old.trace) step }
+        requires place { places.place_of holder ≡ place_of_step step }
+        requires access { access_of (knows stepper.old.trace) step ≡ Load }
+        ensures step { Did step stepper.old.trace stepper.new.trace (wide_in self.now result) }
+        ensures pool { KeepsPool stepper.old stepper.new }
+    {
+        self.load_at_as::<Brand>(&mut stepper.runner, step, holder)
+    }
+
+    // One load of a link word, and one of the epoch: two steps. The stepper's pass read `before` last.
+    #[inline]
+    pub(crate) fn load_at_and_epoch(
+        &self,
+        stepper: &mut Stepper,
+        before: u64,
+        step: Step,
+        holder: At,
+    ) -> (u64, u64)
+        requires own { IsOf stepper.old.trace self.now }
+        requires before { before ≡ (knows stepper.old.trace).epoch }
+        requires accepted { Accepts self.now.start (knows stepper.old.trace) step }
+        requires place { places.place_of holder ≡ place_of_step step }
+        requires access { access_of (knows stepper.old.trace) step ≡ Load }
+        requires stays { (found epoch : ℕ) → epoch_after step found epoch ≡ epoch }
+        ensures { Reads step stepper.old stepper.new (wide_in self.now result.0) result.1 }
+    {
+        let found = self.load_at(stepper, step, holder);
+        let epoch = self.read_epoch_as::<Brand>(&mut stepper.runner, before);
+        (found, epoch)
     }
 
     // One load, which is the step.
@@ -85,6 +112,7 @@ impl<N: Nodes> Slots<N> {
         requires own { IsOf runner.old self.now }
         requires accepted { Accepts self.now.start (knows runner.old) step }
         requires place { place ≡ place_of_step step }
+        requires plain { IsPlain place }
         requires access { access_of (knows runner.old) step ≡ Load }
         ensures { Did step runner.old runner.new result }
     {
@@ -100,6 +128,7 @@ impl<N: Nodes> Slots<N> {
         requires own { IsOf stepper.old.trace self.now }
         requires accepted { Accepts self.now.start (knows stepper.old.trace) step }
         requires place { place ≡ place_of_step step }
+        requires plain { IsPlain place }
         requires access { access_of (knows stepper.old.trace) step ≡ Load }
         ensures step { Did step stepper.old.trace stepper.new.trace result }
         ensures pool { KeepsPool stepper.old stepper.new }
@@ -137,6 +166,7 @@ impl<N: Nodes> Slots<N> {
         requires before { before ≡ (knows stepper.old.trace).epoch }
         requires accepted { Accepts self.now.start (knows stepper.old.trace) step }
         requires place { place ≡ place_of_step step }
+        requires plain { IsPlain place }
         requires access { access_of (knows stepper.old.trace) step ≡ Load }
         requires stays { (found epoch : ℕ) → epoch_after step found epoch ≡ epoch }
         ensures { Reads step stepper.old stepper.new result.0 result.1 }
@@ -153,6 +183,7 @@ impl<N: Nodes> Slots<N> {
         requires own { IsOf runner.old self.now }
         requires accepted { Accepts self.now.start (knows runner.old) step }
         requires place { place ≡ place_of_step step }
+        requires plain { IsPlain place }
         requires access { access_of (knows runner.old) step ≡ Store new }
         ensures { Did step runner.old runner.new new }
     {
@@ -168,10 +199,83 @@ impl<N: Nodes> Slots<N> {
         requires own { IsOf runner.old self.now }
         requires accepted { Accepts self.now.start (knows runner.old) step }
         requires place { place ≡ place_of_step step }
+        requires plain { IsPlain place }
         requires access { access_of (knows runner.old) step ≡ Store new }
         ensures { Did step runner.old runner.new new }
     {
         self.store_as::<Brand>(runner, step, place, new);
+    }
+
+    // One store of a link word, which is the step.
+    #[inline]
+    fn store_at_as<E: Naming>(&self, runner: &mut Runner, step: Step, holder: At, new: u64)
+        requires named { NamesStep E.event E.opening runner.old self.now step }
+        requires own { IsOf runner.old self.now }
+        requires accepted { Accepts self.now.start (knows runner.old) step }
+        requires place { places.place_of holder ≡ place_of_step step }
+        requires access { access_of (knows runner.old) step ≡ Store (wide_in self.now new) }
+        ensures { Did step runner.old runner.new (wide_in self.now new) }
+    {
+        let _ = &runner.epoch;
+        let word = link_index_in::<N>(&self.opening.shape, holder);
+        self.table
+            .shared
+            .store::<DoesAtLink<E>>(&mut runner.seat, word, new);
+    }
+
+    #[inline]
+    pub(crate) fn store_at(&self, runner: &mut Runner, step: Step, holder: At, new: u64)
+        requires own { IsOf runner.old self.now }
+        requires accepted { Accepts self.now.start (knows runner.old) step }
+        requires place { places.place_of holder ≡ place_of_step step }
+        requires access { access_of (knows runner.old) step ≡ Store (wide_in self.now new) }
+        ensures { Did step runner.old runner.new (wide_in self.now new) }
+    {
+        self.store_at_as::<Brand>(runner, step, holder, new);
+    }
+
+    // One exchange of an expected link word for a new one, which is the step. Returns what it found.
+    #[inline]
+    fn exchange_at_as<E: Naming>(
+        &self,
+        runner: &mut Runner,
+        step: Step,
+        holder: At,
+        expected: u64,
+        new: u64,
+    ) -> u64
+        requires named { NamesStep E.event E.opening runner.old self.now step }
+        requires own { IsOf runner.old self.now }
+        requires accepted { Accepts self.now.start (knows runner.old) step }
+        requires place { places.place_of holder ≡ place_of_step step }
+        requires access { access_of (knows runner.old) step ≡
+            Exchange (wide_in self.now expected) (wide_in self.now new) }
+        ensures { Did step runner.old runner.new (wide_in self.now result) }
+    {
+        let _ = &runner.epoch;
+        let word = link_index_in::<N>(&self.opening.shape, holder);
+        self.table
+            .shared
+            .compare_exchange::<DoesAtLink<E>>(&mut runner.seat, word, expected, new)
+    }
+
+    #[inline]
+    pub(crate) fn exchange_at(
+        &self,
+        runner: &mut Runner,
+        step: Step,
+        holder: At,
+        expected: u64,
+        new: u64,
+    ) -> u64
+        requires own { IsOf runner.old self.now }
+        requires accepted { Accepts self.now.start (knows runner.old) step }
+        requires place { places.place_of holder ≡ place_of_step step }
+        requires access { access_of (knows runner.old) step ≡
+            Exchange (wide_in self.now expected) (wide_in self.now new) }
+        ensures { Did step runner.old runner.new (wide_in self.now result) }
+    {
+        self.exchange_at_as::<Brand>(runner, step, holder, expected, new)
     }
 
     // One exchange of an expected word for a new one, which is the step. Returns what it found.
@@ -188,6 +292,7 @@ impl<N: Nodes> Slots<N> {
         requires own { IsOf runner.old self.now }
         requires accepted { Accepts self.now.start (knows runner.old) step }
         requires place { place ≡ place_of_step step }
+        requires plain { IsPlain place }
         requires access { access_of (knows runner.old) step ≡ Exchange expected new }
         ensures { Did step runner.old runner.new result }
     {
@@ -212,6 +317,7 @@ impl<N: Nodes> Slots<N> {
         requires own { IsOf runner.old self.now }
         requires accepted { Accepts self.now.start (knows runner.old) step }
         requires place { place ≡ place_of_step step }
+        requires plain { IsPlain place }
         requires access { access_of (knows runner.old) step ≡ Exchange expected new }
         ensures { Did step runner.old runner.new result }
     {
@@ -231,6 +337,7 @@ impl<N: Nodes> Slots<N> {
         requires own { IsOf runner.old self.now }
         requires accepted { Accepts self.now.start (knows runner.old) step }
         requires place { place ≡ place_of_step step }
+        requires plain { IsPlain place }
         requires access { access_of (knows runner.old) step ≡ FetchOr bits }
         ensures { Did step runner.old runner.new result }
     {
@@ -256,6 +363,7 @@ impl<N: Nodes> Slots<N> {
         requires own { IsOf runner.old self.now }
         requires accepted { Accepts self.now.start (knows runner.old) step }
         requires place { place ≡ place_of_step step }
+        requires plain { IsPlain place }
         requires access { access_of (knows runner.old) step ≡ FetchAnd bits }
         ensures { Did step runner.old runner.new result }
     {

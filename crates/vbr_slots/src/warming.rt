@@ -60,7 +60,7 @@ impl<N: Nodes> Slots<N> {
         ensures counted { loads.old ≤ loads.new }
         ensures most { loads.new ≤ loads.old + 2 }
     {
-        let Some(slot) = decode(word).slot else {
+        let Some(slot) = decode(word, self.layout()).slot else {
             return word;
         };
         if slot >= self.opening.shape.slots() {

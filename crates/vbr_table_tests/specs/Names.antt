@@ -7,7 +7,7 @@ pub use Rattle.vbr_slots.specs.Views.{IsOf, knows}
 pub use Rattle.vbr_at_table.specs.Answering.{IsPresent}
 pub use Rattle.vbr_at_table.specs.Exchanges.{GivesBack, IsUnmarked}
 pub use Rattle.vbr_at_table.specs.Hands.{IsHandOf}
-pub use Rattle.vbr_at_table.specs.Held.{IsHeld, Names}
+pub use Rattle.vbr_at_table.specs.Held.{IsHeld, Names, said, said_marked, said_rollback}
 pub use Rattle.vbr_at_table.specs.KeptKnowledge.{Keeps, KeepsOwn}
 pub use Rattle.vbr_at_table.specs.Replacing.{IsReplaceable, ReplacesHeld}
 pub use Rattle.vbr_at_table.specs.Values.{IsValued}

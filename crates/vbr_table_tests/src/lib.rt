@@ -9,6 +9,8 @@ mod entries;
 #[cfg(test)]
 mod flag_words;
 #[cfg(test)]
+mod kept_words;
+#[cfg(test)]
 mod list;
 #[cfg(test)]
 mod listed_calls;

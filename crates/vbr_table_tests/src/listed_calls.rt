@@ -1,45 +1,50 @@
 //! The worked lists of events, call by call on a running table with two passes. Each list is shown to
 //! be accepted, so each call may be made; its effect is compared when it was made.
 ghost use Rattle.std.specs.Prelude.{◌≡◌, ◌≢◌, ◌<◌, ◌==◌, MatchResult, IfSome, true, false};
+ghost use Rattle.vbr_words.specs.declared.shape.TheConstants.{MAX_EPOCH};
 ghost use Rattle.vbr_machine.specs.Learning.{present_reply};
 ghost use Rattle.vbr_machine.specs.Start.{empty_start};
 ghost use Rattle.vbr_machine.specs.Machine.{opening};
 ghost use Rattle.vbr_slots.specs.Views.{IsOf};
+ghost use Rattle.vbr_slots.specs.WideWords.{wide_in};
 ghost use Rattle.vbr_event_lists.specs.Worked.{AreWorked, first_of, names_link, others_of};
 ghost use Rattle.vbr_event_lists.specs.Valued.{with_values};
 ghost use Rattle.vbr_table_tests.specs.Following.{Learned, May, BothFollow, IsWorkedOn};
 
+use crate::kept_words::{kept, link_in, number_in};
 use crate::running_table::{Opened, expect_words, open_two, shape_of};
 use std::alloc::{AllocError, Global};
 use std::process::Abort;
 use std::test::Fail;
 use vbr_event_lists::{
-    RAISED_IN_HAND, RAISED_IN_HAND_WORDS, REBORN_SLOT, REBORN_SLOT_WORDS, REPLACED_VALUE,
-    REPLACED_VALUE_WORDS, Row, SAME_WORD, SAME_WORD_WORDS, STANDING_WITH_VALUES, STANDING_WORDS,
-    STORED_VALUE, STORED_VALUE_WORDS, TWO_HELPERS, TWO_HELPERS_WORDS, with_values,
+    RAISED_IN_HAND_WORDS, REBORN_SLOT_WORDS, REPLACED_VALUE_WORDS, Row, SAME_WORD_WORDS,
+    STANDING_WORDS, STORED_VALUE_WORDS, TWO_HELPERS_WORDS, numbered, raised_in_hand, reborn_slot,
+    replaced_value, same_word, standing_rows_with_values, stored_value, two_helpers, with_values,
 };
 use vbr_machine::{Effect, Op, Step};
 use vbr_slots::{Pass, Slots};
-use vbr_words::{Entries, Keys, Nodes, Shape, decode};
+use vbr_words::{Entries, Keys, Nodes, Shape};
 
 // The effect of an exchange.
-fn exchanged(answer: Result<(), u64>) -> Effect
-    ensures { MatchResult answer (λ _. result ≡ Effect.Won) (λ found. result ≡ Effect.Lost found) }
+fn exchanged<N: Nodes>(slots: &Slots<N>, answer: Result<(), u64>) -> Effect
+    ensures { MatchResult answer
+        (λ _. result ≡ Effect.Won) (λ found. result ≡ Effect.Lost (wide_in slots.now found)) }
 {
     match answer {
         Ok(()) => Effect::Won,
-        Err(found) => Effect::Lost(found),
+        Err(found) => Effect::Lost(number_in(slots, found)),
     }
 }
 
 // The effect of a confirming load.
-fn confirmed(answer: Result<(), u64>, reply: bool) -> Effect
+fn confirmed<N: Nodes>(slots: &Slots<N>, answer: Result<(), u64>, reply: bool) -> Effect
     ensures { MatchResult answer
-        (λ _. result ≡ Effect.Answered reply) (λ found. result ≡ Effect.Lost found) }
+        (λ _. result ≡ Effect.Answered reply)
+        (λ found. result ≡ Effect.Lost (wide_in slots.now found)) }
 {
     match answer {
         Ok(()) => Effect::Answered(reply),
-        Err(found) => Effect::Lost(found),
+        Err(found) => Effect::Lost(number_in(slots, found)),
     }
 }
 
@@ -71,124 +76,157 @@ fn expect_in_hand(rt: &impl Abort, pass: &Pass, wanted: Option<u32>)
     assert_eq!(rt; pass.in_hand(), wanted);
 }
 
-// Makes a step by the call of its kind. In the lists each slot that is reached for is in the shared
-// pool, and each epoch that is advanced is the expected one.
+// Makes a step by the call of its kind, with the number of the link word that it writes. In the lists each slot
+// that is reached for is in the shared pool, and each epoch that is advanced is the expected one.
 fn call<N: Nodes>(
     rt: &impl Abort,
     slots: &Slots<N>,
     pass: &mut Pass,
-    step: Step,
-    new: u64,
+    step: &Step,
+    number: u64,
 ) -> Effect
-    requires { May slots.now pass.old.trace step new }
-    ensures { Learned step pass.old.trace pass.new.trace result }
+    requires { May slots.now pass.old.trace step.now number }
+    ensures { Learned step.now pass.old.trace pass.new.trace result }
 {
     match step {
-        Step::ReadEpoch => Effect::Value(slots.read_epoch(pass)),
+        Step::ReadEpoch => Effect::Value(u128::from(slots.read_epoch(pass))),
         Step::Advance { from } => {
-            assert!(rt; slots.advance(pass, from));
+            assert!(rt; slots.advance(pass, *from));
             Effect::Won
         }
-        Step::LoadStamp { slot } => Effect::Value(slots.load_stamp(pass, slot)),
-        Step::PeekBirth { slot } => Effect::Value(slots.peek_birth(pass, slot)),
+        Step::LoadStamp { slot } => Effect::Value(u128::from(slots.load_stamp(pass, *slot))),
+        Step::PeekBirth { slot } => Effect::Value(u128::from(slots.peek_birth(pass, *slot))),
         Step::StoreStamp { slot, .. } => {
-            slots.store_stamp(pass, slot);
+            slots.store_stamp(pass, *slot);
             Effect::Done
         }
         Step::Raise { slot } => {
-            slots.raise(pass, slot);
+            slots.raise(pass, *slot);
             Effect::Done
         }
         Step::TakeFlag { slot } => {
-            take(rt, slots, pass, slot);
+            take(rt, slots, pass, *slot);
             Effect::Won
         }
         Step::StoreBirth { slot, .. } => {
             expect_in_hand(rt, pass, None);
-            slots.store_birth(pass, slot);
+            slots.store_birth(pass, *slot);
             Effect::Done
         }
         Step::StoreKey { slot, key } => {
-            expect_in_hand(rt, pass, Some(slot));
-            slots.store_key(pass, slot, key);
+            expect_in_hand(rt, pass, Some(*slot));
+            slots.store_key(pass, *slot, *key);
             Effect::Done
         }
         Step::StoreValue { slot, value } => {
-            expect_in_hand(rt, pass, Some(slot));
-            slots.store_value(pass, slot, value);
+            expect_in_hand(rt, pass, Some(*slot));
+            slots.store_value(pass, *slot, *value);
             Effect::Done
         }
         Step::StoreLink { slot, next } => {
-            expect_in_hand(rt, pass, Some(slot));
-            assert!(rt; decode(new).slot == next);
-            slots.store_link(pass, slot, new);
+            expect_in_hand(rt, pass, Some(*slot));
+            let new = kept(rt, slots, numbered(number));
+            assert!(rt; link_in(slots, new).slot == *next);
+            slots.store_link(pass, *slot, new);
             Effect::Done
         }
-        Step::LoadLink { at: holder } => Effect::Value(slots.load_link(pass, holder)),
-        Step::LoadBirth { slot } => Effect::Value(slots.load_birth(pass, slot)),
-        Step::LoadKey { slot } => Effect::Value(slots.load_key(pass, slot)),
-        Step::LoadValue { slot } => Effect::Value(slots.load_value(pass, slot)),
+        Step::LoadLink { at: holder } => {
+            let word = slots.load_link(pass, *holder);
+            Effect::Value(number_in(slots, word))
+        }
+        Step::LoadBirth { slot } => Effect::Value(u128::from(slots.load_birth(pass, *slot))),
+        Step::LoadKey { slot } => Effect::Value(u128::from(slots.load_key(pass, *slot))),
+        Step::LoadValue { slot } => Effect::Value(u128::from(slots.load_value(pass, *slot))),
         Step::Publish {
             pred,
             expected,
             slot,
         } => {
-            expect_in_hand(rt, pass, Some(slot));
-            exchanged(slots.publish(pass, pred, expected, slot, new))
+            expect_in_hand(rt, pass, Some(*slot));
+            let word = kept(rt, slots, *expected);
+            let new = kept(rt, slots, numbered(number));
+            let answer = slots.publish(pass, *pred, word, *slot, new);
+            exchanged(slots, answer)
         }
-        Step::Mark { slot, expected } => exchanged(slots.mark(pass, slot, expected)),
+        Step::Mark { slot, expected } => {
+            let word = kept(rt, slots, *expected);
+            let answer = slots.mark(pass, *slot, word);
+            exchanged(slots, answer)
+        }
         Step::Replace {
             slot,
             expected,
             new: by,
         } => {
-            expect_in_hand(rt, pass, Some(by));
-            exchanged(slots.replace(pass, slot, expected, by, new))
+            expect_in_hand(rt, pass, Some(*by));
+            let word = kept(rt, slots, *expected);
+            let new = kept(rt, slots, numbered(number));
+            let answer = slots.replace(pass, *slot, word, *by, new);
+            exchanged(slots, answer)
         }
         Step::Unlink {
             pred,
             expected,
             slot,
-        } => exchanged(slots.unlink(pass, pred, expected, slot, new)),
+        } => {
+            let word = kept(rt, slots, *expected);
+            let new = kept(rt, slots, numbered(number));
+            let answer = slots.unlink(pass, *pred, word, *slot, new);
+            exchanged(slots, answer)
+        }
         Step::ConfirmPresent { op, slot, expected } => {
-            let answer = slots.confirm_present(pass, op, slot, expected);
-            confirmed(answer, present_reply(op))
+            let word = kept(rt, slots, *expected);
+            let answer = slots.confirm_present(pass, *op, *slot, word);
+            confirmed(slots, answer, present_reply(*op))
         }
         Step::ConfirmAbsent {
             op,
             key,
             at: holder,
             expected,
-        } => confirmed(slots.confirm_absent(pass, op, key, holder, expected), false),
+        } => {
+            let word = kept(rt, slots, *expected);
+            let answer = slots.confirm_absent(pass, *op, *key, *holder, word);
+            confirmed(slots, answer, false)
+        }
     }
 }
 
 // Compares the effect of a step of a pass.
-fn expect_effect(rt: &impl Abort, told: Effect, effect: Effect, step: Step, who: u32)
+fn expect_effect(rt: &impl Abort, told: Effect, effect: Effect, step: &Step, who: u32)
     ensures { told ≡ effect }
 {
     assert_eq!(rt; told, effect, "{step:?} of pass {who}");
 }
 
 // Makes the step of a row by its pass, and compares the effect.
-fn make<N: Nodes>(rt: &impl Abort, slots: &Slots<N>, a: &mut Pass, b: &mut Pass, row: Row, new: u64)
-    requires first { row.0 ≡ 0 → May slots.now a.old.trace row.1 new }
-    requires second { row.0 ≢ 0 → May slots.now b.old.trace row.1 new }
-    ensures first { row.0 ≡ 0 → Learned row.1 a.old.trace a.new.trace row.2 × (b.new ≡ b.old) }
-    ensures second { row.0 ≢ 0 → Learned row.1 b.old.trace b.new.trace row.2 × (a.new ≡ a.old) }
+fn make<N: Nodes>(
+    rt: &impl Abort,
+    slots: &Slots<N>,
+    a: &mut Pass,
+    b: &mut Pass,
+    row: &Row,
+    number: u64,
+)
+    requires first { row.now.0 ≡ 0 → May slots.now a.old.trace row.now.1 number }
+    requires second { row.now.0 ≢ 0 → May slots.now b.old.trace row.now.1 number }
+    ensures first { row.now.0 ≡ 0 → Learned row.now.1 a.old.trace a.new.trace row.now.2
+        × (b.new ≡ b.old) }
+    ensures second { row.now.0 ≢ 0 → Learned row.now.1 b.old.trace b.new.trace row.now.2
+        × (a.new ≡ a.old) }
 {
     let (who, step, effect) = row;
-    let told = if who == 0 {
-        call(rt, slots, a, step, new)
+    let told = if *who == 0 {
+        call(rt, slots, a, step, number)
     } else {
-        call(rt, slots, b, step, new)
+        call(rt, slots, b, step, number)
     };
-    expect_effect(rt, told, effect, step, who);
+    expect_effect(rt, told, *effect, step, *who);
 }
 
 // Whether a step writes a link word that its caller names.
-fn names_link(step: Step) -> bool
-    ensures { result ≡ names_link step }
+fn names_link(step: &Step) -> bool
+    ensures { result ≡ names_link step.now }
 {
     match step {
         Step::StoreLink { .. } | Step::Publish { .. } => true,
@@ -208,7 +246,7 @@ fn first_and_others(words: &[u64]) -> (u64, &[u64])
     }
 }
 
-// Makes the steps of a list, with the link words that its callers name.
+// Makes the steps of a list, with the numbers of the link words that its callers name.
 fn follow<N: Nodes>(
     rt: &impl Abort,
     slots: &Slots<N>,
@@ -222,8 +260,8 @@ fn follow<N: Nodes>(
 {
     while let Some((row, later)) = rows.split_first() {
         let (first, others) = first_and_others(words);
-        make(rt, slots, a, b, *row, first);
-        if names_link(row.1) {
+        make(rt, slots, a, b, row, first);
+        if names_link(&row.1) {
             words = others;
         }
         rows = later;
@@ -257,7 +295,8 @@ pub(crate) fn table_after<R: Abort, N: Opened>(
     rows: &[Row],
     words: &[u64],
 ) -> Option<(Slots<N>, Pass, Pass)>
-    requires { IsWorkedOn numbers.0 numbers.1 N.VALUES rows.now words.now }
+    requires worked { IsWorkedOn numbers.0 numbers.1 N.VALUES rows.now words.now }
+    requires plain { numbers.1 ≢ MAX_EPOCH }
     ensures bucket { IfSome result (λ r. r.0.start.shape.buckets ≡ 1) }
     ensures own { IfSome result (λ r. IsOf r.1.trace r.0 × IsOf r.2.trace r.0) }
 {
@@ -277,7 +316,8 @@ fn expect_listed<R: Abort, N: Opened>(
     words: &[u64],
     left: &[u64],
 )
-    requires { IsWorkedOn numbers.0 numbers.1 N.VALUES rows.now words.now }
+    requires worked { IsWorkedOn numbers.0 numbers.1 N.VALUES rows.now words.now }
+    requires plain { numbers.1 ≢ MAX_EPOCH }
 {
     let table = table_after::<R, N>(rt, alloc, numbers, rows, words);
     let (slots, a, b) = table.expect(rt, "there is memory");
@@ -325,38 +365,38 @@ fn expect_both<R: Abort>(
 }
 
 // What the lists leave, but for the flags and, in the first four, for values.
-const TWO_HELPERS_LEFT: [&[u64]; 2] = [&[1, 167_772_161, 0], &[50_331_648, 1, 0, 7]];
+const TWO_HELPERS_LEFT: [&[u64]; 2] = [&[1, 21, 0], &[6, 1, 0, 7]];
 
 const REBORN_SLOT_LEFT: [&[u64]; 4] = [
-    &[2, 167_772_163, 67_108_866],
-    &[33_554_432, 1, 0, 30],
-    &[67_108_865, 2, 1, 10],
-    &[33_554_433, 1, 0, 25],
+    &[2, 43, 18],
+    &[8, 1, 0, 30],
+    &[17, 2, 1, 10],
+    &[9, 1, 0, 25],
 ];
 
 const SAME_WORD_LEFT: [&[u64]; 4] = [
-    &[5, 167_772_163, 67_108_866],
-    &[67_108_864, 2, 0, 30],
-    &[67_108_865, 2, 0, 20],
-    &[184_549_377, 5, 0, 10],
+    &[5, 43, 18],
+    &[16, 2, 0, 30],
+    &[17, 2, 0, 20],
+    &[45, 5, 0, 10],
 ];
 
-const RAISED_LEFT: [&[u64]; 2] = [&[2, 167_772_161, 33_554_433], &[33_554_432, 1, 0, 7]];
+const RAISED_LEFT: [&[u64]; 2] = [&[2, 21, 5], &[4, 1, 0, 7]];
 
-const STORED_LEFT: [&[u64]; 2] = [&[1, 167_772_161, 33_554_433], &[50_331_648, 1, 0, 7, 107]];
+const STORED_LEFT: [&[u64]; 2] = [&[1, 21, 5], &[6, 1, 0, 7, 107]];
 
 const REPLACED_LEFT: [&[u64]; 4] = [
-    &[1, 167_772_160_003, 33_554_434],
-    &[50_331_650, 1, 1, 7, 107],
-    &[50_331_651, 1, 0, 7, 207],
-    &[33_554_432, 1, 0, 7, 307],
+    &[1, 40_003, 10],
+    &[14, 1, 1, 7, 107],
+    &[15, 1, 0, 7, 207],
+    &[8, 1, 0, 7, 307],
 ];
 
 const STANDING_LEFT: [&[u64]; 4] = [
-    &[2, 167_772_160_003, 33_554_434],
-    &[50_331_650, 1, 1, 7, 107],
-    &[33_554_432, 1, 0, 8, 108],
-    &[16_777_216, 0, 0, 0, 0],
+    &[2, 40_003, 10],
+    &[14, 1, 1, 7, 107],
+    &[8, 1, 0, 8, 108],
+    &[4, 0, 0, 0, 0],
 ];
 
 #[test]
@@ -365,7 +405,7 @@ fn two_passes_unlink_one_node(rt: HostRuntime) -> Result<(), Fail> {
         &rt,
         rt.alloc(),
         1,
-        &TWO_HELPERS,
+        &two_helpers(),
         &TWO_HELPERS_WORDS,
         &TWO_HELPERS_LEFT,
     )
@@ -377,7 +417,7 @@ fn a_slot_is_reborn(rt: HostRuntime) -> Result<(), Fail> {
         &rt,
         rt.alloc(),
         3,
-        &REBORN_SLOT,
+        &reborn_slot(),
         &REBORN_SLOT_WORDS,
         &REBORN_SLOT_LEFT,
     )
@@ -389,7 +429,7 @@ fn a_word_comes_back(rt: HostRuntime) -> Result<(), Fail> {
         &rt,
         rt.alloc(),
         3,
-        &SAME_WORD,
+        &same_word(),
         &SAME_WORD_WORDS,
         &SAME_WORD_LEFT,
     )
@@ -401,7 +441,7 @@ fn a_slot_is_raised_in_hand(rt: HostRuntime) -> Result<(), Fail> {
         &rt,
         rt.alloc(),
         1,
-        &RAISED_IN_HAND,
+        &raised_in_hand(),
         &RAISED_IN_HAND_WORDS,
         &RAISED_LEFT,
     )
@@ -416,7 +456,8 @@ fn expect_valued<R: Abort>(
     words: &[u64],
     left: (&[&[u64]], u64),
 ) -> Result<(), Fail>
-    requires { IsWorkedOn numbers.0 numbers.1 true rows.now words.now }
+    requires worked { IsWorkedOn numbers.0 numbers.1 true rows.now words.now }
+    requires plain { numbers.1 ≢ MAX_EPOCH }
 {
     let (parts, flags) = left;
     let left = words_of(alloc, parts, false, flags)?;
@@ -430,7 +471,7 @@ fn a_stored_value_is_read_back(rt: HostRuntime) -> Result<(), Fail> {
         &rt,
         rt.alloc(),
         (1, 10),
-        &STORED_VALUE,
+        &stored_value(),
         &STORED_VALUE_WORDS,
         (&STORED_LEFT, 0),
     )
@@ -442,7 +483,7 @@ fn a_value_is_replaced_twice(rt: HostRuntime) -> Result<(), Fail> {
         &rt,
         rt.alloc(),
         (3, 10_000),
-        &REPLACED_VALUE,
+        &replaced_value(),
         &REPLACED_VALUE_WORDS,
         (&REPLACED_LEFT, 0),
     )
@@ -454,7 +495,7 @@ fn a_step_of_each_kind_with_values(rt: HostRuntime) -> Result<(), Fail> {
         &rt,
         rt.alloc(),
         (3, 10_000),
-        &STANDING_WITH_VALUES,
+        &standing_rows_with_values(),
         &STANDING_WORDS,
         (&STANDING_LEFT, 5),
     )

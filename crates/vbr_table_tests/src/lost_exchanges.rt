@@ -2,7 +2,8 @@
 //! over what that left.
 ghost use Rattle.std.specs.Prelude.{◌≡◌, None, IfOk, IfErr};
 ghost use Rattle.vbr_table_tests.specs.Names.{GivesBack, IsHandOf, IsOf, IsReplaceable, IsSameTable, Keeps};
-ghost use Rattle.vbr_table_tests.specs.Names.{KeepsOwn, ReplacesHeld, Took, knows, pass_of, trace_of};
+ghost use Rattle.vbr_table_tests.specs.Names.{KeepsOwn, ReplacesHeld, Took, knows, pass_of, said, said_marked};
+ghost use Rattle.vbr_table_tests.specs.Names.{said_rollback, trace_of};
 ghost use Rattle.vbr_table_tests.specs.Buckets.{HasEntryLists};
 
 use crate::entries;
@@ -31,13 +32,13 @@ struct First<'a> {
 // Pass 0 gives the key 207, in slot 2, and the old node leaves its list.
 const REPLACED: First<'static> = First {
     calls: &[(100, Made::Store(7, 207, Wanted::Present, Ok(Some(107))))],
-    found: 50_331_651,
+    found: 15,
 };
 
 // Pass 0 does the same, and has no steps left to unlink the old node, which stands in its list, marked.
 const STILL_LINKED: First<'static> = First {
     calls: &[(34, Made::Store(7, 207, Wanted::Present, Ok(Some(107))))],
-    found: 50_331_651,
+    found: 15,
 };
 
 // Pass 0 gives the key 207, in slot 2, and then 107 again, in slot 0, for which it moves the epoch.
@@ -46,19 +47,19 @@ const BACK: First<'static> = First {
         (100, Made::Store(7, 207, Wanted::Present, Ok(Some(107)))),
         (100, Made::Store(7, 107, Wanted::Present, Ok(Some(207)))),
     ],
-    found: 67_108_864,
+    found: 16,
 };
 
 // Pass 0 removes the key.
 const REMOVED: First<'static> = First {
     calls: &[(100, Made::Remove(7, Ok(Some(107))))],
-    found: 50_331_648,
+    found: 12,
 };
 
 // Pass 0 inserts another key behind the node, in slot 2.
 const INSERTED: First<'static> = First {
     calls: &[(100, Made::Insert(9, 109, Ok(true)))],
-    found: 33_554_435,
+    found: 11,
 };
 
 // Replaces a node of key 7 that names none, at its table; and in how many steps: the key, the value, the link and the
@@ -69,14 +70,15 @@ fn replace_at(
     value: u64,
     hand: Hand,
 ) -> (Result<Marked, (Hand, Rollback)>, u32)
-    requires node { IsReplaceable (trace_of at.old) node.now 7 0 }
+    requires node { IsReplaceable (trace_of at.old) (said at.old.slots.now node.now) 7 0 }
     requires hand { IsHandOf (pass_of at.old) hand }
     ensures table { IsSameTable at.old at.new }
     ensures took { Took (trace_of at.old) (trace_of at.new) result.1 }
     ensures keeps { Keeps (knows (trace_of at.old)) (knows (trace_of at.new)) }
-    ensures replaced { IfOk result.0
-        (ReplacesHeld (pass_of at.old) (pass_of at.new) node.now 7 value) }
-    ensures lost { IfErr result.0 (GivesBack (pass_of at.old) (pass_of at.new) node.now hand) }
+    ensures replaced { IfOk result.0 (λ marked. ReplacesHeld (pass_of at.old) (pass_of at.new)
+        (said at.old.slots.now node.now) 7 value (said_marked at.old.slots.now marked)) }
+    ensures lost { IfErr result.0 (λ back. GivesBack (pass_of at.old) (pass_of at.new)
+        (said at.old.slots.now node.now) hand (back.0, said_rollback at.old.slots.now back.1)) }
 {
     (replace(at, node, 0, 7, value, hand), 4)
 }
@@ -90,12 +92,14 @@ fn replace_by(
     hand: Hand,
 ) -> (Result<Marked, (Hand, Rollback)>, u32)
     requires own { IsOf stepper.old.trace slots.now }
-    requires node { IsReplaceable stepper.old.trace node.now 7 0 }
+    requires node { IsReplaceable stepper.old.trace (said slots.now node.now) 7 0 }
     requires hand { IsHandOf stepper.old hand }
     ensures took { Took stepper.old.trace stepper.new.trace result.1 }
     ensures keeps { Keeps (knows stepper.old.trace) (knows stepper.new.trace) }
-    ensures replaced { IfOk result.0 (ReplacesHeld stepper.old stepper.new node.now 7 value) }
-    ensures lost { IfErr result.0 (GivesBack stepper.old stepper.new node.now hand) }
+    ensures replaced { IfOk result.0 (λ marked. ReplacesHeld stepper.old stepper.new
+        (said slots.now node.now) 7 value (said_marked slots.now marked)) }
+    ensures lost { IfErr result.0 (λ back. GivesBack stepper.old stepper.new
+        (said slots.now node.now) hand (back.0, said_rollback slots.now back.1)) }
 {
     replace_at(&mut AtTable { slots, stepper }, node, value, hand)
 }
@@ -109,23 +113,28 @@ fn replace_entry(
     hand: Hand,
 ) -> Result<Marked, (Hand, Rollback)>
     requires own { IsOf pass.old.trace slots.now }
-    requires node { IsReplaceable pass.old.trace node.now 7 0 }
+    requires node { IsReplaceable pass.old.trace (said slots.now node.now) 7 0 }
     requires hand { IsHandOf pass.old hand }
     ensures keeps { Keeps (knows pass.old.trace) (knows pass.new.trace) }
-    ensures replaced { IfOk result (ReplacesHeld pass.old pass.new node.now 7 value) }
-    ensures lost { IfErr result (GivesBack pass.old pass.new node.now hand) }
+    ensures replaced { IfOk result (λ marked. ReplacesHeld pass.old pass.new
+        (said slots.now node.now) 7 value (said_marked slots.now marked)) }
+    ensures lost { IfErr result (λ back. GivesBack pass.old pass.new
+        (said slots.now node.now) hand (back.0, said_rollback slots.now back.1)) }
 {
     pass.during_with(
         hand,
         |stepper, hand|
             requires own { IsOf stepper.old.trace slots.now }
-            requires node { IsReplaceable stepper.old.trace node.now 7 0 }
+            requires node { IsReplaceable stepper.old.trace (said slots.now node.now) 7 0 }
             requires hand { IsHandOf stepper.old hand }
             ensures took { Took stepper.old.trace stepper.new.trace result.1 }
             ensures keeps { Keeps (knows stepper.old.trace) (knows stepper.new.trace) }
-            ensures replaced { IfOk result.0
-                (ReplacesHeld stepper.old stepper.new node.entry.now 7 value) }
-            ensures lost { IfErr result.0 (GivesBack stepper.old stepper.new node.entry.now hand) }
+            ensures replaced { IfOk result.0 (λ marked. ReplacesHeld stepper.old stepper.new
+                (said slots.entry.now node.entry.now) 7 value
+                (said_marked slots.entry.now marked)) }
+            ensures lost { IfErr result.0 (λ back. GivesBack stepper.old stepper.new
+                (said slots.entry.now node.entry.now) hand
+                (back.0, said_rollback slots.entry.now back.1)) }
         { replace_by(slots, stepper, node, value, hand) },
     )
 }
@@ -137,7 +146,7 @@ fn stand_before_exchange(rt: &impl Abort, slots: &Slots<Entries>, pass: &mut Pas
     requires shape { HasEntryLists slots.now }
     requires empty_hand { pass.old.hand ≡ None }
     ensures own { IsOf pass.new.trace slots.now }
-    ensures node { IsReplaceable pass.new.trace result.0 7 0 }
+    ensures node { IsReplaceable pass.new.trace (said slots.now result.0) 7 0 }
     ensures hand { IsHandOf pass.new result.1 }
 {
     read_entry(rt, slots, pass, (0, 107));
@@ -157,7 +166,7 @@ fn lose_exchange(
     found: u64,
 ) -> Hand
     requires own { IsOf pass.old.trace slots.now }
-    requires node { IsReplaceable pass.old.trace node.now 7 0 }
+    requires node { IsReplaceable pass.old.trace (said slots.now node.now) 7 0 }
     requires hand { IsHandOf pass.old hand }
     ensures own { IsOf pass.new.trace slots.now }
     ensures hand { IsHandOf pass.new result }
@@ -301,49 +310,13 @@ fn an_exchange_after_a_remove(rt: HostRuntime) -> Result<(), Fail> {
 // names it, is marked and unlinked. Slot 1 was filled in hand. Behind the epoch, the shape and the head, there are
 // link, birth, stamp, key and value of each slot; and the flags.
 const REPLACED_ONCE: [u64; 19] = [
-    1,
-    167_772_163,
-    33_554_435,
-    50_331_651,
-    1,
-    1,
-    7,
-    107,
-    33_554_432,
-    1,
-    0,
-    7,
-    307,
-    33_554_432,
-    1,
-    0,
-    7,
-    207,
-    0,
+    1, 43, 11, 15, 1, 1, 7, 107, 8, 1, 0, 7, 307, 8, 1, 0, 7, 207, 0,
 ];
 
 // The words where pass 1 has then put 307, in slot 1, in the place of 207: slot 2, which names it, is marked and
 // unlinked too.
 const REPLACED_TWICE: [u64; 19] = [
-    1,
-    167_772_163,
-    33_554_434,
-    50_331_651,
-    1,
-    1,
-    7,
-    107,
-    33_554_432,
-    1,
-    0,
-    7,
-    307,
-    50_331_650,
-    1,
-    1,
-    7,
-    207,
-    0,
+    1, 43, 10, 15, 1, 1, 7, 107, 8, 1, 0, 7, 307, 14, 1, 1, 7, 207, 0,
 ];
 
 // Makes a call of pass 1 after its lost exchange, and compares the own pools, of pass 0 and of pass 1, and the words
@@ -395,7 +368,7 @@ fn what_a_lost_store_leaves(rt: HostRuntime) -> Result<(), Fail> {
 // Answers a get by a node, in one step.
 fn answer_get(rt: &impl Abort, slots: &Slots<Entries>, pass: &mut Pass, node: &Held)
     requires own { IsOf pass.old.trace slots.now }
-    requires node { IsReplaceable pass.old.trace node.now 7 0 }
+    requires node { IsReplaceable pass.old.trace (said slots.now node.now) 7 0 }
     ensures own { IsOf pass.new.trace slots.now }
     ensures keeps { KeepsOwn pass.old pass.new }
 {

@@ -1,9 +1,10 @@
 //! A reader stands on a node while another pass replaces its value: what its next calls tell.
 ghost use Rattle.std.specs.Prelude.{◌≡◌, true, None, IfOk};
 ghost use Rattle.vbr_words.specs.declared.place.At.TheVariants.{Slot};
-ghost use Rattle.vbr_table_tests.specs.Names.{IsHeld, IsOf, IsReplaceable, IsUnmarked, KeepsOwn, Names, knows};
+ghost use Rattle.vbr_table_tests.specs.Names.{IsHeld, IsOf, IsReplaceable, IsUnmarked, KeepsOwn, Names, knows, said};
 ghost use Rattle.vbr_table_tests.specs.Buckets.{HasEntryLists};
 
+use crate::kept_words::to_slot;
 use crate::retiring::{head_of, last_node};
 use crate::running_table::{expect_words, open_two};
 use std::alloc::Global;
@@ -27,13 +28,13 @@ pub fn read_entry(
     requires shape { HasEntryLists slots.now }
     ensures own { IsOf pass.new.trace slots.now }
     ensures keeps { KeepsOwn pass.old pass.new }
-    ensures head { IsUnmarked (knows pass.new.trace) result.0 }
-    ensures node { IsReplaceable pass.new.trace result.1 7 0 }
+    ensures head { IsUnmarked (knows pass.new.trace) (said slots.now result.0) }
+    ensures node { IsReplaceable pass.new.trace (said slots.now result.1) 7 0 }
     ensures place { result.1.at ≡ Slot there.0 }
-    ensures names { Names result.0 there.0 }
+    ensures names { Names (said slots.now result.0) there.0 }
 {
     let (slot, value) = there;
-    let head = head_of(rt, slots, pass, 33_554_433 + u64::from(slot));
+    let head = head_of(rt, slots, pass, to_slot(slot));
     let node = last_node(rt, slots, pass, &head, slot);
     let key = key_of(slots, pass, &node).expect(rt, "the epoch has not moved");
     assert!(rt; key == 7);
@@ -47,16 +48,16 @@ pub fn read_entry(
 fn lose_get(rt: &impl Abort, slots: &Slots<Entries>, pass: &mut Pass, node: &Held)
     requires own { IsOf pass.old.trace slots.now }
     requires values { slots.now.start.shape.values ≡ true }
-    requires node { IsReplaceable pass.old.trace node.now 7 0 }
+    requires node { IsReplaceable pass.old.trace (said slots.now node.now) 7 0 }
     requires place { node.now.at ≡ Slot 0 }
     ensures own { IsOf pass.new.trace slots.now }
     ensures hand { pass.new.hand ≡ pass.old.hand }
-    ensures held { IsHeld (knows pass.new.trace) node.now }
+    ensures held { IsHeld (knows pass.new.trace) (said slots.now node.now) }
 {
     let value = value_of(slots, pass, node).expect(rt, "the epoch has not moved");
     assert!(rt; value == 107);
     let told = confirm_present_entry(slots, pass, Op::Get, node);
-    assert_eq!(rt; told, Err(Rollback::LostExchange { found: 50_331_650 }));
+    assert_eq!(rt; told, Err(Rollback::LostExchange { found: 14 }));
 }
 
 // Pass 1 reads 107 in slot 0. Pass 0 gives the key 207, in slot 1, and then 307, in slot 0 again, for which it moves
@@ -108,22 +109,7 @@ fn a_reader_on_a_replaced_node(rt: HostRuntime) -> Result<(), Fail> {
     let (slots, mut a, mut b) = one_entry(&rt, rt.alloc(), 2)?;
     stand_on_replaced(&rt, &slots, &mut a, &mut b);
     // epoch, shape and head; then link, birth, stamp, key and value of each slot; and the flags
-    let words = [
-        2,
-        167_772_162,
-        67_108_865,
-        67_108_864,
-        2,
-        1,
-        7,
-        307,
-        83_886_081,
-        1,
-        2,
-        7,
-        207,
-        0,
-    ];
+    let words = [2, 42, 17, 16, 2, 1, 7, 307, 21, 1, 2, 7, 207, 0];
     expect_words(&rt, rt.alloc(), slots, a, b, &words);
     Ok(())
 }

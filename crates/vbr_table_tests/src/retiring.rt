@@ -2,8 +2,9 @@
 ghost use Rattle.std.specs.Prelude.{◌≡◌, ℕ, ◌<◌, false, None};
 ghost use Rattle.vbr_words.specs.declared.place.At.TheVariants.{Head, Slot};
 ghost use Rattle.vbr_table_tests.specs.Names.{IsHeld, IsOf, IsPresent, IsUnlinked, IsUnmarked, IsValued, Keeps};
-ghost use Rattle.vbr_table_tests.specs.Names.{KeepsOwn, Names, knows, link_of};
+ghost use Rattle.vbr_table_tests.specs.Names.{KeepsOwn, Names, knows, link_of, said};
 
+use crate::kept_words::{EMPTY, TO_NONE, link_in, to_slot};
 use crate::running_table::{Opened, expect_pass, expect_words, two_passes};
 use std::alloc::Global;
 use std::process::Abort;
@@ -12,21 +13,22 @@ use vbr_access::{
 };
 use vbr_pools::{Unlinked, retire, take};
 use vbr_slots::{Pass, Slots};
-use vbr_words::{At, Entries, Keys, Nodes};
+use vbr_words::{At, Entries, Keys, Link, Nodes};
 
-// The head of bucket 0, which has this word, read after a new checkpoint in epoch 1.
-pub fn head_of<N: Nodes>(rt: &impl Abort, slots: &Slots<N>, pass: &mut Pass, word: u64) -> Held
+// The head of bucket 0, which has this link, read after a new checkpoint in epoch 1.
+pub fn head_of<N: Nodes>(rt: &impl Abort, slots: &Slots<N>, pass: &mut Pass, link: Link) -> Held
     requires own { IsOf pass.old.trace slots.now }
     requires bucket { 0 < slots.now.start.shape.buckets }
     ensures own { IsOf pass.new.trace slots.now }
     ensures keeps { KeepsOwn pass.old pass.new }
     ensures place { result.at ≡ Head 0 }
-    ensures held { IsHeld (knows pass.new.trace) result }
-    ensures unmarked { (link_of result.word).mark ≡ false }
+    ensures held { IsHeld (knows pass.new.trace) (said slots.now result) }
+    ensures link { link_of (said slots.now result).word ≡ link }
 {
     let point = checkpoint(slots, pass);
     let head = first(slots, pass, &point, 0).expect(rt, "the epoch has not moved");
-    assert_eq!(rt; (head.word, head.epoch), (word, 1));
+    assert_eq!(rt; head.epoch, 1);
+    assert!(rt; link_in(slots, head.word) == link);
     head
 }
 
@@ -39,18 +41,19 @@ pub fn last_node<N: Nodes>(
     slot: u32,
 ) -> Held
     requires own { IsOf pass.old.trace slots.now }
-    requires head { IsHeld (knows pass.old.trace) head.now }
+    requires head { IsHeld (knows pass.old.trace) (said slots.now head.now) }
     ensures own { IsOf pass.new.trace slots.now }
     ensures keeps { KeepsOwn pass.old pass.new }
-    ensures head { IsHeld (knows pass.new.trace) head.now }
-    ensures node { IsHeld (knows pass.new.trace) result }
-    ensures named { Names head.now slot × (result.at ≡ Slot slot) }
-    ensures word { result.word ≡ 33_554_432 }
+    ensures head { IsHeld (knows pass.new.trace) (said slots.now head.now) }
+    ensures node { IsHeld (knows pass.new.trace) (said slots.now result) }
+    ensures named { Names (said slots.now head.now) slot × (result.at ≡ Slot slot) }
+    ensures link { link_of (said slots.now result).word
+        ≡ record { slot = None; mark = false; version = 1 } }
 {
     let node = next(slots, pass, head)
         .expect(rt, "the epoch has not moved")
         .expect(rt, "a node");
-    assert!(rt; node.word == 33_554_432);
+    assert!(rt; link_in(slots, node.word) == TO_NONE);
     assert!(rt; node.at == At::Slot(slot));
     node
 }
@@ -61,12 +64,12 @@ pub fn read_one<N: Nodes>(rt: &impl Abort, slots: &Slots<N>, pass: &mut Pass) ->
     requires bucket { 0 < slots.now.start.shape.buckets }
     ensures own { IsOf pass.new.trace slots.now }
     ensures hand { pass.new.hand ≡ pass.old.hand }
-    ensures head { IsUnmarked (knows pass.new.trace) result.0 }
-    ensures node { IsPresent (knows pass.new.trace) result.1 }
+    ensures head { IsUnmarked (knows pass.new.trace) (said slots.now result.0) }
+    ensures node { IsPresent (knows pass.new.trace) (said slots.now result.1) }
     ensures place { result.1.at ≡ Slot 0 }
-    ensures names { (slot : ℕ) × Names result.0 slot × (result.1.at ≡ Slot slot) }
+    ensures names { (slot : ℕ) × Names (said slots.now result.0) slot × (result.1.at ≡ Slot slot) }
 {
-    let head = head_of(rt, slots, pass, 33_554_433);
+    let head = head_of(rt, slots, pass, to_slot(0));
     assert_eq!(rt; head.at, At::Head(0));
     let node = last_node(rt, slots, pass, &head, 0);
     assert_eq!(rt; node.birth, 1);
@@ -78,7 +81,7 @@ pub fn read_one<N: Nodes>(rt: &impl Abort, slots: &Slots<N>, pass: &mut Pass) ->
 // Reads the value of a node, which is 107, where nodes have values.
 pub fn read_value<N: Nodes>(rt: &impl Abort, slots: &Slots<N>, pass: &mut Pass, node: &Held)
     requires own { IsOf pass.old.trace slots.now }
-    requires node { IsPresent (knows pass.old.trace) node.now }
+    requires node { IsPresent (knows pass.old.trace) (said slots.now node.now) }
     requires place { node.now.at ≡ Slot 0 }
     ensures own { IsOf pass.new.trace slots.now }
     ensures hand { pass.new.hand ≡ pass.old.hand }
@@ -104,7 +107,7 @@ pub fn insert_one<N: Nodes>(rt: &impl Abort, slots: &Slots<N>, pass: &mut Pass)
 {
     let hand = take(slots, pass, 100).expect(rt, "a slot is in the shared pool");
     assert_eq!(rt; (hand.slot(), hand.birth()), (0, 1));
-    let head = head_of(rt, slots, pass, 0);
+    let head = head_of(rt, slots, pass, EMPTY);
     let None = next(slots, pass, &head).expect(rt, "there is no step") else {
         panic!(rt; "a node")
     };
@@ -150,8 +153,8 @@ fn retire_late<R: Abort, N: Opened>(rt: &R, alloc: Global, steps: u64, words: &[
 /// The epoch moves between an unlinking and the return of the slot: the stamp is the new epoch.
 #[test]
 fn a_stamp_is_read_after_the_unlinking(rt: HostRuntime) {
-    let words = [2, 167_772_161, 0, 50_331_648, 1, 2, 7, 0];
+    let words = [2, 21, 0, 6, 1, 2, 7, 0];
     retire_late::<HostRuntime, Keys>(&rt, rt.alloc(), 22, &words);
-    let words = [2, 167_772_161, 0, 50_331_648, 1, 2, 7, 107, 0];
+    let words = [2, 21, 0, 6, 1, 2, 7, 107, 0];
     retire_late::<HostRuntime, Entries>(&rt, rt.alloc(), 25, &words);
 }

@@ -1,4 +1,5 @@
 //! The running table: rows call by call, refusals that hand all back, and two threads.
+ghost use Rattle.vbr_words.specs.Shapes.{last_epoch_for};
 ghost use Rattle.std.specs.Prelude.{◌≡◌, ℕ, ◌<◌, ◌≤◌, [], ◌∷◌, true, false, Some, None};
 ghost use Rattle.std.specs.Prelude.{IfOk, IfErr, IfSome};
 ghost use Rattle.vbr_machine.specs.Acceptance.{stamp_in};
@@ -12,13 +13,13 @@ ghost use Rattle.vbr_slots.specs.Views.{IsOf, KeepsPool, event_of, new_pass, new
 ghost use Rattle.vbr_table_tests.specs.OnlyPass.{IsOnlyPass};
 ghost use Rattle.vbr_table_tests.specs.Taking.{HasEvent, BothTook};
 
-use crate::world::{FRESH, OPENED};
+use crate::kept_words::TO_NONE;
 use std::alloc::{AllocError, Global};
 use std::process::Abort;
 use std::test::Fail;
 use std::thread::{Threads, join};
 use vbr_slots::{CloseError, OpenError, Pass, Slots};
-use vbr_words::{Entries, Keys, Nodes, Shape, ShapeError};
+use vbr_words::{Entries, Keys, Nodes, Shape, ShapeError, encode};
 
 /// A table with its passes, or why it wasn't opened.
 type Opening<N> = Result<(Slots<N>, Vec<Pass>), OpenError>;
@@ -76,13 +77,14 @@ impl Opened for Entries {
 /// A shape of so many slots and buckets and with this last epoch, for nodes of a kind.
 pub fn shape_of<N: Nodes>(numbers: (u32, u32, u64)) -> Result<Shape, ShapeError>
     ensures numbers { IfOk result (λ shape. (shape.slots ≡ numbers.0)
-        × (shape.buckets ≡ numbers.1) × (shape.last_epoch ≡ numbers.2)) }
+        × (shape.buckets ≡ numbers.1)
+        × (shape.last_epoch ≡ last_epoch_for numbers.0 numbers.2)) }
     ensures kind { IfOk result (λ shape. shape.values ≡ N.VALUES) }
     ensures whole { IfOk result (λ shape. shape ≡ record {
       slots = numbers.0;
       buckets = numbers.1;
       spread = None;
-      last_epoch = numbers.2;
+      last_epoch = last_epoch_for numbers.0 numbers.2;
       values = N.VALUES;
     }) }
 {
@@ -138,7 +140,7 @@ pub fn two_passes<R: Abort, N: Opened>(
     last_epoch: u64,
 ) -> (Slots<N>, Pass, Pass)
     ensures shape { (result.0.start.shape.slots ≡ slots) × (result.0.start.shape.buckets ≡ 1)
-        × (result.0.start.shape.last_epoch ≡ last_epoch) }
+        × (result.0.start.shape.last_epoch ≡ last_epoch_for slots last_epoch) }
     ensures kind { result.0.start.shape.values ≡ N.VALUES }
     ensures passes { result.0.passes ≡ 2 }
     ensures first { result.1 ≡ new_pass result.0 0 }
@@ -285,21 +287,7 @@ fn two_threads_take_a_slot_each(rt: HostRuntime) -> Result<(), Fail> {
     let words = take_both(&rt, rt.alloc(), shape).expect(&rt, "there are words");
     assert_eq!(rt;
         words.as_slice(),
-        [
-            1,
-            167_772_162,
-            0,
-            16_777_216,
-            0,
-            0,
-            0,
-            16_777_216,
-            0,
-            0,
-            0,
-            0
-        ]
-        .as_slice()
+        [1, 42, 0, 4, 0, 0, 0, 4, 0, 0, 0, 0].as_slice()
     );
     Ok(())
 }
@@ -317,10 +305,18 @@ fn expect_opened<R: Abort, N: Opened>(rt: &R, alloc: Global, words: &[u64]) -> R
     Ok(())
 }
 
+// The words of a fresh table of one slot and one bucket, and those of one of four slots and two buckets that opens with
+// the keys 2, 5 and 9. They are worked by hand: one slot takes one bit of a link word, and four take three.
+const FRESH: [u64; 8] = [1, 21, 0, 2, 0, 0, 0, 1];
+
+const OPENED: [u64; 21] = [
+    1, 84, 17, 18, 16, 1, 0, 2, 19, 1, 0, 5, 16, 1, 0, 9, 8, 0, 0, 0, 8,
+];
+
 #[test]
 fn opens_and_closes(rt: HostRuntime) -> Result<(), Fail> {
     expect_opened::<HostRuntime, Keys>(&rt, rt.alloc(), &FRESH)?;
-    let wanted = [1, 167_772_161, 0, 16_777_216, 0, 0, 0, 0, 1];
+    let wanted = [1, 21, 0, 2, 0, 0, 0, 0, 1];
     expect_opened::<HostRuntime, Entries>(&rt, rt.alloc(), &wanted)
 }
 
@@ -353,31 +349,7 @@ fn expect_opened_with_three<R: Abort, N: Opened>(
 fn opens_with_three(rt: HostRuntime) -> Result<(), Fail> {
     expect_opened_with_three::<HostRuntime, Keys>(&rt, rt.alloc(), &OPENED)?;
     let wanted = [
-        1,
-        167_772_164,
-        33_554_433,
-        33_554_434,
-        33_554_432,
-        1,
-        0,
-        2,
-        102,
-        33_554_435,
-        1,
-        0,
-        5,
-        105,
-        33_554_432,
-        1,
-        0,
-        9,
-        109,
-        16_777_216,
-        0,
-        0,
-        0,
-        0,
-        8,
+        1, 84, 17, 18, 16, 1, 0, 2, 102, 19, 1, 0, 5, 105, 16, 1, 0, 9, 109, 8, 0, 0, 0, 0, 8,
     ];
     expect_opened_with_three::<HostRuntime, Entries>(&rt, rt.alloc(), &wanted)
 }
@@ -469,37 +441,9 @@ fn expect_shared<R: Abort, N: Opened>(rt: &R, alloc: Global, words: &[u64]) {
 /// Without values, and with them.
 #[test]
 fn two_passes_share_a_slot(rt: HostRuntime) {
-    let wanted = [
-        2,
-        167_772_162,
-        0,
-        16_777_216,
-        0,
-        0,
-        0,
-        16_777_216,
-        0,
-        0,
-        0,
-        2,
-    ];
+    let wanted = [2, 42, 0, 4, 0, 0, 0, 4, 0, 0, 0, 2];
     expect_shared::<HostRuntime, Keys>(&rt, rt.alloc(), &wanted);
-    let wanted = [
-        2,
-        167_772_162,
-        0,
-        16_777_216,
-        0,
-        0,
-        0,
-        0,
-        16_777_216,
-        0,
-        0,
-        0,
-        0,
-        2,
-    ];
+    let wanted = [2, 42, 0, 4, 0, 0, 0, 0, 4, 0, 0, 0, 0, 2];
     expect_shared::<HostRuntime, Entries>(&rt, rt.alloc(), &wanted);
 }
 
@@ -537,7 +481,8 @@ fn link_none<N: Nodes>(slots: &Slots<N>, pass: &mut Pass)
     requires birth { birth_in_hand (holding_of pass.old 0) ≡ 1 }
     ensures own { IsOf pass.new.trace slots.now }
 {
-    slots.store_link(pass, 0, 33_554_432);
+    let word = encode(TO_NONE, slots.layout());
+    slots.store_link(pass, 0, word);
 }
 
 // Stores a key and a link to none in slot 0, which was born in epoch 1.
@@ -593,13 +538,13 @@ fn expect_born<R: Abort, N: Opened>(rt: &R, alloc: Global, words: &[u64]) -> Res
 
 #[test]
 fn a_slot_is_born_in(rt: HostRuntime) -> Result<(), Fail> {
-    let words = [1, 167_772_161, 0, 33_554_432, 1, 0, 7, 0];
+    let words = [1, 21, 0, 4, 1, 0, 7, 0];
     expect_born::<HostRuntime, Keys>(&rt, rt.alloc(), &words)
 }
 
 #[test]
 fn a_slot_is_born_in_with_a_value(rt: HostRuntime) -> Result<(), Fail> {
-    let words = [1, 167_772_161, 0, 33_554_432, 1, 0, 7, 107, 0];
+    let words = [1, 21, 0, 4, 1, 0, 7, 107, 0];
     expect_born::<HostRuntime, Entries>(&rt, rt.alloc(), &words)
 }
 
@@ -635,19 +580,6 @@ fn two_passes_meet(rt: HostRuntime) {
     expect_pool(&rt, &a, &[]);
     expect_pass(&rt, &b, (1, 2, 4));
     expect_pool(&rt, &b, &[0]);
-    let wanted = [
-        3,
-        167_772_162,
-        0,
-        16_777_216,
-        0,
-        0,
-        0,
-        16_777_216,
-        0,
-        0,
-        0,
-        2,
-    ];
+    let wanted = [3, 42, 0, 4, 0, 0, 0, 4, 0, 0, 0, 2];
     expect_words(&rt, rt.alloc(), slots, a, b, &wanted);
 }

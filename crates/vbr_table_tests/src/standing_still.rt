@@ -11,7 +11,8 @@ use std::process::Abort;
 use std::test::Fail;
 use vbr_access::{Checkpoint, Rollback, first};
 use vbr_event_lists::{
-    REPLACED_VALUE, REPLACED_VALUE_WORDS, Row, STANDING, STANDING_WITH_VALUES, STANDING_WORDS,
+    REPLACED_VALUE_WORDS, Row, STANDING_WORDS, replaced_value, standing_rows,
+    standing_rows_with_values,
 };
 use vbr_list::{insert, insert_entry, remove, remove_entry};
 use vbr_slots::{Pass, Slots};
@@ -99,14 +100,19 @@ fn stand_still<R: Abort, N: Inserted>(
 fn stand_behind<R: Abort>(rt: &R, alloc: Global, steps: usize) -> Result<(), Fail>
     requires { steps ≤ 29 }
 {
-    stand_still::<R, Keys>(rt, alloc, &STANDING[..steps], &STANDING_WORDS)
+    stand_still::<R, Keys>(rt, alloc, &standing_rows()[..steps], &STANDING_WORDS)
 }
 
 // It stands still after the first steps of the same list in a map.
 fn stand_behind_in_a_map<R: Abort>(rt: &R, alloc: Global, steps: usize) -> Result<(), Fail>
     requires { steps ≤ 32 }
 {
-    stand_still::<R, Entries>(rt, alloc, &STANDING_WITH_VALUES[..steps], &STANDING_WORDS)
+    stand_still::<R, Entries>(
+        rt,
+        alloc,
+        &standing_rows_with_values()[..steps],
+        &STANDING_WORDS,
+    )
 }
 
 // It stands still after the first steps of the list in which it has a node in hand, or has put it in
@@ -114,7 +120,7 @@ fn stand_behind_in_a_map<R: Abort>(rt: &R, alloc: Global, steps: usize) -> Resul
 fn stand_behind_replacing<R: Abort>(rt: &R, alloc: Global, steps: usize) -> Result<(), Fail>
     requires { steps ≤ 43 }
 {
-    stand_still::<R, Entries>(rt, alloc, &REPLACED_VALUE[..steps], &REPLACED_VALUE_WORDS)
+    stand_still::<R, Entries>(rt, alloc, &replaced_value()[..steps], &REPLACED_VALUE_WORDS)
 }
 
 #[test]

@@ -9,7 +9,9 @@ use crate::world::{
 use std::alloc::{AllocError, Global};
 use std::process::Abort;
 use std::test::Fail;
-use vbr_event_lists::{REBORN_SLOT, REPLACED_VALUE, Row, STORED_VALUE, TWO_HELPERS, with_values};
+use vbr_event_lists::{
+    Row, numbered, reborn_slot, replaced_value, stored_value, two_helpers, with_values,
+};
 use vbr_words::{At, Place, Shape};
 use vbr_world::{
     Call, CoreRefusal, Effect, Event, Op, PlainMap, SlotPlace, Step, World, replay_with_entries,
@@ -101,7 +103,7 @@ fn expect_values(rt: &impl Abort, world: &World, shape: Shape, slots: &[(SlotPla
 {
     for (slot, (_, value)) in (0..).zip(slots) {
         let told = word_at(world, shape, Place::Value(slot));
-        assert_eq!(rt; told, Some(*value), "slot {slot}");
+        assert_eq!(rt; told, Some(u128::from(*value)), "slot {slot}");
     }
 }
 
@@ -183,11 +185,11 @@ fn a_look_up_passes_a_marked_node_with_a_value(rt: HostRuntime) -> Result<(), Fa
     let shape = Shape::new(1, 1, 10)?.with_values();
     let insert = valued(0, Op::Insert, 7, 107);
     let remove = valued(0, Op::Remove, 7, 107);
-    let checked = with_values(rt.alloc(), &TWO_HELPERS[..16])?;
+    let checked = with_values(rt.alloc(), &two_helpers()[..16])?;
     let wanted = Ok(Effect::Answered(false));
     let calls = [insert, remove, ABSENT];
     look_up_behind(&rt, rt.alloc(), shape, &checked, wanted, &calls)?;
-    let unchecked = with_values(rt.alloc(), &TWO_HELPERS[..15])?;
+    let unchecked = with_values(rt.alloc(), &two_helpers()[..15])?;
     let wanted = Err(CoreRefusal::NotHeld);
     look_up_behind(
         &rt,
@@ -202,13 +204,13 @@ fn a_look_up_passes_a_marked_node_with_a_value(rt: HostRuntime) -> Result<(), Fa
 /// The value of each of three keys is stored once in the first 35 rows.
 #[test]
 fn replays_a_list_with_values(rt: HostRuntime) -> Result<(), Fail> {
-    let rows = with_values(rt.alloc(), &REBORN_SLOT)?;
+    let rows = with_values(rt.alloc(), &reborn_slot())?;
     let shape = Shape::new(3, 1, 10)?.with_values();
     expect_stamp(&rt, rt.alloc(), shape, &rows, 35)?;
     let shape = Shape::new(1, 1, 10)?.with_values();
-    expect_whole(&rt, rt.alloc(), shape, &STORED_VALUE, (3, 1, 1))?;
+    expect_whole(&rt, rt.alloc(), shape, &stored_value(), (3, 1, 1))?;
     let shape = Shape::new(3, 1, 10)?.with_values();
-    expect_whole(&rt, rt.alloc(), shape, &REPLACED_VALUE, (6, 3, 1))
+    expect_whole(&rt, rt.alloc(), shape, &replaced_value(), (6, 3, 1))
 }
 
 #[test]
@@ -224,7 +226,7 @@ fn opens_fresh_with_values(rt: HostRuntime) -> Result<(), Fail> {
 fn a_stored_value_is_got(rt: HostRuntime) -> Result<(), Fail> {
     let shape = Shape::new(1, 1, 10)?.with_values();
     let looks: [Look; 1] = [(Place::Value(0), &[(4, 0), (5, 107), (21, 107)])];
-    let world = follow(&rt, rt.alloc(), shape, &STORED_VALUE, &looks)?;
+    let world = follow(&rt, rt.alloc(), shape, &stored_value(), &looks)?;
     let calls = [
         valued(0, Op::Insert, 7, 107),
         valued(1, Op::Get, 7, 107),
@@ -239,13 +241,13 @@ fn a_stored_value_is_got(rt: HostRuntime) -> Result<(), Fail> {
 fn a_value_is_replaced(rt: HostRuntime) -> Result<(), Fail> {
     let shape = Shape::new(3, 1, 10)?.with_values();
     let looks: [Look; 5] = [
-        (Place::LinkOf(0), &[(28, 50_331_650)]),
-        (Place::Head(0), &[(28, 33_554_433)]),
+        (Place::LinkOf(0), &[(28, 6_442_450_946)]),
+        (Place::Head(0), &[(28, 4_294_967_297)]),
         (Place::Value(0), &[(43, 107)]),
         (Place::Value(1), &[(43, 207)]),
         (Place::Value(2), &[(43, 307)]),
     ];
-    let world = follow(&rt, rt.alloc(), shape, &REPLACED_VALUE, &looks)?;
+    let world = follow(&rt, rt.alloc(), shape, &replaced_value(), &looks)?;
     let calls = [
         valued(0, Op::Insert, 7, 107),
         valued(0, Op::Remove, 7, 107),
@@ -264,12 +266,14 @@ fn a_value_is_replaced(rt: HostRuntime) -> Result<(), Fail> {
 }
 
 // A get of a key in an empty list.
-const ABSENT_GET: Step = Step::ConfirmAbsent {
-    op: Op::Get,
-    key: 7,
-    at: At::Head(0),
-    expected: 0,
-};
+fn absent_get() -> Step {
+    Step::ConfirmAbsent {
+        op: Op::Get,
+        key: 7,
+        at: At::Head(0),
+        expected: numbered(0),
+    }
+}
 
 #[test]
 fn a_get_of_an_absent_key_has_no_value(rt: HostRuntime) -> Result<(), Fail> {
@@ -278,7 +282,7 @@ fn a_get_of_an_absent_key_has_no_value(rt: HostRuntime) -> Result<(), Fail> {
         (0, Step::ReadEpoch, Effect::Value(1)),
         (0, Step::LoadLink { at: At::Head(0) }, Effect::Value(0)),
         (0, Step::ReadEpoch, Effect::Value(1)),
-        (0, ABSENT_GET, Effect::Answered(false)),
+        (0, absent_get(), Effect::Answered(false)),
     ];
     let world = follow(&rt, rt.alloc(), shape, &rows, &[])?;
     let no = Call {
@@ -306,28 +310,36 @@ fn events_but_one(
     Ok(events)
 }
 
-const PUBLISH: Step = Step::Publish {
-    pred: At::Head(0),
-    expected: 0,
-    slot: 0,
-};
+fn publish_step() -> Step {
+    Step::Publish {
+        pred: At::Head(0),
+        expected: numbered(0),
+        slot: 0,
+    }
+}
 
-const GET: Step = Step::ConfirmPresent {
-    op: Op::Get,
-    slot: 0,
-    expected: 33_554_432,
-};
+fn get_step() -> Step {
+    Step::ConfirmPresent {
+        op: Op::Get,
+        slot: 0,
+        expected: numbered(4_294_967_296),
+    }
+}
 
-const HAS: Step = Step::ConfirmPresent {
-    op: Op::Has,
-    slot: 0,
-    expected: 33_554_432,
-};
+fn has_step() -> Step {
+    Step::ConfirmPresent {
+        op: Op::Has,
+        slot: 0,
+        expected: numbered(4_294_967_296),
+    }
+}
 
-const MARK: Step = Step::Mark {
-    slot: 0,
-    expected: 33_554_432,
-};
+fn mark_step() -> Step {
+    Step::Mark {
+        slot: 0,
+        expected: numbered(4_294_967_296),
+    }
+}
 
 const STORE: Step = Step::StoreValue { slot: 0, value: 5 };
 
@@ -336,28 +348,31 @@ const LOAD: Step = Step::LoadValue { slot: 0 };
 const LOAD_BEYOND: Step = Step::LoadValue { slot: 1 };
 
 // After how many rows, and without which one of them, a pass makes a step, and how it is refused.
-const NEXT_STEPS: [(usize, usize, u32, Step, Option<CoreRefusal>); 12] = [
-    (0, 99, 0, STORE, Some(CoreRefusal::NotOwned)),
-    (2, 99, 0, STORE, Some(CoreRefusal::NotOwned)),
-    (9, 99, 0, STORE, Some(CoreRefusal::NotOwned)),
-    (0, 99, 0, LOAD, Some(CoreRefusal::NotHeld)),
-    (0, 99, 0, LOAD_BEYOND, Some(CoreRefusal::OutOfRange)),
-    (8, 4, 0, PUBLISH, Some(CoreRefusal::OutOfRange)),
-    (8, 99, 0, PUBLISH, None),
-    (18, 16, 1, MARK, Some(CoreRefusal::NotHeld)),
-    (18, 99, 1, MARK, None),
-    (18, 16, 1, GET, Some(CoreRefusal::NotHeld)),
-    (18, 99, 1, GET, None),
-    (18, 16, 1, HAS, None),
-];
+fn next_steps() -> [(usize, usize, u32, Step, Option<CoreRefusal>); 12] {
+    [
+        (0, 99, 0, STORE, Some(CoreRefusal::NotOwned)),
+        (2, 99, 0, STORE, Some(CoreRefusal::NotOwned)),
+        (9, 99, 0, STORE, Some(CoreRefusal::NotOwned)),
+        (0, 99, 0, LOAD, Some(CoreRefusal::NotHeld)),
+        (0, 99, 0, LOAD_BEYOND, Some(CoreRefusal::OutOfRange)),
+        (8, 4, 0, publish_step(), Some(CoreRefusal::OutOfRange)),
+        (8, 99, 0, publish_step(), None),
+        (18, 16, 1, mark_step(), Some(CoreRefusal::NotHeld)),
+        (18, 99, 1, mark_step(), None),
+        (18, 16, 1, get_step(), Some(CoreRefusal::NotHeld)),
+        (18, 99, 1, get_step(), None),
+        (18, 16, 1, has_step(), None),
+    ]
+}
 
 /// After so many rows, one of which is left out, the step is refused so, if it is. Row 4 stores the
 /// value, and row 16 loads it.
 #[test]
 fn asks_for_values(rt: HostRuntime) -> Result<(), Fail> {
     let shape = Shape::new(1, 1, 10)?.with_values();
-    for (count, left_out, pass, step, refusal) in NEXT_STEPS {
-        let events = events_but_one(rt.alloc(), &STORED_VALUE, count, left_out, (pass, step))?;
+    let rows = stored_value();
+    for (count, left_out, pass, step, refusal) in &next_steps() {
+        let events = events_but_one(rt.alloc(), &rows, *count, *left_out, (*pass, *step))?;
         let wanted = refusal.map(|refusal| (events.len().saturating_sub(1), refusal));
         let stop = stop_of(rt.alloc(), shape, 2, &events);
         assert_eq!(rt;
@@ -369,11 +384,13 @@ fn asks_for_values(rt: HostRuntime) -> Result<(), Fail> {
     Ok(())
 }
 
-const REPLACE: Step = Step::Replace {
-    slot: 0,
-    expected: 33_554_432,
-    new: 2,
-};
+fn replace_step() -> Step {
+    Step::Replace {
+        slot: 0,
+        expected: numbered(4_294_967_296),
+        new: 2,
+    }
+}
 
 /// After the first 27 rows, one of which is left out, the replacement by pass 1 is refused so, if it
 /// is. Rows 12 to 15 load key, value, birth and link of the node, and rows 19 to 21 fill the hand.
@@ -391,7 +408,8 @@ fn asks_for_what_a_replacement_names(rt: HostRuntime) -> Result<(), Fail> {
         (99, None),
     ];
     for (left_out, refusal) in rows {
-        let events = events_but_one(rt.alloc(), &REPLACED_VALUE, 27, left_out, (1, REPLACE))?;
+        let last = (1, replace_step());
+        let events = events_but_one(rt.alloc(), &replaced_value(), 27, left_out, last)?;
         let wanted = refusal.map(|refusal| (events.len().saturating_sub(1), refusal));
         let stop = stop_of(rt.alloc(), shape, 2, &events);
         assert_eq!(rt; stop, wanted, "without row {left_out}");
@@ -403,7 +421,7 @@ fn asks_for_what_a_replacement_names(rt: HostRuntime) -> Result<(), Fail> {
 #[test]
 fn asks_for_a_value_since_the_birth(rt: HostRuntime) -> Result<(), Fail> {
     let shape = Shape::new(1, 1, 10)?.with_values();
-    let mut events = events_of(rt.alloc(), &STORED_VALUE, 5)?;
+    let mut events = events_of(rt.alloc(), &stored_value(), 5)?;
     let steps = [
         Step::StoreBirth { slot: 0, birth: 1 },
         Step::StoreKey { slot: 0, key: 7 },
@@ -413,7 +431,7 @@ fn asks_for_a_value_since_the_birth(rt: HostRuntime) -> Result<(), Fail> {
             slot: 0,
             next: None,
         },
-        PUBLISH,
+        publish_step(),
     ];
     for step in steps {
         events.push(Event { pass: 0, step })?;
@@ -432,21 +450,25 @@ fn a_set_has_no_values(rt: HostRuntime) -> Result<(), Fail> {
         Step::LoadValue { slot: 0 },
         Step::Replace {
             slot: 0,
-            expected: 0,
+            expected: numbered(0),
             new: 0,
         },
-        GET,
-        ABSENT_GET,
+        get_step(),
+        absent_get(),
     ];
-    for step in steps {
-        let stop = stop_of(rt.alloc(), shape, 1, &[Event { pass: 0, step }]);
+    for step in &steps {
+        let event = Event {
+            pass: 0,
+            step: *step,
+        };
+        let stop = stop_of(rt.alloc(), shape, 1, &[event]);
         assert_eq!(rt; stop, Some((0, CoreRefusal::OutOfRange)), "{step:?}");
     }
     Ok(())
 }
 
 // Compares the words at these places.
-fn expect_at(rt: &impl Abort, world: &World, shape: Shape, words: &[(Place, u64)])
+fn expect_at(rt: &impl Abort, world: &World, shape: Shape, words: &[(Place, u128)])
     requires { world.now.start.shape ≡ shape }
 {
     for (place, word) in words {
@@ -475,45 +497,47 @@ fn opens_with_entries(rt: HostRuntime) -> Result<(), Fail> {
 const ENTRIES: [(u64, u64); 3] = [(2, 102), (5, 105), (9, 109)];
 
 // The first node of bucket 1 is that of 5: a pass gets its value, and takes it out.
-const GOT_AND_TAKEN: [Row; 9] = [
-    (0, Step::ReadEpoch, Effect::Value(1)),
-    (
-        0,
-        Step::LoadLink { at: At::Head(1) },
-        Effect::Value(33_554_434),
-    ),
-    (0, Step::ReadEpoch, Effect::Value(1)),
-    (0, Step::LoadKey { slot: 1 }, Effect::Value(5)),
-    (0, Step::LoadValue { slot: 1 }, Effect::Value(105)),
-    (
-        0,
-        Step::LoadLink { at: At::Slot(1) },
-        Effect::Value(33_554_435),
-    ),
-    (0, Step::ReadEpoch, Effect::Value(1)),
-    (
-        0,
-        Step::ConfirmPresent {
-            op: Op::Get,
-            slot: 1,
-            expected: 33_554_435,
-        },
-        Effect::Answered(true),
-    ),
-    (
-        0,
-        Step::Mark {
-            slot: 1,
-            expected: 33_554_435,
-        },
-        Effect::Won,
-    ),
-];
+fn got_and_taken() -> [Row; 9] {
+    [
+        (0, Step::ReadEpoch, Effect::Value(1)),
+        (
+            0,
+            Step::LoadLink { at: At::Head(1) },
+            Effect::Value(4_294_967_298),
+        ),
+        (0, Step::ReadEpoch, Effect::Value(1)),
+        (0, Step::LoadKey { slot: 1 }, Effect::Value(5)),
+        (0, Step::LoadValue { slot: 1 }, Effect::Value(105)),
+        (
+            0,
+            Step::LoadLink { at: At::Slot(1) },
+            Effect::Value(4_294_967_299),
+        ),
+        (0, Step::ReadEpoch, Effect::Value(1)),
+        (
+            0,
+            Step::ConfirmPresent {
+                op: Op::Get,
+                slot: 1,
+                expected: numbered(4_294_967_299),
+            },
+            Effect::Answered(true),
+        ),
+        (
+            0,
+            Step::Mark {
+                slot: 1,
+                expected: numbered(4_294_967_299),
+            },
+            Effect::Won,
+        ),
+    ]
+}
 
 // Makes the steps of rows, and compares their effects.
 fn make_rows(rt: &impl Abort, world: &mut World, rows: &[Row]) {
     for row in rows {
-        make(rt, world, *row);
+        make(rt, world, row);
     }
 }
 
@@ -521,7 +545,7 @@ fn make_rows(rt: &impl Abort, world: &mut World, rows: &[Row]) {
 fn gives_the_values_of_its_opening(rt: HostRuntime) -> Result<(), Fail> {
     let shape = Shape::new(4, 2, 10)?.with_values();
     let mut world = World::open_with_entries(rt.alloc(), shape, 2, &ENTRIES)?;
-    make_rows(&rt, &mut world, &GOT_AND_TAKEN);
+    make_rows(&rt, &mut world, &got_and_taken());
     let calls = [valued(0, Op::Get, 5, 105), valued(0, Op::Remove, 5, 105)];
     assert_eq!(rt; world.calls(), calls.as_slice());
     Ok(expect_map(&rt, rt.alloc(), &ENTRIES, &calls)?)
@@ -531,14 +555,14 @@ fn gives_the_values_of_its_opening(rt: HostRuntime) -> Result<(), Fail> {
 #[test]
 fn replays_from_entries(rt: HostRuntime) -> Result<(), Fail> {
     let shape = Shape::new(4, 2, 10)?.with_values();
-    let events = events_of(rt.alloc(), &GOT_AND_TAKEN, 9)?;
+    let events = events_of(rt.alloc(), &got_and_taken(), 9)?;
     let world = replay_with_entries(rt.alloc(), shape, 1, &ENTRIES, &events)?;
     let calls = [valued(0, Op::Get, 5, 105), valued(0, Op::Remove, 5, 105)];
     assert_eq!(rt; world.calls(), calls.as_slice());
     assert_eq!(rt; world.incarnations(), 3);
     let words = [
-        (Place::Head(1), 33_554_434),
-        (Place::LinkOf(1), 50_331_651),
+        (Place::Head(1), 4_294_967_298),
+        (Place::LinkOf(1), 6_442_450_947),
         (Place::Value(1), 105),
         (Place::Value(2), 109),
         (Place::Value(3), 0),
@@ -551,7 +575,7 @@ fn replays_from_entries(rt: HostRuntime) -> Result<(), Fail> {
 #[test]
 fn stops_from_entries(rt: HostRuntime) -> Result<(), Fail> {
     let shape = Shape::new(4, 2, 10)?.with_values();
-    let mut events = events_of(rt.alloc(), &GOT_AND_TAKEN, 9)?;
+    let mut events = events_of(rt.alloc(), &got_and_taken(), 9)?;
     let step = Step::LoadKey { slot: 3 };
     events.push(Event { pass: 0, step })?;
     for (passes, stop) in [

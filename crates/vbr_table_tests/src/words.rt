@@ -1,9 +1,10 @@
 //! Link words, shapes and the places of words.
 use std::process::Abort;
 use std::test::Fail;
+use vbr_words::shape::max_epoch;
 use vbr_words::{
-    Link, Place, Shape, ShapeError, SpreadError, decode, encode, place_index, version_of,
-    with_mark, word_count,
+    Layout, Link, Place, Shape, ShapeError, SpreadError, WideWord, decode, encode, place_index,
+    version_of, wide, with_mark, word_count,
 };
 
 const UNMARKED: Link = Link {
@@ -18,26 +19,25 @@ const MARKED_NONE: Link = Link {
     version: 0,
 };
 
-#[test]
-fn packs_links(rt: HostRuntime) {
-    let rows = [
-        (encode(UNMARKED), 33_554_433),
-        (encode(MARKED_NONE), 16_777_216),
-        (with_mark(33_554_433), 50_331_649),
-        (with_mark(50_331_649), 50_331_649),
-        (version_of(3, 5), 5),
-    ];
-    for (word, wanted) in rows {
-        assert_eq!(rt; word, wanted);
-    }
+// Compares the link of a word, and the word of that link, in a table whose words are kept so. As a number the word
+// says the same.
+fn expect_word(rt: &impl Abort, layout: Layout, word: u64, link: Link) {
+    let told = decode(word, layout);
+    assert_eq!(rt; told, link, "{word}");
+    assert_eq!(rt; encode(told, layout), word);
+    let number = wide(word, layout);
+    assert_eq!(rt; number.link(), link, "{word}");
+    assert_eq!(rt; WideWord::of(told), number);
 }
 
+/// A table of three slots has two bits for the slot, the next for the mark, and the version in eights.
 #[test]
-fn unpacks_words(rt: HostRuntime) {
+fn packs_links(rt: HostRuntime) -> Result<(), Fail> {
+    let layout = Shape::new(3, 2, 10)?.layout();
     let greatest = Link {
-        slot: Some(16_777_214),
+        slot: Some(2),
         mark: true,
-        version: 549_755_813_887,
+        version: 2_305_843_009_213_693_951,
     };
     let none = Link {
         slot: None,
@@ -47,12 +47,132 @@ fn unpacks_words(rt: HostRuntime) {
     let rows = [
         (u64::MAX, greatest),
         (0, none),
-        (33_554_433, UNMARKED),
-        (16_777_216, MARKED_NONE),
+        (9, UNMARKED),
+        (4, MARKED_NONE),
     ];
     for (word, link) in rows {
-        assert_eq!(rt; decode(word), link, "{word}");
+        expect_word(&rt, layout, word, link);
     }
+    assert_eq!(rt; with_mark(9, layout), 13);
+    assert_eq!(rt; with_mark(13, layout), 13);
+    assert_eq!(rt; version_of(3, 5), 5);
+    Ok(())
+}
+
+// Numbers of slots, with the greatest last epoch of each, and with words of such tables: those of the unmarked and of
+// the marked link to the last slot with the greatest version, of a marked link to none with version 0, and of the
+// unmarked link to slot 0 with version 1. They are worked by hand: where a slot has so many bits, the greatest epoch is
+// 2^(63 - bits) - 1. A word is the slot's number and one, 2^bits for the mark, and the version times 2^(bits + 1).
+type Edge = (u32, u64, (u64, u64, u64, u64));
+
+const EDGES: [Edge; 8] = [
+    (
+        1,
+        4_611_686_018_427_387_903,
+        (18_446_744_073_709_551_613, u64::MAX, 2, 5),
+    ),
+    (
+        3,
+        2_305_843_009_213_693_951,
+        (18_446_744_073_709_551_611, u64::MAX, 4, 9),
+    ),
+    (
+        4_095,
+        2_251_799_813_685_247,
+        (18_446_744_073_709_547_519, u64::MAX, 4_096, 8_193),
+    ),
+    (
+        4_096,
+        1_125_899_906_842_623,
+        (
+            18_446_744_073_709_539_328,
+            18_446_744_073_709_547_520,
+            8_192,
+            16_385,
+        ),
+    ),
+    (
+        16_777_215,
+        549_755_813_887,
+        (18_446_744_073_692_774_399, u64::MAX, 16_777_216, 33_554_433),
+    ),
+    (
+        16_777_216,
+        274_877_906_943,
+        (
+            18_446_744_073_659_219_968,
+            18_446_744_073_692_774_400,
+            33_554_432,
+            67_108_865,
+        ),
+    ),
+    (
+        33_554_432,
+        137_438_953_471,
+        (
+            18_446_744_073_608_888_320,
+            18_446_744_073_675_997_184,
+            67_108_864,
+            134_217_729,
+        ),
+    ),
+    (
+        2_147_483_647,
+        4_294_967_295,
+        (
+            18_446_744_071_562_067_967,
+            u64::MAX,
+            2_147_483_648,
+            4_294_967_297,
+        ),
+    ),
+];
+
+#[test]
+fn packs_links_in_each_width(rt: HostRuntime) -> Result<(), Fail> {
+    for (slots, last_epoch, (greatest, marked, marked_none, unmarked)) in EDGES {
+        let layout = Shape::new(slots, 1, last_epoch)?.layout();
+        let last = Link {
+            slot: slots.checked_sub(1),
+            mark: false,
+            version: last_epoch,
+        };
+        let removed = Link { mark: true, ..last };
+        expect_word(&rt, layout, greatest, last);
+        expect_word(&rt, layout, marked, removed);
+        expect_word(&rt, layout, marked_none, MARKED_NONE);
+        expect_word(&rt, layout, unmarked, UNMARKED);
+        assert_eq!(rt; with_mark(greatest, layout), marked, "{slots} slots");
+        assert_eq!(rt; with_mark(marked, layout), marked, "{slots} slots");
+        let told = wide(greatest, layout).with_mark();
+        assert_eq!(rt; told.link(), removed, "{slots} slots");
+    }
+    Ok(())
+}
+
+// Compares the last epoch of a shape, or why it is none.
+fn expect_last_epoch(
+    rt: &impl Abort,
+    slots: u32,
+    last_epoch: u64,
+    answer: Result<u64, ShapeError>,
+) {
+    let shape = Shape::new(slots, 65_536, last_epoch);
+    let told = shape.map(|s| s.last_epoch());
+    assert_eq!(rt; told, answer, "{slots} slots");
+}
+
+/// The fewer the slots, the more bits the epochs have: the greatest last epoch is taken, and one more is refused.
+#[test]
+fn takes_epochs_by_slots(rt: HostRuntime) -> Result<(), Fail> {
+    for (slots, last_epoch, _) in EDGES {
+        expect_last_epoch(&rt, slots, last_epoch, Ok(last_epoch));
+        let more = last_epoch.saturating_add(1);
+        expect_last_epoch(&rt, slots, more, Err(ShapeError::LastEpoch));
+        let shape = Shape::new(slots, 1, 1)?;
+        assert_eq!(rt; max_epoch(shape.slots()), last_epoch, "{slots} slots");
+    }
+    Ok(())
 }
 
 #[test]
@@ -84,14 +204,18 @@ fn lays_out_words(rt: HostRuntime) -> Result<(), Fail> {
 fn refuses_shapes(rt: HostRuntime) {
     let rows = [
         ((0, 0, 0), Err(ShapeError::Slots)),
-        ((16_777_216, 1, 1), Err(ShapeError::Slots)),
-        ((16_777_215, 0, 1), Err(ShapeError::Buckets)),
+        ((2_147_483_648, 1, 1), Err(ShapeError::Slots)),
+        ((2_147_483_647, 0, 1), Err(ShapeError::Buckets)),
         ((1, 65_537, 0), Err(ShapeError::Buckets)),
         ((1, 1, 0), Err(ShapeError::LastEpoch)),
-        ((1, 65_536, 549_755_813_888), Err(ShapeError::LastEpoch)),
+        ((1, 65_536, u64::MAX), Err(ShapeError::LastEpoch)),
         (
             (16_777_215, 65_536, 549_755_813_887),
             Ok((16_777_215, 65_536, 549_755_813_887)),
+        ),
+        (
+            (2_147_483_647, 65_536, 4_294_967_295),
+            Ok((2_147_483_647, 65_536, 4_294_967_295)),
         ),
     ];
     for ((slots, buckets, last_epoch), answer) in rows {
@@ -101,33 +225,17 @@ fn refuses_shapes(rt: HostRuntime) {
     }
 }
 
-/// Epochs have 39 bits however few the slots: the last epoch that fits beside slots of 20 bits is
-/// refused.
-#[test]
-fn refuses_epochs_of_43_bits(rt: HostRuntime) {
-    let rows = [
-        (8_796_093_022_207, Err(ShapeError::LastEpoch)),
-        (549_755_813_888, Err(ShapeError::LastEpoch)),
-        (549_755_813_887, Ok((1_048_575, 549_755_813_887))),
-    ];
-    for (last_epoch, answer) in rows {
-        let shape = Shape::new(1_048_575, 65_536, last_epoch);
-        let numbers = shape.map(|s| (s.slots(), s.last_epoch()));
-        assert_eq!(rt; numbers, answer);
-    }
-}
-
 #[test]
 fn refuses_buckets_to_spread_over(rt: HostRuntime) -> Result<(), Fail> {
     let shape = Shape::new(7, 3, 9)?;
-    for buckets in [0, 16_777_217, u32::MAX] {
+    for buckets in [0, 2_147_483_649, u32::MAX] {
         assert_eq!(rt; shape.spread_over(buckets), Err(SpreadError));
         assert_eq!(rt; shape.spread_with(buckets, 7), Err(SpreadError));
     }
-    let widest = shape.spread_over(16_777_216)?;
+    let widest = shape.spread_over(2_147_483_648)?;
     assert_eq!(rt;
         (widest.slots(), widest.buckets(), widest.last_epoch()),
-        (7, 16_777_216, 9)
+        (7, 2_147_483_648, 9)
     );
     Ok(())
 }
@@ -149,8 +257,14 @@ fn spreads_keys(rt: HostRuntime) -> Result<(), Fail> {
     expect_buckets(&rt, shape.spread_over(3)?, &in_three);
     let in_sixteen = [(1, 9), (2, 3), (3, 13), (4096, 7)];
     expect_buckets(&rt, shape.spread_over(16)?, &in_sixteen);
-    let in_most = [(1, 10_368_889), (4096, 7_838_615), (u64::MAX, 6_408_326)];
-    expect_buckets(&rt, shape.spread_over(16_777_216)?, &in_most);
+    let in_many = [(1, 10_368_889), (4096, 7_838_615), (u64::MAX, 6_408_326)];
+    expect_buckets(&rt, shape.spread_over(16_777_216)?, &in_many);
+    let in_most = [
+        (1, 1_327_217_884),
+        (4096, 1_003_342_842),
+        (u64::MAX, 820_265_763),
+    ];
+    expect_buckets(&rt, shape.spread_over(2_147_483_648)?, &in_most);
     Ok(())
 }
 

@@ -5,7 +5,9 @@ use crate::values::expect_both;
 use std::alloc::{AllocError, Global};
 use std::process::Abort;
 use std::test::Fail;
-use vbr_event_lists::{RAISED_IN_HAND, REBORN_SLOT, Row, SAME_WORD, TWO_HELPERS, with_values};
+use vbr_event_lists::{
+    Row, numbered, raised_in_hand, reborn_slot, same_word, two_helpers, with_values,
+};
 use vbr_words::flags::flag_words;
 use vbr_words::{At, Place, Shape};
 use vbr_world::{
@@ -13,7 +15,7 @@ use vbr_world::{
 };
 
 // The word at a place of the world, which has this shape; none where the shape has no such place.
-pub(crate) fn word_at(world: &World, shape: Shape, place: Place) -> Option<u64>
+pub(crate) fn word_at(world: &World, shape: Shape, place: Place) -> Option<u128>
     requires slots { world.now.start.shape.slots ≡ shape.slots }
     requires buckets { world.now.start.shape.buckets ≡ shape.buckets }
     requires values { world.now.start.shape.values ≡ shape.values }
@@ -31,7 +33,7 @@ pub(crate) fn word_at(world: &World, shape: Shape, place: Place) -> Option<u64>
 }
 
 // A place, and the words that stand there after so many rows each.
-pub(crate) type Look = (Place, &'static [(usize, u64)]);
+pub(crate) type Look = (Place, &'static [(usize, u128)]);
 
 // Compares the words that are looked at after so many rows, and tells how many these are.
 pub(crate) fn look(
@@ -69,16 +71,18 @@ fn count_of(looks: &[Look]) -> usize {
 
 // Makes the step of a row, and compares its effect. A step that found no memory left the world as it was, so it
 // is made again.
-pub(crate) fn make(rt: &impl Abort, world: &mut World, row: Row)
+pub(crate) fn make(rt: &impl Abort, world: &mut World, row: &Row)
     ensures { world.new.start ≡ world.old.start }
 {
-    let (pass, step, effect) = row;
-    let event = Event { pass, step };
-    let mut answer = world.step(event);
+    let event = &Event {
+        pass: row.0,
+        step: row.1,
+    };
+    let mut answer = world.step(*event);
     if answer == Err(CoreRefusal::NoMemory) {
-        answer = world.step(event);
+        answer = world.step(*event);
     }
-    assert_eq!(rt; answer, Ok(effect), "{event:?}");
+    assert_eq!(rt; answer, Ok(row.2), "{event:?}");
 }
 
 // Opens a world with two passes and makes the steps of a list, with looks between them, each of which
@@ -96,7 +100,7 @@ pub(crate) fn follow(
     let mut made = 0usize;
     let mut looked = look(rt, &world, shape, made, looks);
     for row in rows {
-        make(rt, &mut world, *row);
+        make(rt, &mut world, row);
         made = made.saturating_add(1);
         looked = looked.saturating_add(look(rt, &world, shape, made, looks));
     }
@@ -159,41 +163,51 @@ fn follows_a_reborn_slot(rt: HostRuntime) -> Result<(), Fail> {
         (
             Place::Head(0),
             &[
-                (9, 33_554_433),
-                (14, 33_554_434),
-                (30, 33_554_433),
-                (43, 67_108_866),
+                (9, 4_294_967_297),
+                (14, 4_294_967_298),
+                (30, 4_294_967_297),
+                (43, 8_589_934_594),
             ],
         ),
-        (Place::LinkOf(1), &[(29, 50_331_649), (42, 67_108_865)]),
+        (
+            Place::LinkOf(1),
+            &[(29, 6_442_450_945), (42, 8_589_934_593)],
+        ),
         (Place::Epoch, &[(44, 2)]),
     ];
     let calls = [insert(0, 30), insert(0, 20), remove(0, 20), insert(0, 10)];
     let slots = [(LISTED, 130), (LISTED, 110), (SlotPlace::Hand(1), 125)];
-    expect_both(&rt, rt.alloc(), &REBORN_SLOT, &looks, &calls, &slots, 4)
+    expect_both(&rt, rt.alloc(), &reborn_slot(), &looks, &calls, &slots, 4)
 }
 
 #[test]
 fn follows_a_word_that_comes_back(rt: HostRuntime) -> Result<(), Fail> {
     let looks: [Look; 4] = [
         (Place::Epoch, &[(37, 5)]),
-        (Place::LinkOf(0), &[(9, 67_108_864)]),
-        (Place::LinkOf(2), &[(33, 167_772_161), (35, 184_549_377)]),
+        (Place::LinkOf(0), &[(9, 8_589_934_592)]),
+        (
+            Place::LinkOf(2),
+            &[(33, 21_474_836_481), (35, 23_622_320_129)],
+        ),
         (
             Place::Head(0),
-            &[(34, 167_772_163), (36, 67_108_865), (37, 67_108_866)],
+            &[
+                (34, 21_474_836_483),
+                (36, 8_589_934_593),
+                (37, 8_589_934_594),
+            ],
         ),
     ];
     let calls = [insert(0, 30), insert(0, 10), remove(0, 10), insert(1, 20)];
     let slots = [(LISTED, 130), (LISTED, 120), (SlotPlace::Own(0), 110)];
-    expect_both(&rt, rt.alloc(), &SAME_WORD, &looks, &calls, &slots, 3)
+    expect_both(&rt, rt.alloc(), &same_word(), &looks, &calls, &slots, 3)
 }
 
 #[test]
 fn follows_two_helpers(rt: HostRuntime) -> Result<(), Fail> {
     let looks: [Look; 1] = [(Place::Head(0), &[(18, 0)])];
     let (calls, slots) = ([insert(0, 7), remove(0, 7)], [(SlotPlace::Own(1), 107)]);
-    expect_both(&rt, rt.alloc(), &TWO_HELPERS, &looks, &calls, &slots, 1)
+    expect_both(&rt, rt.alloc(), &two_helpers(), &looks, &calls, &slots, 1)
 }
 
 #[test]
@@ -201,19 +215,29 @@ fn follows_a_slot_that_is_raised_in_hand(rt: HostRuntime) -> Result<(), Fail> {
     let looks: [Look; 3] = [
         (Place::Birth(0), &[(11, 2), (14, 1)]),
         (Place::Flags(0), &[(11, 1)]),
-        (Place::Head(0), &[(16, 33_554_433)]),
+        (Place::Head(0), &[(16, 4_294_967_297)]),
     ];
     let (calls, slots) = ([insert(1, 7)], [(LISTED, 107)]);
-    expect_both(&rt, rt.alloc(), &RAISED_IN_HAND, &looks, &calls, &slots, 2)
+    expect_both(
+        &rt,
+        rt.alloc(),
+        &raised_in_hand(),
+        &looks,
+        &calls,
+        &slots,
+        2,
+    )
 }
 
 // A look-up for the key of the node that the list of two helpers marks.
-const LOOK_UP: Step = Step::ConfirmAbsent {
-    op: Op::Has,
-    key: 7,
-    at: At::Head(0),
-    expected: 33_554_433,
-};
+fn look_up() -> Step {
+    Step::ConfirmAbsent {
+        op: Op::Has,
+        key: 7,
+        at: At::Head(0),
+        expected: numbered(4_294_967_297),
+    }
+}
 
 // The call of that look-up.
 pub(crate) const ABSENT: Call = Call {
@@ -237,7 +261,7 @@ pub(crate) fn look_up_behind(
     let mut world = follow(rt, alloc, shape, rows, &[])?;
     let event = Event {
         pass: 1,
-        step: LOOK_UP,
+        step: look_up(),
     };
     assert_eq!(rt; world.step(event), wanted);
     assert_eq!(rt; world.calls(), calls);
@@ -250,7 +274,7 @@ fn a_look_up_passes_a_marked_node(rt: HostRuntime) -> Result<(), Fail> {
     let shape = Shape::new(1, 1, 10)?;
     let calls = [call(0, Op::Insert, 7), call(0, Op::Remove, 7), ABSENT];
     let wanted = Ok(Effect::Answered(false));
-    look_up_behind(&rt, rt.alloc(), shape, &TWO_HELPERS[..16], wanted, &calls)
+    look_up_behind(&rt, rt.alloc(), shape, &two_helpers()[..16], wanted, &calls)
 }
 
 /// It passes none whose marked link isn't checked.
@@ -259,7 +283,7 @@ fn a_look_up_checks_the_marked_link(rt: HostRuntime) -> Result<(), Fail> {
     let shape = Shape::new(1, 1, 10)?;
     let calls = [call(0, Op::Insert, 7), call(0, Op::Remove, 7)];
     let wanted = Err(CoreRefusal::NotHeld);
-    look_up_behind(&rt, rt.alloc(), shape, &TWO_HELPERS[..15], wanted, &calls)
+    look_up_behind(&rt, rt.alloc(), shape, &two_helpers()[..15], wanted, &calls)
 }
 
 // The events of the first rows of a list, so many.
@@ -306,7 +330,7 @@ fn expect_word(
     shape: Shape,
     events: &[Event],
     place: Place,
-    word: u64,
+    word: u128,
 ) -> Result<(), (usize, CoreRefusal)> {
     let world = replay(alloc, shape, 2, events)?;
     assert_eq!(rt; word_at(&world, shape, place), Some(word));
@@ -335,7 +359,7 @@ pub(crate) fn expect_stamp(
 
 #[test]
 fn replays_a_list(rt: HostRuntime) -> Result<(), Fail> {
-    expect_stamp(&rt, rt.alloc(), Shape::new(3, 1, 10)?, &REBORN_SLOT, 32)
+    expect_stamp(&rt, rt.alloc(), Shape::new(3, 1, 10)?, &reborn_slot(), 32)
 }
 
 // After the first 17 rows of the list of two helpers pass 1 has unlinked slot 0, and hasn't stamped it.
@@ -343,7 +367,7 @@ fn replays_a_list(rt: HostRuntime) -> Result<(), Fail> {
 fn an_unstamped_slot_is_not_raised(rt: HostRuntime) -> Result<(), Fail> {
     let shape = Shape::new(1, 1, 10)?;
     for pass in 0..2 {
-        let mut events = events_of(rt.alloc(), &TWO_HELPERS, 17)?;
+        let mut events = events_of(rt.alloc(), &two_helpers(), 17)?;
         events.push(Event {
             pass,
             step: Step::Raise { slot: 0 },
@@ -355,7 +379,7 @@ fn an_unstamped_slot_is_not_raised(rt: HostRuntime) -> Result<(), Fail> {
 }
 
 // Compares the number of calls, that of incarnations, and the epoch.
-fn expect_counts(rt: &impl Abort, world: &World, wanted: (usize, u64, u64)) {
+fn expect_counts(rt: &impl Abort, world: &World, wanted: (usize, u64, u128)) {
     let told = (
         world.calls().len(),
         world.incarnations(),
@@ -370,7 +394,7 @@ pub(crate) fn expect_whole(
     alloc: Global,
     shape: Shape,
     rows: &[Row],
-    wanted: (usize, u64, u64),
+    wanted: (usize, u64, u128),
 ) -> Result<(), Fail> {
     let events = events_of(alloc, rows, rows.len())?;
     let world = replay(alloc, shape, 2, &events)?;
@@ -380,11 +404,17 @@ pub(crate) fn expect_whole(
 
 #[test]
 fn replays_each_list_whole(rt: HostRuntime) -> Result<(), Fail> {
-    let rows: [(&[Row], u32, (usize, u64, u64)); 4] = [
-        (&REBORN_SLOT, 3, (4, 4, 2)),
-        (&SAME_WORD, 3, (4, 3, 5)),
-        (&TWO_HELPERS, 1, (2, 1, 1)),
-        (&RAISED_IN_HAND, 1, (1, 2, 2)),
+    let (reborn, same, helpers, raised) = (
+        reborn_slot(),
+        same_word(),
+        two_helpers(),
+        raised_in_hand(),
+    );
+    let rows: [(&[Row], u32, (usize, u64, u128)); 4] = [
+        (&reborn, 3, (4, 4, 2)),
+        (&same, 3, (4, 3, 5)),
+        (&helpers, 1, (2, 1, 1)),
+        (&raised, 1, (1, 2, 2)),
     ];
     for (list, slots, wanted) in rows {
         let shape = Shape::new(slots, 1, 10)?;
@@ -406,9 +436,13 @@ fn expect_refusals(rt: &impl Abort, alloc: Global, shape: Shape) {
         (0, Step::Advance { from: 0 }, CoreRefusal::OutOfRange),
         (0, Step::Advance { from: 1 }, CoreRefusal::EpochLast),
     ];
-    for (pass, step, refusal) in rows {
-        let stop = stop_of(alloc, shape, 1, &[Event { pass, step }]);
-        assert_eq!(rt; stop, Some((0, refusal)), "{step:?}");
+    for (pass, step, refusal) in &rows {
+        let event = Event {
+            pass: *pass,
+            step: *step,
+        };
+        let stop = stop_of(alloc, shape, 1, &[event]);
+        assert_eq!(rt; stop, Some((0, *refusal)), "{step:?}");
     }
     let take = Event {
         pass: 0,
@@ -433,8 +467,10 @@ fn refuses_events(rt: HostRuntime) -> Result<(), Fail> {
 /// A slot is taken once. The answer to the second one has the flag word, in which its flag is gone.
 #[test]
 fn takes_a_slot_once(rt: HostRuntime) -> Result<(), Fail> {
-    let take = Step::TakeFlag { slot: 0 };
-    let rows = [(0, take, Effect::Won), (0, take, Effect::Lost(0))];
+    let rows = [
+        (0, Step::TakeFlag { slot: 0 }, Effect::Won),
+        (0, Step::TakeFlag { slot: 0 }, Effect::Lost(0)),
+    ];
     let shape = Shape::new(1, 1, 1)?;
     follow(&rt, rt.alloc(), shape, &rows, &[])?;
     follow(&rt, rt.alloc(), shape.with_values(), &rows, &[])?;
@@ -468,7 +504,7 @@ pub(crate) fn expect_bare(
     alloc: Global,
     world: &World,
     shape: Shape,
-    words: &[u64],
+    words: &[u128],
 ) -> Result<(), AllocError>
     requires slots { world.now.start.shape.slots ≡ shape.slots }
     requires buckets { world.now.start.shape.buckets ≡ shape.buckets }
@@ -482,8 +518,8 @@ pub(crate) fn expect_bare(
     Ok(())
 }
 
-// The words of a fresh world or table of one slot and one bucket; where nodes have values there is one more.
-pub(crate) const FRESH: [u64; 8] = [1, 167_772_161, 0, 16_777_216, 0, 0, 0, 1];
+// The words of a fresh world of one slot and one bucket; where nodes have values there is one more.
+pub(crate) const FRESH: [u128; 8] = [1, 21, 0, 2_147_483_648, 0, 0, 0, 1];
 
 #[test]
 fn opens_fresh(rt: HostRuntime) -> Result<(), Fail> {
@@ -495,26 +531,26 @@ fn opens_fresh(rt: HostRuntime) -> Result<(), Fail> {
     Ok(())
 }
 
-// The words of a world or table of four slots and two buckets that opens with the keys 2, 5 and 9, and has any
-// values beside them.
-pub(crate) const OPENED: [u64; 21] = [
+// The words of a world of four slots and two buckets that opens with the keys 2, 5 and 9, and has any values beside
+// them.
+pub(crate) const OPENED: [u128; 21] = [
     1,
-    167_772_164,
-    33_554_433,
-    33_554_434,
-    33_554_432,
+    84,
+    4_294_967_297,
+    4_294_967_298,
+    4_294_967_296,
     1,
     0,
     2,
-    33_554_435,
+    4_294_967_299,
     1,
     0,
     5,
-    33_554_432,
+    4_294_967_296,
     1,
     0,
     9,
-    16_777_216,
+    2_147_483_648,
     0,
     0,
     0,

@@ -8,3 +8,10 @@ pub use Rattle.vbr_words.proofs.FlagWords.{first_bits-lt, flag_raised, flag_take
 pub use Rattle.vbr_words.proofs.Indices.{index_of-lt, same_place}
 -- A link and its word determine each other.
 pub use Rattle.vbr_words.proofs.LinkWords.{IsLink-link_of, link_of-word_of, word_of-link_of}
+-- What a table keeps of a link word has its slot field.
+pub use Rattle.vbr_words.proofs.Layouts.{kept_fits}
+-- Link words that have room are kept in 64 bits each, and no two in the same.
+pub use Rattle.vbr_words.proofs.Packing.{has_room, is_link, packed-lt, packed-none, packed-opening}
+pub use Rattle.vbr_words.proofs.Packing.{packed_same, room_parts, room_with_fewer, shape_has_room}
+pub use Rattle.vbr_words.proofs.Packing.{slot_bits-enough, slot_bits-wide}
+pub use Rattle.vbr_words.proofs.Packing.{packed-unpacked, some_version, unpacked-packed, unpacked_room}

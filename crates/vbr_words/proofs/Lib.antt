@@ -2,5 +2,7 @@ mod Buckets
 mod FlagWords
 mod Indices
 mod LinkWords
+mod Layouts
+mod Packing
 mod Powers
 pub mod Lemmas

@@ -1,7 +1,10 @@
+pub mod Packing
 pub mod Dimensions
 pub mod Buckets
 pub mod Shapes
 pub mod Words
+pub mod KeptLinks
 pub mod Flags
 pub mod Places
 pub mod Messages
+pub mod Links

@@ -13,6 +13,10 @@ abbrev pub slot_field : Option ℕ → ℕ
 slot_field None = 0
 slot_field (Some slot) = suc slot
 
+-- the mark as a digit
+abbrev pub mark_digit : Bool → ℕ
+mark_digit mark = if mark then 1 else 0
+
 -- the mark field
 abbrev pub mark_field : Bool → ℕ
 mark_field mark = if mark then MARK else 0

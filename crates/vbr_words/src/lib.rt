@@ -8,7 +8,7 @@ pub mod nodes;
 pub mod place;
 pub mod shape;
 
-pub use link::{Link, decode, encode, version_of, with_mark};
+pub use link::{Layout, Link, WideWord, decode, encode, version_of, wide, with_mark, with_version};
 pub use nodes::{Entries, Keys, Nodes};
 pub use place::{At, Place, place_index, place_index_in, word_count, words_of_node};
 pub use shape::{Shape, ShapeError, SpreadError};

@@ -55,7 +55,7 @@ fn slot_index(shape: &Shape, words: usize, slot: u32) -> usize
     requires slot { slot ≤ shape.now.slots }
     requires words { words ≡ node_words shape.now }
     ensures index { result ≡ slot_index shape.now slot }
-    ensures small { result < 2 ^ 27 }
+    ensures small { result < 2 ^ 34 }
 {
     prove!(words <= 5);
     2 + shape.buckets() as usize + words * slot as usize

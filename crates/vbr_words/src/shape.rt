@@ -1,12 +1,14 @@
 //! The shape of a set: how many slots and buckets it has, its last epoch, and whether its nodes
 //! have values.
-ghost use Rattle.std.specs.Prelude.{◌≡◌, ◌*◌, ◌/◌, ◌<◌, ◌≤◌, ◌%◌, ◌^◌, ◌⊎◌, true, false, None, Some, IfSome, MatchOption, MatchResult, is_some};
+ghost use Rattle.std.specs.Prelude.{◌≡◌, ◌+◌, ◌*◌, ◌/◌, ◌<◌, ◌≤◌, ◌%◌, ◌^◌, ◌⊎◌, true, false, None, Some, IfSome, MatchOption, MatchResult, is_some};
 ghost use Rattle.vbr_words.specs.declared.shape.TheConstants.{MAX_SPREAD_BUCKETS};
-ghost use Rattle.vbr_words.specs.Buckets.{bucket_of, mixed, multiplier_of};
+ghost use Rattle.vbr_words.specs.Buckets.{bucket_of, mixed, multiplier_of, shift_for};
 ghost use Rattle.vbr_words.specs.Dimensions.{IsShape};
-ghost use Rattle.vbr_words.specs.Shapes.{shape_error};
+ghost use Rattle.vbr_words.specs.Shapes.{last_epoch_for, shape_error};
+ghost use Rattle.vbr_words.specs.Packing.{max_epoch, slot_bits};
+ghost use Rattle.vbr_words.specs.declared.link.TheConstants.{MAX_SLOTS, MAX_VERSION, SLOT_BITS};
 
-use crate::link::{MAX_SLOTS, MAX_VERSION};
+use crate::link::{Layout, MAX_SLOTS};
 use std::error::Error;
 use std::fmt;
 use std::marker::Model;
@@ -16,10 +18,11 @@ pub const MAX_BUCKETS: u32 = 65_536;
 
 /// The greatest number of buckets that keys are spread over, by [`Shape::spread_over`] and
 /// [`Shape::spread_with`].
-pub const MAX_SPREAD_BUCKETS: u32 = 16_777_216;
+pub const MAX_SPREAD_BUCKETS: u32 = 2_147_483_648;
 
-/// The greatest last epoch: a version has to hold each epoch.
-pub const MAX_EPOCH: u64 = MAX_VERSION;
+/// A last epoch that each shape takes: there is room for it with up to 16,777,215 slots, and where there are more,
+/// it means the greatest one, which [`max_epoch`] gives.
+pub const MAX_EPOCH: u64 = 549_755_813_887;
 
 /// What keys are multiplied by where they are spread and no seed is given: 2^64 divided by the golden
 /// ratio, an odd number.
@@ -37,11 +40,17 @@ pub struct Shape {
     last_epoch: u64,
     spread: Option<u64>,
     values: bool,
+    // by how many bits the mixed bits of a key are shifted to give its bucket; 0: the buckets are no power of two
+    shift: u8,
+    layout: Layout,
 }
 
 impl Model for Shape {
+    ghost use Rattle.std.specs.Prelude.{◌≡◌};
+    ghost use Rattle.std.proofs.Common.{sym};
     ghost use Rattle.vbr_words.specs.Dimensions.{Dimensions, IsShape};
-    ghost use Rattle.vbr_words.specs.Buckets.{IsOdd};
+    ghost use Rattle.vbr_words.specs.Buckets.{IsOdd, shift_for};
+    ghost use Rattle.vbr_words.specs.Packing.{slot_bits};
 
     ghost Value = { Dimensions };
 
@@ -59,7 +68,7 @@ impl Model for Shape {
       spread = s.spread;
       last_epoch = s.last_epoch;
       values = s.values;
-    }) };
+    }) × (s.layout ≡ slot_bits s.slots) × (s.shift ≡ shift_for s.buckets) };
 
     ghost inverse = { λ d. record {
       slots = d.slots;
@@ -67,6 +76,18 @@ impl Model for Shape {
       last_epoch = d.last_epoch;
       spread = d.spread;
       values = d.values;
+      shift = shift_for d.buckets;
+      layout = slot_bits d.slots;
+    } };
+
+    ghost inverse_ok = { λ a h. λ i. record {
+      slots = a.slots;
+      buckets = a.buckets;
+      last_epoch = a.last_epoch;
+      spread = a.spread;
+      values = a.values;
+      shift = sym h.3 i;
+      layout = sym h.2 i;
     } };
 }
 
@@ -77,7 +98,7 @@ pub enum ShapeError {
     Slots,
     /// The number of buckets is 0 or above `MAX_BUCKETS`.
     Buckets,
-    /// The last epoch is 0 or above `MAX_EPOCH`.
+    /// The last epoch is 0 or above what [`max_epoch`] gives for so many slots.
     LastEpoch,
 }
 
@@ -93,7 +114,10 @@ impl fmt::Display for ShapeError {
             ShapeError::Buckets => {
                 write!(f, "the number of buckets is not from 1 to {MAX_BUCKETS}")
             }
-            ShapeError::LastEpoch => write!(f, "the last epoch is not from 1 to {MAX_EPOCH}"),
+            ShapeError::LastEpoch => write!(
+                f,
+                "the last epoch is 0, or greater than so many slots leave room for"
+            ),
         }
     }
 }
@@ -122,14 +146,14 @@ impl Error for SpreadError {}
 
 impl Shape {
     /// The shape of these numbers, whose nodes have no values, or what is wrong with the first
-    /// faulty one.
+    /// faulty one. [`MAX_EPOCH`] as the last epoch means the greatest of the shape where that is less.
     pub fn new(slots: u32, buckets: u32, last_epoch: u64) -> Result<Self, ShapeError>
         ensures { MatchResult result
             (λ shape. (shape_error slots buckets last_epoch ≡ None) × (shape ≡ record {
               slots = slots;
               buckets = buckets;
               spread = None;
-              last_epoch = last_epoch;
+              last_epoch = last_epoch_for slots last_epoch;
               values = false;
             }))
             (λ error. shape_error slots buckets last_epoch ≡ Some error) }
@@ -140,7 +164,8 @@ impl Shape {
         if buckets == 0 || buckets > MAX_BUCKETS {
             return Err(ShapeError::Buckets);
         }
-        if last_epoch == 0 || last_epoch > MAX_EPOCH {
+        let last_epoch = last_epoch_for(slots, last_epoch);
+        if last_epoch == 0 || last_epoch > max_epoch(slots) {
             return Err(ShapeError::LastEpoch);
         }
         Ok(Shape {
@@ -149,6 +174,8 @@ impl Shape {
             last_epoch,
             spread: None,
             values: false,
+            shift: shift_for(buckets),
+            layout: Layout::of(slots),
         })
     }
 
@@ -182,6 +209,7 @@ impl Shape {
         Ok(Shape {
             buckets,
             spread: Some(multiplier_of(seed)),
+            shift: shift_for(buckets),
             ..self
         })
     }
@@ -262,6 +290,16 @@ impl Shape {
         self.last_epoch
     }
 
+    /// How the link words of a table of this shape are kept.
+    #[inline]
+    pub fn layout(&self) -> Layout
+        ensures layout { result ≡ slot_bits self.now.slots }
+        ensures few { result ≤ SLOT_BITS }
+        ensures shape { IsShape self.now }
+    {
+        self.layout
+    }
+
     /// The bucket of a key: the key modulo the number of buckets, or, where keys are spread, the bucket
     /// that its mixed bits name.
     #[inline]
@@ -271,7 +309,7 @@ impl Shape {
     {
         let buckets = u64::from(self.buckets);
         if let Some(multiplier) = self.spread {
-            part_of(mixed(multiplier, key), self.buckets)
+            part_of(mixed(multiplier, key), self.buckets, self.shift)
         } else if buckets.is_power_of_two() {
             (key & (buckets - 1)) as u32
         } else {
@@ -280,15 +318,55 @@ impl Shape {
     }
 }
 
+// The last epoch that a number asks for where there are so many slots.
+fn last_epoch_for(slots: u32, asked: u64) -> u64
+    requires { slots ≤ MAX_SLOTS }
+    ensures { result ≡ last_epoch_for slots asked }
+{
+    if asked == MAX_EPOCH {
+        asked.min(max_epoch(slots))
+    } else {
+        asked
+    }
+}
+
+/// The greatest last epoch of a shape with so many slots: a version, beside the number of a slot and the mark, has to
+/// hold each epoch. With up to 16,777,215 slots it is at least [`MAX_EPOCH`].
+pub fn max_epoch(slots: u32) -> u64
+    requires { slots ≤ MAX_SLOTS }
+    ensures { result ≡ max_epoch slots }
+{
+    (1 << (31 + slots.leading_zeros())) - 1
+}
+
+/// The word that says what a shape is: its slots, and its last epoch above as many bits as name a slot.
+pub fn shape_word(shape: &Shape) -> u64
+    ensures { result ≡ shape.now.slots + 2 ^ slot_bits shape.now.slots * shape.now.last_epoch }
+{
+    u64::from(shape.slots) + shape.layout.mark() * shape.last_epoch
+}
+
+// By how many bits mixed bits are shifted where the number of buckets is a power of two; 0 where it isn't.
+fn shift_for(buckets: u32) -> u8
+    ensures { result ≡ shift_for buckets }
+{
+    if buckets.is_power_of_two() {
+        (32 - buckets.trailing_zeros()) as u8
+    } else {
+        0
+    }
+}
+
 // The part of so many buckets that mixed bits are of 2^32. A shift finds it where the number of buckets is a
 // power of two.
 #[inline]
-fn part_of(bits: u64, buckets: u32) -> u32
+fn part_of(bits: u64, buckets: u32, shift: u8) -> u32
     requires half { bits < 2 ^ 32 }
+    requires shift { shift ≡ shift_for buckets }
     ensures part { result ≡ bits * buckets / 2 ^ 32 }
 {
-    if buckets.is_power_of_two() {
-        (bits >> (32 - buckets.trailing_zeros())) as u32
+    if shift > 0 {
+        (bits >> shift) as u32
     } else {
         (bits * u64::from(buckets) >> 32) as u32
     }

@@ -7,10 +7,9 @@ use Rattle.std.proofs.lemmas.List.{get_or-set_same, get_or-set_other}
 use Rattle.std.proofs.lemmas.Bool.{cases_eq, eq-eqb, ne_eqb}
 use Rattle.vbr_words.specs.Words.{IsLink}
 use Rattle.vbr_words.specs.declared.link.Link.{Link}
-use Rattle.vbr_words.specs.declared.link.TheConstants.{MAX_SLOTS}
+use Rattle.vbr_words.specs.declared.link.TheConstants.{MAX_SLOTS, MAX_VERSION}
 use Rattle.vbr_words.specs.declared.place.At.{At}
 use Rattle.vbr_words.specs.declared.place.At.TheVariants.{Head, Slot}
-use Rattle.vbr_words.specs.declared.shape.TheConstants.{MAX_EPOCH}
 use Rattle.vbr_machine.specs.Put.{put}
 use Rattle.vbr_machine.specs.Knowledge.{Know, birth_in, birth_at, birth_of, marked_in, same_at}
 use Rattle.vbr_machine.specs.Acceptance.{next_of_marked}
@@ -62,7 +61,7 @@ fits-reread (Some (InHand known)) fits = fits
 
 -- a birth that is read has room
 pub birth_in-fits : (reads : List Read) (s : ℕ) → AllByRecursion FitsRead reads →
-    unwrap_or (birth_in reads s) 0 ≤ MAX_EPOCH
+    unwrap_or (birth_in reads s) 0 ≤ MAX_VERSION
 birth_in-fits [] s fits = omega arith
 birth_in-fits (LinkAt place link ∷ reads) s fits = birth_in-fits reads s fits.1
 birth_in-fits (KeyOf slot key ∷ reads) s fits = birth_in-fits reads s fits.1
@@ -74,13 +73,13 @@ birth_in-fits (BirthOf slot birth ∷ reads) s fits = elim (cases_eq slot s) [
 
 -- and so has the birth at a place
 pub birth_at-fits : (reads : List Read) (place : At) → AllByRecursion FitsRead reads →
-    unwrap_or (birth_at reads place) 0 ≤ MAX_EPOCH
+    unwrap_or (birth_at reads place) 0 ≤ MAX_VERSION
 birth_at-fits reads (Head b) fits = omega arith
 birth_at-fits reads (Slot s) fits = birth_in-fits reads s fits
 
 -- and so has the birth of what a link names
 pub birth_of-fits : (reads : List Read) (next : Option ℕ) → AllByRecursion FitsRead reads →
-    unwrap_or (birth_of reads next) 0 ≤ MAX_EPOCH
+    unwrap_or (birth_of reads next) 0 ≤ MAX_VERSION
 birth_of-fits reads None fits = omega arith
 birth_of-fits reads (Some s) fits = birth_in-fits reads s fits
 

@@ -5,8 +5,7 @@ use Rattle.std.proofs.lemmas.Bool.{cases_lt}
 use Rattle.std.proofs.lemmas.List.{get_or_read, get_or_past}
 use Rattle.std.specs.List.{AllByRecursion}
 use Rattle.vbr_words.specs.Words.{word_of, link_of}
-use Rattle.vbr_words.specs.declared.link.TheConstants.{MARK}
-use Rattle.vbr_words.specs.declared.shape.TheConstants.{MAX_EPOCH}
+use Rattle.vbr_words.specs.declared.link.TheConstants.{MARK, MAX_VERSION}
 use Rattle.vbr_words.proofs.Lemmas.{word_of-link_of}
 use Rattle.vbr_words.specs.declared.link.Link.{Link}
 use Rattle.vbr_words.specs.declared.place.At.{At}
@@ -47,7 +46,7 @@ know_opened slots passes new = λ k p. by_case p (cases_lt p (length passes)) k
     by_case p (inr ge) = rw (get_or_past passes p opening_pass ge) refl
 
 -- births that are 0 have room in words
-pub births_fit : (n : ℕ) → AllByRecursion (λ birth. birth ≤ MAX_EPOCH) (replicate n 0)
+pub births_fit : (n : ℕ) → AllByRecursion (λ birth. birth ≤ MAX_VERSION) (replicate n 0)
 births_fit zero = tt
 births_fit (suc n) = (omega arith, births_fit n)
 

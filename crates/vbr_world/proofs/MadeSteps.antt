@@ -5,7 +5,7 @@ use Rattle.std.proofs.lemmas.List.{get_or_read}
 use Rattle.vbr_machine.specs.Start.{Start}
 use Rattle.vbr_words.specs.declared.place.At.TheVariants.{Head, Slot}
 use Rattle.vbr_words.specs.declared.link.Link.{Link}
-use Rattle.vbr_words.specs.declared.shape.TheConstants.{MAX_EPOCH}
+use Rattle.vbr_words.specs.declared.link.TheConstants.{MAX_VERSION}
 use Rattle.vbr_machine.specs.Acceptance.{Accepts}
 use Rattle.vbr_machine.specs.Put.{put}
 use Rattle.vbr_machine.specs.Knowledge.{Know}
@@ -94,14 +94,14 @@ module _ (start : Start) (w : World) (p : ℕ) (step : Step) (word : ℕ) (learn
 -- an accepted step that succeeds writes what has room: the epoch is below the last, and a birth is the epoch that
 -- the pass read
 has_room : (start : Start) (w : World) (p : ℕ) (step : Step) → Accepts start (w.know p) step →
-    (w.know p).epoch ≤ MAX_EPOCH → succeeds step (found start w step) ≡ true → WordsHaveRoom start w.epoch step
+    (w.know p).epoch ≤ MAX_VERSION → succeeds step (found start w step) ≡ true → WordsHaveRoom start w.epoch step
 has_room start w p (Advance from) accepts fits won = omega (arith, accepts.below_last, eqb-true w.epoch from won)
 has_room start w p (StoreBirth s birth) accepts fits won = omega (arith, accepts.in_range.0)
 has_room start w p _ accepts fits won = tt
 
 -- the same of the lists that are kept, by the epoch that the pass tells
 pub room_kept : (kept : KeptWorld) (p epoch : ℕ) (pass : KeptPass) (step : Step) → IsWhole kept →
-    p < length kept.passes → pass ≡ get_or kept.passes p pass → epoch ≡ pass.epoch → epoch ≤ MAX_EPOCH →
+    p < length kept.passes → pass ≡ get_or kept.passes p pass → epoch ≡ pass.epoch → epoch ≤ MAX_VERSION →
     Accepts kept.start ((world_of kept).know p) step → succeeds step (found kept.start (world_of kept) step) ≡ true →
     WordsHaveRoom kept.start kept.epoch step
 room_kept kept p epoch pass step whole lt is told fits accepts won =

@@ -1,12 +1,13 @@
 -- How the program makes a step: first its pass learns and its calls are kept, and then the words are written. Only contracts of private functions cite this.
 use Rattle.std.specs.Prelude.{◌≡◌, ℕ, ◌<◌, ◌≤◌}
 use Rattle.vbr_machine.specs.Start.{Start}
-use Rattle.vbr_words.specs.declared.shape.TheConstants.{MAX_EPOCH}
+use Rattle.vbr_words.specs.declared.link.TheConstants.{MAX_VERSION}
 use Rattle.vbr_machine.specs.Machine.{World, stamp_shown, with_learning, with_call}
 use Rattle.vbr_machine.specs.declared.event.Event.{Event}
 use Rattle.vbr_machine.specs.declared.event.Step.{Step}
 use Rattle.vbr_machine.specs.declared.event.Step.TheVariants.{Advance, StoreBirth}
 use Rattle.vbr_machine.specs.Making.{ahead_made, call_made}
+use Rattle.vbr_world.specs.KeptLearning.{FitsFound}
 use Rattle.vbr_world.specs.KeptSteps.{IsAcceptedIn, found_in}
 use Rattle.vbr_world.specs.WorldInLists.{KeptWorld, world_of}
 
@@ -19,9 +20,10 @@ pub record IsAcceptedShowing (kept : KeptWorld) (event : Event) (word stamp : �
   pub accepted : IsAcceptedIn kept event
   pub found : word ≡ found_in kept event.step
   pub shown : stamp ≡ stamp_shown (world_of kept) event.step
+  pub room : FitsFound event.step word
 
 -- the words have room for what a step writes
 abbrev pub WordsHaveRoom : Start → ℕ → Step → Type 0
 WordsHaveRoom start epoch (Advance from) = epoch < start.shape.last_epoch
-WordsHaveRoom start epoch (StoreBirth s birth) = birth ≤ MAX_EPOCH
+WordsHaveRoom start epoch (StoreBirth s birth) = birth ≤ MAX_VERSION
 WordsHaveRoom start epoch _ = Unit {0}

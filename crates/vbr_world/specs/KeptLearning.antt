@@ -1,17 +1,19 @@
 -- What a pass that is kept in lists learns.
-use Rattle.std.specs.Prelude.{◌≡◌, ◌≤◌, ℕ, false, List, [], ◌∷◌, ◌++◌, Some, None, length, slice_index_or}
+use Rattle.std.specs.Prelude.{◌≡◌, ◌<◌, ◌≤◌, ◌^◌, ℕ, false, List, [], ◌∷◌, ◌++◌, Some, None, length, slice_index_or}
 use Rattle.std.specs.List.{AllByRecursion}
 use Rattle.vbr_words.specs.declared.link.Link.{Link}
 use Rattle.vbr_words.specs.declared.place.At.{At}
 use Rattle.vbr_words.specs.declared.place.At.TheVariants.{Slot}
-use Rattle.vbr_words.specs.declared.shape.TheConstants.{MAX_EPOCH}
+use Rattle.vbr_words.specs.declared.place.Place.{Place}
+use Rattle.vbr_words.specs.declared.place.Place.TheVariants.{Key, Value}
+use Rattle.vbr_words.specs.declared.link.TheConstants.{MAX_VERSION}
 use Rattle.vbr_machine.specs.Knowledge.{Know}
 use Rattle.vbr_machine.specs.Learning.{birth_in_hand, key_in_hand, link_in_hand, link_written, reads_won, reread, value_in_hand, value_read, with_checked, with_own}
 use Rattle.vbr_machine.specs.Put.{put}
 use Rattle.vbr_machine.specs.declared.knowledge.Read.TheVariants.{LinkAt, BirthOf, KeyOf}
 use Rattle.vbr_machine.specs.declared.knowledge.Holding.TheVariants.{Unlinked}
 use Rattle.vbr_machine.specs.declared.event.Step.{Step}
-use Rattle.vbr_machine.specs.declared.event.Step.TheVariants.{ReadEpoch, LoadBirth, Publish, Mark, Replace, Unlink}
+use Rattle.vbr_machine.specs.declared.event.Step.TheVariants.{ReadEpoch, LoadBirth, LoadKey, LoadValue, Publish, Mark, Replace, Unlink}
 use Rattle.vbr_world.specs.WorldInLists.{KeptPass, know_of, opening_pass}
 
 -- what a pass knows is changed so, and it has as many slots in its list
@@ -52,10 +54,23 @@ HaveSlots slots passes = AllByRecursion (λ pass. length pass.own ≡ slots) pas
 abbrev pub known_by : List KeptPass → ℕ → Know
 known_by passes p = know_of (slice_index_or passes p opening_pass)
 
--- an epoch and a birth that are found have room in words
+-- what a place has is a link word, or a key or a value of 64 bits, or else no matter
+pub record FitsAt (place : Place) (found : ℕ) : Type 0 where
+  pub low : found < 2 ^ 95
+  pub key : (s : ℕ) → place ≡ Key s → found < 2 ^ 64
+  pub value : (s : ℕ) → place ≡ Value s → found < 2 ^ 64
+
+-- what a step finds is the number of a link word, and a key or a value that it loads has 64 bits
+pub record FitsFound (step : Step) (found : ℕ) : Type 0 where
+  pub low : found < 2 ^ 95
+  pub key : (s : ℕ) → step ≡ LoadKey s → found < 2 ^ 64
+  pub value : (s : ℕ) → step ≡ LoadValue s → found < 2 ^ 64
+
+-- an epoch and a birth that are found have room in words, and what else is found in a number
 pub record HasRoomInWords (step : Step) (found : ℕ) : Type 0 where
-  pub epoch : step ≡ ReadEpoch → found ≤ MAX_EPOCH
-  pub birth : (s : ℕ) → step ≡ LoadBirth s → found ≤ MAX_EPOCH
+  pub is_found : FitsFound step found
+  pub epoch : step ≡ ReadEpoch → found ≤ MAX_VERSION
+  pub birth : (s : ℕ) → step ≡ LoadBirth s → found ≤ MAX_VERSION
 
 -- what the pass with a number knows is changed so, and no other's; and each has as many slots as before
 pub record LearnsAt (old new : List KeptPass) (p : ℕ) (change : Know → Know) : Type 0 where

@@ -3,8 +3,7 @@ use Rattle.std.specs.Prelude.{◌≡◌, ℕ, ◌≤◌, List, [], length, Optio
 use Rattle.std.specs.List.{AllByRecursion}
 use Rattle.vbr_machine.specs.Start.{Start, IsStart}
 use Rattle.vbr_words.specs.Words.{IsLink, link_of}
-use Rattle.vbr_words.specs.declared.link.TheConstants.{MARK}
-use Rattle.vbr_words.specs.declared.shape.TheConstants.{MAX_EPOCH}
+use Rattle.vbr_words.specs.declared.link.TheConstants.{MARK, MAX_VERSION}
 use Rattle.vbr_machine.specs.Knowledge.{Know}
 use Rattle.vbr_machine.specs.Machine.{World}
 use Rattle.vbr_machine.specs.declared.history.Call.{Call}
@@ -33,18 +32,18 @@ opening_pass = record { epoch = 1; pending = []; checked = []; own = [] }
 -- a read whose link or birth has room in a word
 abbrev pub FitsRead : Read → Type 0
 FitsRead (LinkAt place link) = IsLink link
-FitsRead (BirthOf s birth) = birth ≤ MAX_EPOCH
+FitsRead (BirthOf s birth) = birth ≤ MAX_VERSION
 FitsRead (KeyOf s key) = Unit {0}
 FitsRead (ValueOf s value) = Unit {0}
 
 -- what is known of an own slot has room in words
 abbrev pub FitsHolding : Option Holding → Type 0
-FitsHolding (Some (InHand known)) = (known.birth ≤ MAX_EPOCH) × IfSome known.link IsLink
+FitsHolding (Some (InHand known)) = (known.birth ≤ MAX_VERSION) × IfSome known.link IsLink
 FitsHolding _ = Unit {0}
 
 -- all that a pass knows has room in words
 pub record FitsPass (kept : KeptPass) : Type 0 where
-  pub epoch : kept.epoch ≤ MAX_EPOCH
+  pub epoch : kept.epoch ≤ MAX_VERSION
   pub pending : AllByRecursion FitsRead kept.pending
   pub checked : AllByRecursion FitsRead kept.checked
   pub own : AllByRecursion FitsHolding kept.own
@@ -93,4 +92,4 @@ pub record IsWhole (kept : KeptWorld) : Type 0 where
   pub values : length kept.values ≡ kept.start.shape.slots
   pub places : length kept.places ≡ kept.start.shape.slots
   pub owns : AllByRecursion (λ pass. length pass.own ≡ kept.start.shape.slots) kept.passes
-  pub fits : AllByRecursion (λ birth. birth ≤ MAX_EPOCH) kept.birth
+  pub fits : AllByRecursion (λ birth. birth ≤ MAX_VERSION) kept.birth

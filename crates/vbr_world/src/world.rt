@@ -17,6 +17,7 @@ mod checking;
 mod holdings;
 mod learning;
 mod lists;
+mod numbers;
 mod opening;
 mod passes;
 mod reads;
@@ -173,7 +174,7 @@ impl World {
         ensures refused { IfErr result (RefusesEvent self.old self.new event) }
         ensures stays { KeepsStart self.old self.new }
     {
-        self.lists.step(event)
+        self.lists.step(&event)
     }
 
     /// The calls that were answered so far. They are a legal history of a set that opened with the
@@ -193,8 +194,8 @@ impl World {
         self.lists.births
     }
 
-    /// The word at a place of the shape.
-    pub fn word(&self, place: Place) -> u64
+    /// The word at a place of the shape. Of a link word it is the number, as `WideWord` has it.
+    pub fn word(&self, place: Place) -> u128
         requires { IsIn self.now.start.shape place }
         ensures { result ≡ machine.word_at self.now.start (world_of self.now) place }
     {

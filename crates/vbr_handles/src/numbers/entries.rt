@@ -6,14 +6,15 @@ ghost use Rattle.vbr_handles.specs.Calls.{TellsInsertEntry};
 ghost use Rattle.vbr_handles.specs.Codes.{call_code, exchange_code};
 ghost use Rattle.vbr_handles.specs.ValueCalls.{TellsExchange, TellsGetEntry, TellsGetOrInsert, TellsPut, TellsRemoveEntry, TellsRemoveIf, TellsReplace, WritesGiven};
 
+use crate::ample::budget_of;
 use crate::numbers::topping_up::{has_added, has_stored_new, top_up_after};
 use crate::numbers::{EMPTY, HELD, NO, OTHER, YES, call_code, holds_slot};
 use crate::owner::Owner;
 use vbr_set::{MapMember, Refusal};
 
 /// Adds a key with its value by the member of a handle, and then keeps the reserve of the handle.
-pub fn insert(owner: &mut Owner<MapMember>, key: u64, value: u64, budget: u32) -> i32
-    ensures { TellsInsertEntry owner.old.member owner.new.member key value budget result }
+pub fn insert(owner: &mut Owner<MapMember>, key: u64, value: u64, steps: u32) -> i32
+    ensures { TellsInsertEntry owner.old.member owner.new.member key value steps result }
 {
     if owner.is_empty() {
         return EMPTY;
@@ -22,6 +23,7 @@ pub fn insert(owner: &mut Owner<MapMember>, key: u64, value: u64, budget: u32) -
     if holds_slot(member) {
         return HELD;
     }
+    let budget = budget_of(member, steps);
     let before = member.pass().steps();
     let answer = member.insert(key, value, budget);
     top_up_after(member, has_added(&answer), budget, before);
@@ -56,9 +58,9 @@ pub fn replace(
     key: u64,
     value: u64,
     found: &mut u64,
-    budget: u32,
+    steps: u32,
 ) -> i32
-    ensures { TellsReplace owner.old.member owner.new.member key value budget found.old found.new
+    ensures { TellsReplace owner.old.member owner.new.member key value steps found.old found.new
         result }
 {
     if owner.is_empty() {
@@ -68,13 +70,14 @@ pub fn replace(
     if holds_slot(member) {
         return HELD;
     }
+    let budget = budget_of(member, steps);
     give(member.replace(key, value, budget), found)
 }
 
 /// Gives a key a value by the member of a handle, whether it is there or not, and writes the one that it had.
 /// Where it added the key it then keeps the reserve of the handle.
-pub fn put(owner: &mut Owner<MapMember>, key: u64, value: u64, found: &mut u64, budget: u32) -> i32
-    ensures { TellsPut owner.old.member owner.new.member key value budget found.old found.new
+pub fn put(owner: &mut Owner<MapMember>, key: u64, value: u64, found: &mut u64, steps: u32) -> i32
+    ensures { TellsPut owner.old.member owner.new.member key value steps found.old found.new
         result }
 {
     if owner.is_empty() {
@@ -84,6 +87,7 @@ pub fn put(owner: &mut Owner<MapMember>, key: u64, value: u64, found: &mut u64, 
     if holds_slot(member) {
         return HELD;
     }
+    let budget = budget_of(member, steps);
     let before = member.pass().steps();
     let answer = member.put(key, value, budget);
     top_up_after(member, has_stored_new(&answer), budget, before);
@@ -97,9 +101,9 @@ pub fn get_or_insert(
     key: u64,
     value: u64,
     found: &mut u64,
-    budget: u32,
+    steps: u32,
 ) -> i32
-    ensures { TellsGetOrInsert owner.old.member owner.new.member key value budget
+    ensures { TellsGetOrInsert owner.old.member owner.new.member key value steps
         found.old found.new result }
 {
     if owner.is_empty() {
@@ -109,6 +113,7 @@ pub fn get_or_insert(
     if holds_slot(member) {
         return HELD;
     }
+    let budget = budget_of(member, steps);
     let before = member.pass().steps();
     let answer = member.get_or_insert(key, value, budget);
     top_up_after(member, has_stored_new(&answer), budget, before);
@@ -123,9 +128,9 @@ pub fn compare_exchange(
     expected: u64,
     value: u64,
     found: &mut u64,
-    budget: u32,
+    steps: u32,
 ) -> i32
-    ensures { TellsExchange owner.old.member owner.new.member key expected value budget
+    ensures { TellsExchange owner.old.member owner.new.member key expected value steps
         found.old found.new result }
 {
     if owner.is_empty() {
@@ -135,6 +140,7 @@ pub fn compare_exchange(
     if holds_slot(member) {
         return HELD;
     }
+    let budget = budget_of(member, steps);
     give_expected(
         member.compare_exchange(key, expected, value, budget),
         expected,

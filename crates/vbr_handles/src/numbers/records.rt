@@ -9,6 +9,7 @@ ghost use Rattle.vbr_handles.specs.Incarnations.{TellsHasNamed, TellsIfStill, Te
 ghost use Rattle.vbr_handles.specs.Iterating.{TellsNextNamedKey};
 ghost use Rattle.vbr_handles.specs.ValueCalls.{WritesGiven};
 
+use crate::ample::budget_of;
 use crate::incarnation::Incarnation;
 use crate::numbers::topping_up::top_up_after;
 use crate::numbers::{EMPTY, HELD, NO, OUT_OF_STEPS, YES, call_code};
@@ -20,13 +21,15 @@ use vbr_slots::pass::POOL;
 use vbr_words::{Keys, Nodes};
 
 /// Takes a slot by the member of a handle, which then holds it, and writes which it is ([`Member::hold`]).
-pub fn hold<N: Nodes>(owner: &mut Owner<Member<N>>, slot: &mut u32, budget: u32) -> i32
-    ensures { TellsHold owner.old.member owner.new.member budget slot.old slot.new result }
+pub fn hold<N: Nodes>(owner: &mut Owner<Member<N>>, slot: &mut u32, steps: u32) -> i32
+    ensures { TellsHold owner.old.member owner.new.member steps slot.old slot.new result }
 {
     if owner.is_empty() {
         return EMPTY;
     }
-    give_slot(owner.member_mut().hold(budget), slot)
+    let member = owner.member_mut();
+    let budget = budget_of(member, steps);
+    give_slot(member.hold(budget), slot)
 }
 
 /// Lets go of the slot that the member of a handle holds ([`Member::let_go`]).

@@ -1,5 +1,5 @@
 //! What a handle keeps in reserve by itself: after a call that adds a key it takes slots up to that.
-ghost use Rattle.std.specs.Prelude.{◌≡◌, ◌&&◌};
+ghost use Rattle.std.specs.Prelude.{◌≡◌, ◌&&◌, true, false};
 ghost use Rattle.vbr_slots.specs.Views.{Trace, counted_steps, steps_of};
 ghost use Rattle.vbr_handles.specs.ToppingUp.{TopsUpReserve, TopsUpWhere, has_added, has_stored_new, lacks_slots, left_of, reserve_of};
 
@@ -20,7 +20,7 @@ pub const PARTS: u32 = 8;
 ///
 /// So a set that is filled is topped up once in a few inserts, since what comes between two calls keeps the
 /// processor from loading ahead.
-#[inline]
+#[inline(always)]
 pub(crate) fn top_up_after<N: Nodes>(
     member: &mut Member<N>,
     has_added: bool,
@@ -30,7 +30,27 @@ pub(crate) fn top_up_after<N: Nodes>(
     ensures { (p : Trace) → before ≡ counted_steps (steps_of p) →
         TopsUpWhere (has_added && lacks_slots member.old) budget p member.old member.new }
 {
-    if has_added && lacks_slots(member) {
+    if has_added && !has_most(member) {
+        top_up_where_lacking(member, budget, before);
+    }
+}
+
+// Whether a member has so many slots in reserve that no more than an eighth is lacking, however large it is meant to
+// be: so the number of slots needn't be divided.
+#[inline(always)]
+fn has_most<N: Nodes>(member: &Member<N>) -> bool
+    ensures { result ≡ true → lacks_slots member.now ≡ false }
+{
+    member.pass().pool().len() as u32 >= MOST - MOST / PARTS
+}
+
+// As `top_up_after` after a call that added a key.
+#[inline(never)]
+fn top_up_where_lacking<N: Nodes>(member: &mut Member<N>, budget: u32, before: u64)
+    ensures { (p : Trace) → before ≡ counted_steps (steps_of p) →
+        TopsUpWhere (lacks_slots member.old) budget p member.old member.new }
+{
+    if lacks_slots(member) {
         let left = left_of(budget, before, member.pass().steps());
         let wanted = reserve_of(member);
         member.top_up(wanted, left.min(wanted / PARTS + 1));
@@ -39,15 +59,10 @@ pub(crate) fn top_up_after<N: Nodes>(
 }
 
 // Whether a member lacks more slots of its reserve than an eighth of it.
-#[inline(always)]
 fn lacks_slots<N: Nodes>(member: &Member<N>) -> bool
     ensures { result ≡ lacks_slots member.now }
 {
     let kept = member.pass().pool().len() as u32;
-    // Of no reserve so much is lacking then, and the number of slots needn't be divided.
-    if kept >= MOST - MOST / PARTS {
-        return false;
-    }
     let wanted = reserve_of(member);
     kept + wanted / PARTS < wanted
 }

@@ -1,9 +1,8 @@
 -- What the incarnations show stays where they are untouched, and words have room for it.
 use Rattle.std.proofs.Common.{◌≡◌, ℕ, ◌<◌, ◌≤◌, Option, Some, None, refl, arith, sym, ap, ◌∙◌}
 use Rattle.vbr_machine.specs.Start.{Start}
-use Rattle.vbr_words.specs.Words.{IsLink}
+use Rattle.vbr_words.specs.Links.{IsLinkOf}
 use Rattle.vbr_words.specs.declared.link.Link.{Link}
-use Rattle.vbr_words.specs.declared.link.TheConstants.{MAX_VERSION}
 use Rattle.vbr_words.specs.declared.place.At.{At}
 use Rattle.vbr_words.specs.declared.place.At.TheVariants.{Head, Slot}
 use Rattle.vbr_machine.specs.Links.{marked}
@@ -113,34 +112,35 @@ stands w a (Slot s) i = i.link s
 -- ---- words have room
 
 birth_fits : {start : Start} {a : Incarnations} → Sound start a → Fits start a → (c : ℕ) → c < a.count →
-    a.birth c ≤ MAX_VERSION
-birth_fits s f c lt = let u = s.slots.born c lt in let v = f.epoch in let w = f.is_start.shape.last_epoch in omega arith
+    a.birth c ≤ start.shape.last_epoch
+birth_fits s f c lt = let u = s.slots.born c lt in let v = f.epoch in omega arith
 
 next_fits : {start : Start} {a : Incarnations} → Sound start a → Fits start a → (holder : ℕ) (next : Option ℕ) →
-    holder ≤ MAX_VERSION → ((m : ℕ) → next ≡ Some m → m < a.count) → IsLink (link_to_next a holder next)
+    holder ≤ start.shape.last_epoch → ((m : ℕ) → next ≡ Some m → m < a.count) →
+    IsLinkOf start.shape (link_to_next a holder next)
 next_fits s f holder None le k = record { slot = tt; version = omega arith }
 next_fits s f holder (Some m) le k =
     let lt = k m refl in
     record {
-      slot = (let u = f.slot m lt in let v = f.is_start.shape.slots in omega arith);
+      slot = f.slot m lt;
       version = (let u = birth_fits s f m lt in omega arith);
     }
 
 linked_fits : {start : Start} {a : Incarnations} → Sound start a → Fits start a → (c : ℕ) → IsLate (a.state c) 0 →
-    IsLink (link_to_next a (a.birth c) (a.next c))
+    IsLinkOf start.shape (link_to_next a (a.birth c) (a.next c))
 linked_fits {start} {a} s f c l =
     next_fits s f (a.birth c) (a.next c) (birth_fits s f c (late_born s.slots c 0 l))
     (λ m q. late_born s.slots m 0 (s.lists.handed c m 0 q l))
 
 pub shown_fits : {start : Start} {a : Incarnations} → Sound start a → Fits start a → (l : Option ℕ) →
-    IsLink (link_shown a l)
+    IsLinkOf start.shape (link_shown a l)
 shown_fits s f None = record { slot = tt; version = omega arith }
 shown_fits {start} {a} s f (Some c) = go (a.state c) refl
   where
-    marked_fits : (link : Link) → IsLink link → IsLink (marked link)
+    marked_fits : (link : Link) → IsLinkOf start.shape link → IsLinkOf start.shape (marked link)
     marked_fits link i = record { slot = i.slot; version = i.version }
 
-    go : (st : State) → a.state c ≡ st → IsLink (link_in_state a c (a.state c))
+    go : (st : State) → a.state c ≡ st → IsLinkOf start.shape (link_in_state a c (a.state c))
     go Linked e = rw e (linked_fits s f c (rw e tt))
     go Marked e = rw e (marked_fits (link_to_next a (a.birth c) (a.next c)) (linked_fits s f c (rw e tt)))
     go (Unlinked q u) e =
@@ -151,9 +151,9 @@ shown_fits {start} {a} s f (Some c) = go (a.state c) refl
     go (InHand q) e = rw e (f.link c)
     go GivenUp e = rw e (f.link c)
 
--- each link of the image has room in a word
+-- each link of the image is one of the shape
 pub image_fits : {start : Start} {a : Incarnations} → Sound start a → Fits start a → (place : At) →
-    IsLink (link_shown_at a place)
+    IsLinkOf start.shape (link_shown_at a place)
 image_fits {start} {a} s f (Head b) =
     next_fits s f 0 (a.first b) (omega arith)
     (λ m q. late_born s.slots m 0 (listed_late (a.state m) 0 (s.lists.first_in b m q).0))

@@ -4,7 +4,7 @@ use Rattle.std.proofs.Common.{◌∙◌, inl, inr}
 use Rattle.std.specs.Prelude.{◌⊎◌}
 use Rattle.std.proofs.lemmas.Bool.{cases_eq}
 use Rattle.vbr_machine.specs.Start.{Start, IsStart}
-use Rattle.vbr_words.specs.Words.{IsLink}
+use Rattle.vbr_words.specs.Links.{IsLinkOf}
 use Rattle.vbr_words.specs.declared.link.Link.{Link}
 use Rattle.vbr_machine.specs.Knowledge.{Know}
 use Rattle.vbr_machine.specs.Acceptance.{MayBear, Accepts}
@@ -166,7 +166,7 @@ every_run start passes run is ok =
       births = g.births;
       epoch = rw g.image.epoch g.fits.epoch;
       links = λ place.
-          (let P : Link → Type 0 = IsLink in
+          (let P : Link → Type 0 = IsLinkOf start.shape in
           subst P (sym (stands w a place g.image)) (image_fits g.sound g.fits place));
       knows = λ p. record {
         epoch = rw g.image.epoch (g.knows p).epoch;

@@ -1,7 +1,7 @@
 -- The steps that stamp a slot or give birth in one.
 use Rattle.std.proofs.Common.{◌≡◌, ◌≢◌, ℕ, ◌+◌, ◌<◌, ◌≤◌, false, Option, Some, None, refl, arith, sym, ap, ◌∙◌}
 use Rattle.vbr_machine.specs.Start.{Start}
-use Rattle.vbr_words.specs.Words.{IsLink}
+use Rattle.vbr_words.specs.Links.{IsLinkOf}
 use Rattle.vbr_machine.specs.Put.{put}
 use Rattle.vbr_machine.specs.Opened.{opening_keys}
 use Rattle.vbr_machine.specs.Links.{marked}
@@ -109,7 +109,8 @@ born start w a notes p s birth stamp g le in_shape es al =
         epoch = g.fits.epoch;
         slot = at_put (λ d y. d < a.count + 1 → y < start.shape.slots) a.slot c s (λ _. in_shape)
             (λ d ne lt. g.fits.slot d (grind arith));
-        link = at_put (λ d y. IsLink y) a.link c (link_shown a (a.last s)) (image_fits g.sound g.fits (Slot s))
+        link = at_put (λ d y. IsLinkOf start.shape y) a.link c (link_shown a (a.last s))
+            (image_fits g.sound g.fits (Slot s))
             (λ d ne. g.fits.link d);
       };
       image = record {

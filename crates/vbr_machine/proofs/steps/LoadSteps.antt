@@ -5,7 +5,7 @@ use Rattle.vbr_words.specs.Words.{word_of, link_of}
 use Rattle.vbr_words.specs.declared.link.Link.{Link}
 use Rattle.vbr_words.specs.declared.place.At.{At}
 use Rattle.vbr_words.specs.declared.place.At.TheVariants.{Head, Slot}
-use Rattle.vbr_words.proofs.Lemmas.{link_of-word_of}
+use Rattle.vbr_words.proofs.Lemmas.{is_link, link_of-word_of}
 use Rattle.vbr_machine.specs.Put.{put}
 use Rattle.vbr_machine.specs.Knowledge.{holds}
 use Rattle.vbr_machine.specs.Acceptance.{Accepts}
@@ -101,7 +101,7 @@ step_loads start w a notes p s g held =
 pub link_read : {start : Start} {w : World} {a : Incarnations} {notes : ℕ → Notes} → Agrees start w a notes →
     (place : At) → link_of (word_of (machine.link_at w place)) ≡ link_shown_at a place
 link_read {start} {w} {a} g place = ap (λ l. link_of (word_of l)) (stands w a place g.image)
-    ∙ link_of-word_of (link_shown_at a place) (image_fits g.sound g.fits place)
+    ∙ link_of-word_of (link_shown_at a place) (is_link g.fits.is_start.shape (image_fits g.sound g.fits place))
 
 pub step_load_link : (start : Start) (w : World) (a : Incarnations) (notes : ℕ → Notes) (p : ℕ) (place : At) →
     Agrees start w a notes → Accepts start (w.know p) (LoadLink place) → StepAgrees start w a notes p (LoadLink place)

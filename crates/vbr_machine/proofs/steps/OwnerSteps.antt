@@ -2,7 +2,7 @@
 use Rattle.std.proofs.Common.{◌≡◌, ◌≢◌, ℕ, ◌<◌, ◌≤◌, true, Option, Some, None, refl, arith, sym, ap, ◌∙◌}
 use Rattle.std.specs.Prelude.{unwrap_or}
 use Rattle.vbr_machine.specs.Start.{Start}
-use Rattle.vbr_words.specs.Words.{IsLink}
+use Rattle.vbr_words.specs.Links.{IsLinkOf}
 use Rattle.vbr_machine.specs.Put.{put}
 use Rattle.vbr_machine.specs.Opened.{opening_keys}
 use Rattle.vbr_machine.specs.Links.{link_to}
@@ -264,23 +264,21 @@ step_store_value start w a notes p s value g ok =
           g.calls g.births,
     )
 
--- the link that a pass stores has room in a word
-aimed_fits : {start : Start} {a : Incarnations} → Fits start a →
+-- the link that a pass stores is one of the shape
+pub aimed_fits : {start : Start} {a : Incarnations} → Fits start a →
     (know : Know) (notes : Notes) (next : Option ℕ) (birth : ℕ) → FitsNotes a know notes → birth ≤ know.epoch →
-    IsNextIn start next → IsLink (link_to next birth (unwrap_or (birth_of know.checked next) 0))
+    IsNextIn start next → IsLinkOf start.shape (link_to next birth (unwrap_or (birth_of know.checked next) 0))
 aimed_fits f know notes None birth k le h =
     record {
       slot = tt;
       version = let u = f.epoch in
-          let v = f.is_start.shape.last_epoch in
           let w = k.epoch in
           omega arith;
     }
 aimed_fits {start} {a} f know notes (Some s) birth k le h = record {
-  slot = let v = f.is_start.shape.slots in omega arith;
+  slot = h;
   version =
       let u = f.epoch in
-      let v = f.is_start.shape.last_epoch in
       let w = k.epoch in
       let x = birth_low a know.epoch notes.checked know.checked s k.checked_reads k.checked in
       omega arith;
@@ -303,7 +301,7 @@ step_store_link start w a notes p s next g ok =
         is_start = g.fits.is_start;
         epoch = g.fits.epoch;
         slot = g.fits.slot;
-        link = at_put (λ d y. IsLink y) a.link c link
+        link = at_put (λ d y. IsLinkOf start.shape y) a.link c link
             (aimed_fits g.fits (w.know p) (notes p) next (birth_in_hand ((w.know p).own s)) (g.knows p)
             (let z = birth in let y = x.born in omega arith) ok.in_shape.1) (λ d ne. g.fits.link d);
       })

@@ -59,13 +59,14 @@ abbrev pub reborn_slot : List Event
 reborn_slot = by 0 ReadEpoch ∷ by 0 (TakeFlag 0) ∷ by 0 (LoadStamp 0) ∷ by 0 (StoreBirth 0 1) ∷ by 0 (StoreKey 0 30)
     ∷ by 0 (LoadLink (Head 0)) ∷ by 0 ReadEpoch ∷ by 0 (StoreLink 0 None) ∷ by 0 (Publish (Head 0) 0 0)
     ∷ by 0 (TakeFlag 1) ∷ by 0 (StoreBirth 1 1) ∷ by 0 (StoreKey 1 20) ∷ by 0 (StoreLink 1 (Some 0))
-    ∷ by 0 (Publish (Head 0) 33554433 1) ∷ by 1 ReadEpoch ∷ by 1 (LoadLink (Head 0)) ∷ by 1 ReadEpoch ∷ by 1 (LoadKey 1)
+    ∷ by 0 (Publish (Head 0) 4294967297 1) ∷ by 1 ReadEpoch ∷ by 1 (LoadLink (Head 0)) ∷ by 1 ReadEpoch ∷ by 1
+    (LoadKey 1)
     ∷ by 1 (LoadBirth 1) ∷ by 1 (LoadLink (Slot 1)) ∷ by 1 ReadEpoch ∷ by 1 (LoadKey 0) ∷ by 1 (LoadBirth 0)
     ∷ by 1 ReadEpoch ∷ by 1 (TakeFlag 2) ∷ by 1 (StoreBirth 2 1) ∷ by 1 (StoreKey 2 25) ∷ by 1 (StoreLink 2 (Some 0))
-    ∷ by 0 (Mark 1 33554433) ∷ by 0 (Unlink (Head 0) 33554434 1) ∷ by 0 ReadEpoch ∷ by 0 (StoreStamp 1 1)
+    ∷ by 0 (Mark 1 4294967297) ∷ by 0 (Unlink (Head 0) 4294967298 1) ∷ by 0 ReadEpoch ∷ by 0 (StoreStamp 1 1)
     ∷ by 0 (Advance 1) ∷ by 0 ReadEpoch ∷ by 0 (StoreBirth 1 2) ∷ by 0 (StoreKey 1 10) ∷ by 0 (LoadLink (Head 0))
     ∷ by 0 ReadEpoch ∷ by 0 (LoadKey 0) ∷ by 0 (LoadBirth 0) ∷ by 0 ReadEpoch ∷ by 0 (StoreLink 1 (Some 0))
-    ∷ by 0 (Publish (Head 0) 33554433 1) ∷ by 1 (Publish (Slot 1) 33554433 2) ∷ []
+    ∷ by 0 (Publish (Head 0) 4294967297 1) ∷ by 1 (Publish (Slot 1) 4294967297 2) ∷ []
 
 abbrev pub same_word : List Event
 same_word = by 0 ReadEpoch ∷ by 0 (Advance 1) ∷ by 0 ReadEpoch ∷ by 0 (TakeFlag 0) ∷ by 0 (StoreBirth 0 2)
@@ -75,38 +76,41 @@ same_word = by 0 ReadEpoch ∷ by 0 (Advance 1) ∷ by 0 ReadEpoch ∷ by 0 (Tak
     ∷ by 1 (StoreLink 1 (Some 0)) ∷ by 0 (Advance 2) ∷ by 0 (Advance 3) ∷ by 0 (Advance 4) ∷ by 0 ReadEpoch
     ∷ by 0 (TakeFlag 2) ∷ by 0 (StoreBirth 2 5) ∷ by 0 (StoreKey 2 10) ∷ by 0 (LoadLink (Head 0)) ∷ by 0 ReadEpoch
     ∷ by 0 (LoadKey 0) ∷ by 0 (LoadBirth 0) ∷ by 0 ReadEpoch ∷ by 0 (StoreLink 2 (Some 0))
-    ∷ by 0 (Publish (Head 0) 67108865 2) ∷ by 0 (Mark 2 167772161) ∷ by 0 (Unlink (Head 0) 167772163 2)
-    ∷ by 1 (Publish (Head 0) 67108865 1) ∷ []
+    ∷ by 0 (Publish (Head 0) 8589934593 2) ∷ by 0 (Mark 2 21474836481) ∷ by 0 (Unlink (Head 0) 21474836483 2)
+    ∷ by 1 (Publish (Head 0) 8589934593 1) ∷ []
 
 abbrev pub two_helpers : List Event
 two_helpers = by 0 ReadEpoch ∷ by 0 (TakeFlag 0) ∷ by 0 (StoreBirth 0 1) ∷ by 0 (StoreKey 0 7)
     ∷ by 0 (LoadLink (Head 0)) ∷ by 0 ReadEpoch ∷ by 0 (StoreLink 0 None) ∷ by 0 (Publish (Head 0) 0 0) ∷ by 1 ReadEpoch
-    ∷ by 1 (LoadLink (Head 0)) ∷ by 1 ReadEpoch ∷ by 0 (Mark 0 33554432) ∷ by 1 (LoadKey 0) ∷ by 1 (LoadBirth 0)
-    ∷ by 1 (LoadLink (Slot 0)) ∷ by 1 ReadEpoch ∷ by 1 (Unlink (Head 0) 33554433 0) ∷ by 0 (Unlink (Head 0) 33554433 0)
+    ∷ by 1 (LoadLink (Head 0)) ∷ by 1 ReadEpoch ∷ by 0 (Mark 0 4294967296) ∷ by 1 (LoadKey 0) ∷ by 1 (LoadBirth 0)
+    ∷ by 1 (LoadLink (Slot 0)) ∷ by 1 ReadEpoch ∷ by 1 (Unlink (Head 0) 4294967297 0) ∷ by 0
+    (Unlink (Head 0) 4294967297 0)
     ∷ []
 
 -- each is a run, with its effects and its calls
 pub worked_plays : Plays shape_of_three 2 reborn_slot
     ((Value 1) ∷ Won ∷ (Value 0) ∷ Done ∷ Done ∷ (Value 0) ∷ (Value 1) ∷ Done ∷ Won ∷ Won ∷ Done ∷ Done ∷ Done ∷ Won
-    ∷ (Value 1) ∷ (Value 33554434) ∷ (Value 1) ∷ (Value 20) ∷ (Value 1) ∷ (Value 33554433) ∷ (Value 1) ∷ (Value 30)
+    ∷ (Value 1) ∷ (Value 4294967298) ∷ (Value 1) ∷ (Value 20) ∷ (Value 1) ∷ (Value 4294967297) ∷ (Value 1) ∷ (Value 30)
     ∷ (Value 1) ∷ (Value 1) ∷ Won ∷ Done ∷ Done ∷ Done ∷ Won ∷ Won ∷ (Value 1) ∷ Done ∷ Won ∷ (Value 2) ∷ Done ∷ Done
-    ∷ (Value 33554433) ∷ (Value 2) ∷ (Value 30) ∷ (Value 1) ∷ (Value 2) ∷ Done ∷ Won ∷ (Lost 67108865) ∷ [])
+    ∷ (Value 4294967297) ∷ (Value 2) ∷ (Value 30) ∷ (Value 1) ∷ (Value 2) ∷ Done ∷ Won ∷ (Lost 8589934593) ∷ [])
     (record { who = 0; op = Insert; key = 30; reply = true; value = None }
     ∷ record { who = 0; op = Insert; key = 20; reply = true; value = None }
     ∷ record { who = 0; op = Remove; key = 20; reply = true; value = None }
     ∷ record { who = 0; op = Insert; key = 10; reply = true; value = None } ∷ [])
     × Plays shape_of_three 2 same_word
-    ((Value 1) ∷ Won ∷ (Value 2) ∷ Won ∷ Done ∷ Done ∷ (Value 0) ∷ (Value 2) ∷ Done ∷ Won ∷ (Value 2) ∷ (Value 67108865)
+    ((Value 1) ∷ Won ∷ (Value 2) ∷ Won ∷ Done ∷ Done ∷ (Value 0) ∷ (Value 2) ∷ Done ∷ Won ∷ (Value 2) ∷
+    (Value 8589934593)
     ∷ (Value 2) ∷ (Value 30) ∷ (Value 2) ∷ (Value 2) ∷ Won ∷ Done ∷ Done ∷ Done ∷ Won ∷ Won ∷ Won ∷ (Value 5) ∷ Won
-    ∷ Done ∷ Done ∷ (Value 67108865) ∷ (Value 5) ∷ (Value 30) ∷ (Value 2) ∷ (Value 5) ∷ Done ∷ Won ∷ Won ∷ Won ∷ Won
+    ∷ Done ∷ Done ∷ (Value 8589934593) ∷ (Value 5) ∷ (Value 30) ∷ (Value 2) ∷ (Value 5) ∷ Done ∷ Won ∷ Won ∷ Won ∷ Won
     ∷ [])
     (record { who = 0; op = Insert; key = 30; reply = true; value = None }
     ∷ record { who = 0; op = Insert; key = 10; reply = true; value = None }
     ∷ record { who = 0; op = Remove; key = 10; reply = true; value = None }
     ∷ record { who = 1; op = Insert; key = 20; reply = true; value = None } ∷ [])
     × Plays shape_of_one 2 two_helpers
-    ((Value 1) ∷ Won ∷ Done ∷ Done ∷ (Value 0) ∷ (Value 1) ∷ Done ∷ Won ∷ (Value 1) ∷ (Value 33554433) ∷ (Value 1) ∷ Won
-    ∷ (Value 7) ∷ (Value 1) ∷ (Value 50331648) ∷ (Value 1) ∷ Won ∷ (Lost 0) ∷ [])
+    ((Value 1) ∷ Won ∷ Done ∷ Done ∷ (Value 0) ∷ (Value 1) ∷ Done ∷ Won ∷ (Value 1) ∷ (Value 4294967297) ∷ (Value 1) ∷
+    Won
+    ∷ (Value 7) ∷ (Value 1) ∷ (Value 6442450944) ∷ (Value 1) ∷ Won ∷ (Lost 0) ∷ [])
     (record { who = 0; op = Insert; key = 7; reply = true; value = None }
     ∷ record { who = 0; op = Remove; key = 7; reply = true; value = None } ∷ [])
 unfolding bucket_of link_of word_of has_flag first_bits flag_word
@@ -125,11 +129,11 @@ pub worked_words :
     (words_along shape_of_three reborn_slot
     ((9, place.Head 0) ∷ (14, place.Head 0) ∷ (29, place.LinkOf 1) ∷ (30, place.Head 0) ∷ (42, place.LinkOf 1)
     ∷ (43, place.Head 0) ∷ [])
-    ≡ 33554433 ∷ 33554434 ∷ 50331649 ∷ 33554433 ∷ 67108865 ∷ 67108866 ∷ [])
+    ≡ 4294967297 ∷ 4294967298 ∷ 6442450945 ∷ 4294967297 ∷ 8589934593 ∷ 8589934594 ∷ [])
     × (words_along shape_of_three same_word
     ((9, place.LinkOf 0) ∷ (33, place.LinkOf 2) ∷ (34, place.Head 0) ∷ (35, place.LinkOf 2) ∷ (36, place.Head 0)
     ∷ (37, place.Head 0) ∷ [])
-    ≡ 67108864 ∷ 167772161 ∷ 167772163 ∷ 184549377 ∷ 67108865 ∷ 67108866 ∷ [])
+    ≡ 8589934592 ∷ 21474836481 ∷ 21474836483 ∷ 23622320129 ∷ 8589934593 ∷ 8589934594 ∷ [])
     × (words_along shape_of_one two_helpers ((18, place.Head 0) ∷ [])
     ≡ 0 ∷ [])
 unfolding bucket_of link_of word_of has_flag first_bits flag_word

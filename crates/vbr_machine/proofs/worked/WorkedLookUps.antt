@@ -14,7 +14,7 @@ use Rattle.vbr_machine.specs.declared.history.Op.TheVariants.{Insert, Remove, Ha
 use Rattle.vbr_machine.proofs.worked.WorkedLists.{by, shape_of_one, two_helpers}
 
 abbrev look : Step
-look = ConfirmAbsent Has 7 (Head 0) 33554433
+look = ConfirmAbsent Has 7 (Head 0) 4294967297
 
 pub passes_a_marked_node : IsAccepted shape_of_one 2 (world_after shape_of_one (take 16 two_helpers)) (by 1 look)
 unfolding bucket_of link_of word_of has_flag first_bits flag_word

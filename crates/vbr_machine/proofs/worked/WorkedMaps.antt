@@ -36,13 +36,13 @@ abbrev inserted : List Event
 inserted = in_hand ++ by 0 (StoreValue 0 107) ∷ by 0 (Publish (Head 0) 0 0) ∷ []
 
 abbrev valued_run : List Event
-valued_run = inserted ++ read_by_another ++ by 1 (LoadValue 0) ∷ by 1 ReadEpoch ∷ by 1 (ConfirmPresent Get 0 33554432)
-    ∷ by 0 (Mark 0 33554432) ∷ by 1 (ConfirmPresent Get 0 33554432) ∷ []
+valued_run = inserted ++ read_by_another ++ by 1 (LoadValue 0) ∷ by 1 ReadEpoch ∷ by 1 (ConfirmPresent Get 0 4294967296)
+    ∷ by 0 (Mark 0 4294967296) ∷ by 1 (ConfirmPresent Get 0 4294967296) ∷ []
 
 pub valued_run_plays : Plays map_of_one 2 valued_run
-    ((Value 1) ∷ Won ∷ Done ∷ Done ∷ (Value 0) ∷ (Value 1) ∷ Done ∷ Done ∷ Won ∷ (Value 1) ∷ (Value 33554433)
-    ∷ (Value 1) ∷ (Value 7) ∷ (Value 33554432) ∷ (Value 1) ∷ (Value 107) ∷ (Value 1) ∷ (Answered true) ∷ Won
-    ∷ (Lost 50331648) ∷ [])
+    ((Value 1) ∷ Won ∷ Done ∷ Done ∷ (Value 0) ∷ (Value 1) ∷ Done ∷ Done ∷ Won ∷ (Value 1) ∷ (Value 4294967297)
+    ∷ (Value 1) ∷ (Value 7) ∷ (Value 4294967296) ∷ (Value 1) ∷ (Value 107) ∷ (Value 1) ∷ (Answered true) ∷ Won
+    ∷ (Lost 6442450944) ∷ [])
     (record { who = 0; op = Insert; key = 7; reply = true; value = Some 107 }
     ∷ record { who = 1; op = Get; key = 7; reply = true; value = Some 107 }
     ∷ record { who = 0; op = Remove; key = 7; reply = true; value = Some 107 } ∷ [])
@@ -61,12 +61,12 @@ unfolding bucket_of link_of word_of has_flag first_bits flag_word
 published_without_a_value = search (rules, tests)
 
 pub marked_without_a_value : Refuses map_of_one 2 (world_after map_of_one (inserted ++ read_by_another))
-    (by 1 (Mark 0 33554432)) NotHeld
+    (by 1 (Mark 0 4294967296)) NotHeld
 unfolding bucket_of link_of word_of has_flag first_bits flag_word
 marked_without_a_value = search (rules, tests)
 
 pub got_without_a_value : Refuses map_of_one 2 (world_after map_of_one (inserted ++ read_by_another))
-    (by 1 (ConfirmPresent Get 0 33554432)) NotHeld
+    (by 1 (ConfirmPresent Get 0 4294967296)) NotHeld
 unfolding bucket_of link_of word_of has_flag first_bits flag_word
 got_without_a_value = search (rules, tests)
 

@@ -54,19 +54,19 @@ read_by_another = by 1 ReadEpoch ∷ by 1 (LoadLink (Head 0)) ∷ by 1 ReadEpoch
 -- the first one puts 207 in its place
 abbrev replaced : List Event
 replaced = inserted ++ read_by_another ++ by 0 (TakeFlag 1) ∷ by 0 (StoreBirth 1 1) ∷ by 0 (StoreKey 1 7)
-    ∷ by 0 (StoreValue 1 207) ∷ by 0 (StoreLink 1 None) ∷ by 0 (Replace 0 33554432 1) ∷ []
+    ∷ by 0 (StoreValue 1 207) ∷ by 0 (StoreLink 1 None) ∷ by 0 (Replace 0 4294967296 1) ∷ []
 
 -- and the other, which stands on the old node, goes on to the new one, and unlinks the old one
 abbrev replaced_run : List Event
-replaced_run = replaced ++ by 1 (ConfirmPresent Get 0 33554432) ∷ by 1 (LoadLink (Slot 0)) ∷ by 1 ReadEpoch
+replaced_run = replaced ++ by 1 (ConfirmPresent Get 0 4294967296) ∷ by 1 (LoadLink (Slot 0)) ∷ by 1 ReadEpoch
     ∷ by 1 (LoadKey 1) ∷ by 1 (LoadValue 1) ∷ by 1 (LoadLink (Slot 1)) ∷ by 1 (LoadBirth 1) ∷ by 1 ReadEpoch
-    ∷ by 1 (ConfirmPresent Get 1 33554432) ∷ by 1 (Unlink (Head 0) 33554433 0) ∷ []
+    ∷ by 1 (ConfirmPresent Get 1 4294967296) ∷ by 1 (Unlink (Head 0) 4294967297 0) ∷ []
 
 -- one step made two calls
 pub replaced_run_plays : Plays map_of_three 2 replaced_run
-    ((Value 1) ∷ Won ∷ Done ∷ Done ∷ (Value 0) ∷ (Value 1) ∷ Done ∷ Done ∷ Won ∷ (Value 1) ∷ (Value 33554433)
-    ∷ (Value 1) ∷ (Value 7) ∷ (Value 107) ∷ (Value 33554432) ∷ (Value 1) ∷ Won ∷ Done ∷ Done ∷ Done ∷ Done ∷ Won
-    ∷ (Lost 50331650) ∷ (Value 50331650) ∷ (Value 1) ∷ (Value 7) ∷ (Value 207) ∷ (Value 33554432) ∷ (Value 1)
+    ((Value 1) ∷ Won ∷ Done ∷ Done ∷ (Value 0) ∷ (Value 1) ∷ Done ∷ Done ∷ Won ∷ (Value 1) ∷ (Value 4294967297)
+    ∷ (Value 1) ∷ (Value 7) ∷ (Value 107) ∷ (Value 4294967296) ∷ (Value 1) ∷ Won ∷ Done ∷ Done ∷ Done ∷ Done ∷ Won
+    ∷ (Lost 6442450946) ∷ (Value 6442450946) ∷ (Value 1) ∷ (Value 7) ∷ (Value 207) ∷ (Value 4294967296) ∷ (Value 1)
     ∷ (Value 1) ∷ (Answered true) ∷ Won ∷ [])
     (record { who = 0; op = Insert; key = 7; reply = true; value = Some 107 }
     ∷ record { who = 0; op = Remove; key = 7; reply = true; value = Some 107 }
@@ -76,7 +76,7 @@ unfolding bucket_of link_of word_of has_flag first_bits flag_word
 replaced_run_plays = (search (rules, tests), refl, refl)
 
 -- the head names the new node
-pub replaced_run_head : word_at map_of_three (world_after map_of_three replaced_run) (place.Head 0) ≡ 33554434
+pub replaced_run_head : word_at map_of_three (world_after map_of_three replaced_run) (place.Head 0) ≡ 4294967298
 unfolding bucket_of link_of word_of has_flag first_bits flag_word
 replaced_run_head = refl
 
@@ -110,12 +110,12 @@ walked = by 2 ReadEpoch ∷ by 2 (LoadLink (Head 0)) ∷ by 2 ReadEpoch ∷ by 2
 
 -- there the key is present, with the new value; behind it 8 is absent
 abbrev looked_up : List Event
-looked_up = walked ++ by 2 (ConfirmPresent Has 1 33554432) ∷ by 2 (ConfirmPresent Get 1 33554432)
-    ∷ by 2 (ConfirmAbsent Has 8 (Slot 1) 33554432) ∷ []
+looked_up = walked ++ by 2 (ConfirmPresent Has 1 4294967296) ∷ by 2 (ConfirmPresent Get 1 4294967296)
+    ∷ by 2 (ConfirmAbsent Has 8 (Slot 1) 4294967296) ∷ []
 
 pub looked_up_plays : PlaysOn 3 replaced looked_up
-    ((Value 1) ∷ (Value 33554433) ∷ (Value 1) ∷ (Value 50331650) ∷ (Value 1) ∷ (Value 7) ∷ (Value 207)
-    ∷ (Value 33554432) ∷ (Value 1) ∷ (Answered true) ∷ (Answered true) ∷ (Answered false) ∷ [])
+    ((Value 1) ∷ (Value 4294967297) ∷ (Value 1) ∷ (Value 6442450946) ∷ (Value 1) ∷ (Value 7) ∷ (Value 207)
+    ∷ (Value 4294967296) ∷ (Value 1) ∷ (Answered true) ∷ (Answered true) ∷ (Answered false) ∷ [])
     (record { who = 0; op = Insert; key = 7; reply = true; value = Some 107 }
     ∷ record { who = 0; op = Remove; key = 7; reply = true; value = Some 107 }
     ∷ record { who = 0; op = Insert; key = 7; reply = true; value = Some 207 }
@@ -139,45 +139,45 @@ ready = inserted ++ read_by_another ++ by 1 (LoadBirth 0) ∷ by 1 ReadEpoch ∷
 
 -- to a mark
 abbrev lost_to_a_mark : List Event
-lost_to_a_mark = by 0 (Mark 0 33554432) ∷ by 1 (Replace 0 33554432 1) ∷ []
+lost_to_a_mark = by 0 (Mark 0 4294967296) ∷ by 1 (Replace 0 4294967296 1) ∷ []
 
 -- to an insert of 9 behind the node
 abbrev lost_to_an_insert : List Event
 lost_to_an_insert = by 0 (TakeFlag 2) ∷ by 0 (StoreBirth 2 1) ∷ by 0 (StoreKey 2 9) ∷ by 0 (StoreValue 2 109)
-    ∷ by 0 (StoreLink 2 None) ∷ by 0 (Publish (Slot 0) 33554432 2) ∷ by 1 (Replace 0 33554432 1) ∷ []
+    ∷ by 0 (StoreLink 2 None) ∷ by 0 (Publish (Slot 0) 4294967296 2) ∷ by 1 (Replace 0 4294967296 1) ∷ []
 
 -- to another replacement
 abbrev replaced_before : List Event
 replaced_before = by 0 (TakeFlag 2) ∷ by 0 (StoreBirth 2 1) ∷ by 0 (StoreKey 2 7) ∷ by 0 (StoreValue 2 307)
-    ∷ by 0 (StoreLink 2 None) ∷ by 0 (Replace 0 33554432 2) ∷ []
+    ∷ by 0 (StoreLink 2 None) ∷ by 0 (Replace 0 4294967296 2) ∷ []
 
 abbrev lost_to_another : List Event
-lost_to_another = replaced_before ++ by 1 (Replace 0 33554432 1) ∷ []
+lost_to_another = replaced_before ++ by 1 (Replace 0 4294967296 1) ∷ []
 
 -- to a later node in the same slot, of the same key and with the same successor: its link has another version
 abbrev lost_to_a_later_node : List Event
-lost_to_a_later_node = by 0 (Mark 0 33554432) ∷ by 0 (Unlink (Head 0) 33554433 0) ∷ by 0 ReadEpoch
+lost_to_a_later_node = by 0 (Mark 0 4294967296) ∷ by 0 (Unlink (Head 0) 4294967297 0) ∷ by 0 ReadEpoch
     ∷ by 0 (StoreStamp 0 1) ∷ by 0 (Advance 1) ∷ by 0 ReadEpoch ∷ by 0 (StoreBirth 0 2) ∷ by 0 (StoreKey 0 7)
     ∷ by 0 (StoreValue 0 307) ∷ by 0 (LoadLink (Head 0)) ∷ by 0 ReadEpoch ∷ by 0 (StoreLink 0 None)
-    ∷ by 0 (Publish (Head 0) 0 0) ∷ by 1 (Replace 0 33554432 1) ∷ []
+    ∷ by 0 (Publish (Head 0) 0 0) ∷ by 1 (Replace 0 4294967296 1) ∷ []
 
 -- each is lost; the calls of the third are those of the one that won
 pub lost_plays : PlaysOn 2 ready lost_to_a_mark
-    (Won ∷ (Lost 50331648) ∷ [])
+    (Won ∷ (Lost 6442450944) ∷ [])
     (record { who = 0; op = Insert; key = 7; reply = true; value = Some 107 }
     ∷ record { who = 0; op = Remove; key = 7; reply = true; value = Some 107 } ∷ [])
     × PlaysOn 2 ready lost_to_an_insert
-    (Won ∷ Done ∷ Done ∷ Done ∷ Done ∷ Won ∷ (Lost 33554435) ∷ [])
+    (Won ∷ Done ∷ Done ∷ Done ∷ Done ∷ Won ∷ (Lost 4294967299) ∷ [])
     (record { who = 0; op = Insert; key = 7; reply = true; value = Some 107 }
     ∷ record { who = 0; op = Insert; key = 9; reply = true; value = Some 109 } ∷ [])
     × PlaysOn 2 ready lost_to_another
-    (Won ∷ Done ∷ Done ∷ Done ∷ Done ∷ Won ∷ (Lost 50331651) ∷ [])
+    (Won ∷ Done ∷ Done ∷ Done ∷ Done ∷ Won ∷ (Lost 6442450947) ∷ [])
     (record { who = 0; op = Insert; key = 7; reply = true; value = Some 107 }
     ∷ record { who = 0; op = Remove; key = 7; reply = true; value = Some 107 }
     ∷ record { who = 0; op = Insert; key = 7; reply = true; value = Some 307 } ∷ [])
     × PlaysOn 2 ready lost_to_a_later_node
     (Won ∷ Won ∷ (Value 1) ∷ Done ∷ Won ∷ (Value 2) ∷ Done ∷ Done ∷ Done ∷ (Value 0) ∷ (Value 2) ∷ Done ∷ Won
-    ∷ (Lost 67108864) ∷ [])
+    ∷ (Lost 8589934592) ∷ [])
     (record { who = 0; op = Insert; key = 7; reply = true; value = Some 107 }
     ∷ record { who = 0; op = Remove; key = 7; reply = true; value = Some 107 }
     ∷ record { who = 0; op = Insert; key = 7; reply = true; value = Some 307 } ∷ [])
@@ -193,10 +193,10 @@ lost_plays = (
 -- before the linked one
 abbrev replaced_next : List Event
 replaced_next = by 1 (LoadLink (Slot 0)) ∷ by 1 ReadEpoch ∷ by 1 (LoadBirth 2) ∷ by 1 (LoadKey 2) ∷ by 1 (LoadValue 2)
-    ∷ by 1 (LoadLink (Slot 2)) ∷ by 1 ReadEpoch ∷ by 1 (Replace 2 33554432 1) ∷ []
+    ∷ by 1 (LoadLink (Slot 2)) ∷ by 1 ReadEpoch ∷ by 1 (Replace 2 4294967296 1) ∷ []
 
 pub replaced_next_plays : PlaysOn 2 (ready ++ lost_to_another) replaced_next
-    ((Value 50331651) ∷ (Value 1) ∷ (Value 1) ∷ (Value 7) ∷ (Value 307) ∷ (Value 33554432) ∷ (Value 1) ∷ Won ∷ [])
+    ((Value 6442450947) ∷ (Value 1) ∷ (Value 1) ∷ (Value 7) ∷ (Value 307) ∷ (Value 4294967296) ∷ (Value 1) ∷ Won ∷ [])
     (record { who = 0; op = Insert; key = 7; reply = true; value = Some 107 }
     ∷ record { who = 0; op = Remove; key = 7; reply = true; value = Some 107 }
     ∷ record { who = 0; op = Insert; key = 7; reply = true; value = Some 307 }
@@ -217,23 +217,24 @@ replaced_next_place = (refl, refl)
 pub replaced_without_its_birth : Refuses map_of_three 2
     (world_after map_of_three
     (inserted ++ read_by_another ++ by 1 (TakeFlag 1) ∷ by 1 (StoreBirth 1 1) ∷ by 1 (StoreKey 1 7)
-    ∷ by 1 (StoreValue 1 207) ∷ by 1 (StoreLink 1 None) ∷ [])) (by 1 (Replace 0 33554432 1)) NotHeld
+    ∷ by 1 (StoreValue 1 207) ∷ by 1 (StoreLink 1 None) ∷ [])) (by 1 (Replace 0 4294967296 1)) NotHeld
 unfolding bucket_of link_of word_of has_flag first_bits flag_word
 replaced_without_its_birth = search (rules, tests)
 
 pub replaced_by_another_key : Refuses map_of_three 2 (world_after map_of_three (ready ++ by 1 (StoreKey 1 8) ∷ []))
-    (by 1 (Replace 0 33554432 1)) OutOfRange
+    (by 1 (Replace 0 4294967296 1)) OutOfRange
 unfolding bucket_of link_of word_of has_flag first_bits flag_word
 replaced_by_another_key = search (rules, tests)
 
 pub replaced_without_a_value : Refuses map_of_three 2
     (world_after map_of_three
     (inserted ++ read_by_another ++ by 1 (LoadBirth 0) ∷ by 1 ReadEpoch ∷ by 1 (TakeFlag 1) ∷ by 1 (StoreBirth 1 1)
-    ∷ by 1 (StoreKey 1 7) ∷ by 1 (StoreLink 1 None) ∷ [])) (by 1 (Replace 0 33554432 1)) OutOfRange
+    ∷ by 1 (StoreKey 1 7) ∷ by 1 (StoreLink 1 None) ∷ [])) (by 1 (Replace 0 4294967296 1)) OutOfRange
 unfolding bucket_of link_of word_of has_flag first_bits flag_word
 replaced_without_a_value = search (rules, tests)
 
-pub replaced_by_nothing_in_hand : Refuses map_of_three 2 (world_after map_of_three ready) (by 1 (Replace 0 33554432 2))
+pub replaced_by_nothing_in_hand : Refuses map_of_three 2 (world_after map_of_three ready)
+    (by 1 (Replace 0 4294967296 2))
     NotOwned
 unfolding bucket_of link_of word_of has_flag first_bits flag_word
 replaced_by_nothing_in_hand = search (rules, tests)
@@ -241,7 +242,7 @@ replaced_by_nothing_in_hand = search (rules, tests)
 pub replaced_in_a_set :
     Refuses (empty_start (record { slots = 3; buckets = 1; spread = None; last_epoch = 10; values = false })) 2
     (opening (empty_start (record { slots = 3; buckets = 1; spread = None; last_epoch = 10; values = false })))
-    (by 0 (Replace 0 33554432 1)) OutOfRange
+    (by 0 (Replace 0 4294967296 1)) OutOfRange
 unfolding bucket_of link_of word_of has_flag first_bits flag_word
 replaced_in_a_set = search (rules, tests)
 
@@ -258,7 +259,7 @@ never_above (suc (suc (suc (suc turns)))) within before = omega (arith, within)
 
 -- so it can't answer that the key is absent, past the old node
 pub absent_past_the_old_node : Refuses map_of_three 3 (world_after map_of_three (replaced ++ walked))
-    (by 2 (ConfirmAbsent Has 7 (Head 0) 33554433)) OutOfRange
+    (by 2 (ConfirmAbsent Has 7 (Head 0) 4294967297)) OutOfRange
 unfolding bucket_of link_of word_of has_flag first_bits flag_word
 absent_past_the_old_node = (
   omega arith,

@@ -1,5 +1,6 @@
 -- The worked runs are runs, of shapes: so the theorem speaks of them.
 use Rattle.std.proofs.Common.{ℕ, ◌<◌, ◌≤◌, false, None, arith}
+use Rattle.vbr_words.proofs.Lemmas.{room_with_fewer}
 use Rattle.vbr_machine.specs.Start.{IsStart, empty_start}
 use Rattle.vbr_machine.specs.Safety.{IsSafe}
 use Rattle.vbr_machine.proofs.runs.SafeRuns.{every_run}
@@ -19,6 +20,7 @@ few_are_shape slots some low =
             buckets = omega arith;
             some_epoch = omega arith;
             last_epoch = omega arith;
+            room = room_with_fewer slots 2 10 (omega (arith, low)) (omega arith) (omega arith);
           };
       ascending = λ k low. absurd (omega arith);
       few = omega arith;

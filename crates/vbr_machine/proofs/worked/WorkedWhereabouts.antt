@@ -38,8 +38,8 @@ along_reborn_slot = refl
 
 -- a run of the same beginning, in which pass 0 unlinks both nodes before it stamps one
 abbrev two_unlinked : List Event
-two_unlinked = take 14 reborn_slot ++ by 0 (Mark 1 33554433) ∷ by 0 (Unlink (Head 0) 33554434 1)
-    ∷ by 0 (Mark 0 33554432) ∷ by 0 (Unlink (Head 0) 33554433 0) ∷ []
+two_unlinked = take 14 reborn_slot ++ by 0 (Mark 1 4294967297) ∷ by 0 (Unlink (Head 0) 4294967298 1)
+    ∷ by 0 (Mark 0 4294967296) ∷ by 0 (Unlink (Head 0) 4294967297 0) ∷ []
 
 pub two_unlinked_accepted : IsRun shape_of_three 2 two_unlinked
 unfolding bucket_of link_of word_of has_flag first_bits flag_word

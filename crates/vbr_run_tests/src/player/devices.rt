@@ -15,18 +15,14 @@ const SCRIPT: &[u8] = b"0 insert 5\n0 insert 5\n0 has 5\n0 remove 5\n0 has 5\n";
 const OUTPUT: &[u8] = b"yes\nno\nyes\nyes\nno\ninserted 1\nremoved 1\nfound 1\nrefused 0\nkeys\n";
 
 /// Plays a script for one worker on a small set.
-fn play_small<T: Threads + Wait, R: Read, W: Write>(
+fn play_small<T: Threads + Wait + Abort, R: Read, W: Write>(
     rt: &T,
     alloc: Global,
     reader: &mut R,
     writer: &mut W,
 ) -> Result<Totals, RunError> {
-    let Ok(shape) = Shape::new(4, 2, 10) else {
-        unreachable!()
-    };
-    let Ok(config) = Config::new(shape, 1, 1_000, false) else {
-        unreachable!()
-    };
+    let shape = Shape::new(4, 2, 10).expect(rt, "a shape");
+    let config = Config::new(shape, 1, 1_000, false).expect(rt, "settings");
     play(rt, alloc, config, reader, writer, &NoGate)
 }
 

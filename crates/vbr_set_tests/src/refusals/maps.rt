@@ -132,25 +132,7 @@ impl OpenedWithThree for Entries {
 #[test]
 fn table_opens_with_entries_of_keys(rt: HostRuntime) {
     let wanted = [
-        1,
-        167_772_163,
-        33_554_433,
-        33_554_434,
-        1,
-        0,
-        2,
-        70,
-        33_554_435,
-        1,
-        0,
-        5,
-        71,
-        33_554_432,
-        1,
-        0,
-        9,
-        70,
-        0,
+        1, 43, 9, 10, 1, 0, 2, 70, 11, 1, 0, 5, 71, 8, 1, 0, 9, 70, 0,
     ];
     is_right(
         &rt,

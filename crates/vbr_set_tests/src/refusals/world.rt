@@ -1,7 +1,7 @@
 //! The world of the machine.
 use crate::refusals::round::is_right;
 use std::alloc::Global;
-use vbr_event_lists::TWO_HELPERS;
+use vbr_event_lists::two_helpers;
 use vbr_words::{At, Shape};
 use vbr_world::{CoreRefusal, Effect, Event, Step, World, WorldRefusal, replay};
 
@@ -15,21 +15,21 @@ fn open(alloc: Global, shape: Shape) -> Option<(World, bool)> {
 }
 
 // Makes a step, and says whether memory was refused, which leaves the world as it was.
-fn try_step(world: &mut World, event: Event) -> Option<(Result<Effect, CoreRefusal>, bool)> {
+fn try_step(world: &mut World, event: &Event) -> Option<(Result<Effect, CoreRefusal>, bool)> {
     let calls = world.calls().len();
     let births = world.incarnations();
-    let answer = world.step(event);
+    let answer = world.step(*event);
     if answer != Err(CoreRefusal::NoMemory) {
         return Some((answer, false));
     }
     if world.calls().len() != calls || world.incarnations() != births {
         return None;
     }
-    Some((world.step(event), true))
+    Some((world.step(*event), true))
 }
 
 // Makes a step that has this effect, and says whether memory was refused.
-fn step(world: &mut World, event: Event, effect: Effect) -> Option<bool> {
+fn step(world: &mut World, event: &Event, effect: Effect) -> Option<bool> {
     let (answer, refused) = try_step(world, event)?;
     (answer == Ok(effect)).then_some(refused)
 }
@@ -56,9 +56,9 @@ fn world_opens_with_three(rt: HostRuntime) {
 fn opens_and_steps(alloc: Global) -> Option<bool> {
     let shape = Shape::new(3, 1, 10).ok()?;
     let (mut world, mut refused) = open(alloc, shape)?;
-    for (pass, made, effect) in TWO_HELPERS {
+    for (pass, made, effect) in two_helpers() {
         let event = Event { pass, step: made };
-        refused |= step(&mut world, event, effect)?;
+        refused |= step(&mut world, &event, effect)?;
     }
     Some(refused)
 }

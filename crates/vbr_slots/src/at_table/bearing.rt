@@ -8,10 +8,11 @@ ghost use Rattle.vbr_slots.specs.AtTables.{IsSameTable, pass_of, trace_of};
 ghost use Rattle.vbr_slots.specs.OwnSlots.{BearsIn, epoch_of, holding_of};
 ghost use Rattle.vbr_slots.specs.Pools.{HasRoomFor};
 ghost use Rattle.vbr_slots.specs.Views.{Did, KeepsPool, knows};
+ghost use Rattle.vbr_slots.specs.WideWords.{wide_at};
 
 use crate::at_table::AtTable;
 use vbr_machine::Step;
-use vbr_words::{Nodes, Place, decode};
+use vbr_words::{At, Nodes, Place, decode};
 
 impl<N: Nodes> AtTable<'_, N> {
     /// Gives birth to a new incarnation in a slot of the pass, in one step. The slot was stamped
@@ -67,17 +68,20 @@ impl<N: Nodes> AtTable<'_, N> {
     #[inline]
     pub fn store_link(&mut self, slot: u32, word: u64)
         requires in_hand { (pass_of self.old).hand ≡ Some slot }
-        requires next_in { IsNextIn self.old.slots.now.start (link_of word).slot }
-        requires next_held { IsNextHeld (knows (trace_of self.old)).checked (link_of word).slot }
-        requires word { IsWritten (trace_of self.old) (StoreLink slot (link_of word).slot) word }
+        requires next_in { IsNextIn self.old.slots.now.start
+            (link_of (wide_at self.old word)).slot }
+        requires next_held { IsNextHeld (knows (trace_of self.old)).checked
+            (link_of (wide_at self.old word)).slot }
+        requires word { IsWritten (trace_of self.old)
+            (StoreLink slot (link_of (wide_at self.old word)).slot) (wide_at self.old word) }
         ensures table { IsSameTable self.old self.new }
-        ensures step { Did (StoreLink slot (link_of word).slot)
-            (trace_of self.old) (trace_of self.new) word }
+        ensures step { Did (StoreLink slot (link_of (wide_at self.old word)).slot)
+            (trace_of self.old) (trace_of self.new) (wide_at self.old word) }
         ensures pool { KeepsPool (pass_of self.old) (pass_of self.new) }
     {
         let (slots, stepper) = (self.slots, &mut *self.stepper);
-        let next = decode(word).slot;
+        let next = decode(word, slots.layout()).slot;
         let step = Step::StoreLink { slot, next };
-        slots.store(&mut stepper.runner, step, Place::LinkOf(slot), word);
+        slots.store_at(&mut stepper.runner, step, At::Slot(slot), word);
     }
 }

@@ -7,12 +7,12 @@ ghost use Rattle.vbr_slots.specs.AtTables.{IsSameTable, pass_of, trace_of};
 ghost use Rattle.vbr_slots.specs.Expected.{Finds, FindsOther};
 ghost use Rattle.vbr_slots.specs.LookUpStep.{look_up};
 ghost use Rattle.vbr_slots.specs.Views.{knows};
+ghost use Rattle.vbr_slots.specs.WideWords.{wide_at};
 
 use crate::at_table::AtTable;
-use crate::stepping::place_of_link;
 use std::marker::Brand;
 use vbr_machine::{Op, Step};
-use vbr_words::{At, Nodes, Place};
+use vbr_words::{At, Nodes, WideWord, wide};
 
 impl<N: Nodes> AtTable<'_, N> {
     /// Answers a look-up or an insert, in one step, a load: if the link word of a node is still
@@ -23,18 +23,22 @@ impl<N: Nodes> AtTable<'_, N> {
         requires slot { slot < self.old.slots.now.start.shape.slots }
         requires asked { IsOpIn self.old.slots.now.start op }
         requires checked { IsChecked self.old.slots.now (trace_of self.old)
-            (ConfirmPresent op slot expected) }
+            (ConfirmPresent op slot (wide_at self.old expected)) }
         ensures table { IsSameTable self.old self.new }
         ensures found { OnOk result
-            (Finds (ConfirmPresent op slot expected)
-            (pass_of self.old) (pass_of self.new) expected) }
-        ensures other { IfErr result
-            (FindsOther (ConfirmPresent op slot expected)
-            (pass_of self.old) (pass_of self.new) expected) }
+            (Finds (ConfirmPresent op slot (wide_at self.old expected))
+            (pass_of self.old) (pass_of self.new) (wide_at self.old expected)) }
+        ensures other { IfErr result (λ found.
+            FindsOther (ConfirmPresent op slot (wide_at self.old expected)) (pass_of self.old)
+            (pass_of self.new) (wide_at self.old expected) (wide_at self.old found)) }
     {
         let (slots, stepper) = (self.slots, &mut *self.stepper);
-        let step = Step::ConfirmPresent { op, slot, expected };
-        match slots.load(stepper, step, Place::LinkOf(slot)) {
+        let step = Step::ConfirmPresent {
+            op,
+            slot,
+            expected: wide(expected, slots.layout()),
+        };
+        match slots.load_at(stepper, step, At::Slot(slot)) {
             found if found == expected => Ok(()),
             found => Err(found),
         }
@@ -49,23 +53,23 @@ impl<N: Nodes> AtTable<'_, N> {
         requires holder { IsAtIn self.old.slots.now.start holder }
         requires asked { IsOpIn self.old.slots.now.start op }
         requires checked { IsChecked self.old.slots.now (trace_of self.old)
-            (ConfirmAbsent op key holder expected) }
+            (ConfirmAbsent op key holder (wide_at self.old expected)) }
         ensures table { IsSameTable self.old self.new }
         ensures found { OnOk result
-            (Finds (ConfirmAbsent op key holder expected)
-            (pass_of self.old) (pass_of self.new) expected) }
-        ensures other { IfErr result
-            (FindsOther (ConfirmAbsent op key holder expected)
-            (pass_of self.old) (pass_of self.new) expected) }
+            (Finds (ConfirmAbsent op key holder (wide_at self.old expected))
+            (pass_of self.old) (pass_of self.new) (wide_at self.old expected)) }
+        ensures other { IfErr result (λ found.
+            FindsOther (ConfirmAbsent op key holder (wide_at self.old expected)) (pass_of self.old)
+            (pass_of self.new) (wide_at self.old expected) (wide_at self.old found)) }
     {
         let (slots, stepper) = (self.slots, &mut *self.stepper);
         let step = Step::ConfirmAbsent {
             op,
             key,
             at: holder,
-            expected,
+            expected: wide(expected, slots.layout()),
         };
-        match slots.load(stepper, step, place_of_link(holder)) {
+        match slots.load_at(stepper, step, holder) {
             found if found == expected => Ok(()),
             found => Err(found),
         }
@@ -84,17 +88,17 @@ impl<N: Nodes> AtTable<'_, N> {
         expected: u64,
     ) -> Result<(), u64>
         requires accepted { Accepts self.old.slots.now.start (knows (trace_of self.old))
-            (look_up present key holder expected) }
+            (look_up present key holder (wide_at self.old expected)) }
         ensures table { IsSameTable self.old self.new }
         ensures found { OnOk result
-            (Finds (look_up present key holder expected)
-            (pass_of self.old) (pass_of self.new) expected) }
-        ensures other { IfErr result
-            (FindsOther (look_up present key holder expected)
-            (pass_of self.old) (pass_of self.new) expected) }
+            (Finds (look_up present key holder (wide_at self.old expected))
+            (pass_of self.old) (pass_of self.new) (wide_at self.old expected)) }
+        ensures other { IfErr result (λ found.
+            FindsOther (look_up present key holder (wide_at self.old expected)) (pass_of self.old)
+            (pass_of self.new) (wide_at self.old expected) (wide_at self.old found)) }
     {
         let (slots, stepper) = (self.slots, &mut *self.stepper);
-        let step = step_of_look_up(present, key, holder, expected);
+        let step = step_of_look_up(present, key, holder, wide(expected, slots.layout()));
         match slots.load_at_as::<Brand>(&mut stepper.runner, step, holder) {
             found if found == expected => Ok(()),
             found => Err(found),
@@ -104,7 +108,7 @@ impl<N: Nodes> AtTable<'_, N> {
 
 // The step that answers a look-up.
 #[inline]
-fn step_of_look_up(present: bool, key: u64, holder: At, expected: u64) -> Step
+fn step_of_look_up(present: bool, key: u64, holder: At, expected: WideWord) -> Step
     ensures { result ≡ look_up present key holder expected }
 {
     let op = Op::Has;

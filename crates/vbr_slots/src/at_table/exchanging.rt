@@ -6,11 +6,11 @@ ghost use Rattle.vbr_machine.specs.declared.event.Step.TheVariants.{Publish, Mar
 ghost use Rattle.vbr_slots.specs.Asked.{IsChecked, IsWritten};
 ghost use Rattle.vbr_slots.specs.AtTables.{IsSameTable, pass_of, trace_of};
 ghost use Rattle.vbr_slots.specs.Expected.{Finds, FindsOther, Publishes, ReplacesNode};
+ghost use Rattle.vbr_slots.specs.WideWords.{wide_at};
 
 use crate::at_table::AtTable;
-use crate::stepping::place_of_link;
 use vbr_machine::Step;
-use vbr_words::{At, Nodes, Place, with_mark};
+use vbr_words::{At, Nodes, wide, with_mark};
 
 impl<N: Nodes> AtTable<'_, N> {
     /// Links the incarnation in hand after `pred`, in one step, if the word there is `expected`:
@@ -21,24 +21,25 @@ impl<N: Nodes> AtTable<'_, N> {
         requires in_hand { (pass_of self.old).hand ≡ Some slot }
         requires pred { IsAtIn self.old.slots.now.start pred }
         requires checked { IsChecked self.old.slots.now (trace_of self.old)
-            (Publish pred expected slot) }
-        requires new { IsWritten (trace_of self.old) (Publish pred expected slot) new }
+            (Publish pred (wide_at self.old expected) slot) }
+        requires new { IsWritten (trace_of self.old) (Publish pred (wide_at self.old expected) slot)
+            (wide_at self.old new) }
         ensures table { IsSameTable self.old self.new }
         ensures found { OnOk result
-            (Publishes pred expected slot (pass_of self.old) (pass_of self.new)) }
-        ensures other { IfErr result
-            (FindsOther (Publish pred expected slot)
-            (pass_of self.old) (pass_of self.new) expected) }
+            (Publishes pred (wide_at self.old expected) slot (pass_of self.old)
+            (pass_of self.new)) }
+        ensures other { IfErr result (λ found.
+            FindsOther (Publish pred (wide_at self.old expected) slot) (pass_of self.old)
+            (pass_of self.new) (wide_at self.old expected) (wide_at self.old found)) }
     {
         let (slots, stepper) = (self.slots, &mut *self.stepper);
         let step = Step::Publish {
             pred,
-            expected,
+            expected: wide(expected, slots.layout()),
             slot,
         };
-        let place = place_of_link(pred);
         let hand = stepper.hand.take();
-        let found = slots.exchange(&mut stepper.runner, step, place, expected, new);
+        let found = slots.exchange_at(&mut stepper.runner, step, pred, expected, new);
         if found == expected {
             return Ok(());
         }
@@ -51,18 +52,24 @@ impl<N: Nodes> AtTable<'_, N> {
     #[inline]
     pub fn mark(&mut self, slot: u32, expected: u64) -> Result<(), u64>
         requires slot { slot < self.old.slots.now.start.shape.slots }
-        requires checked { IsChecked self.old.slots.now (trace_of self.old) (Mark slot expected) }
+        requires checked { IsChecked self.old.slots.now (trace_of self.old)
+            (Mark slot (wide_at self.old expected)) }
         ensures table { IsSameTable self.old self.new }
         ensures found { OnOk result
-            (Finds (Mark slot expected) (pass_of self.old) (pass_of self.new) expected) }
-        ensures other { IfErr result
-            (FindsOther (Mark slot expected) (pass_of self.old) (pass_of self.new) expected) }
+            (Finds (Mark slot (wide_at self.old expected)) (pass_of self.old) (pass_of self.new)
+            (wide_at self.old expected)) }
+        ensures other { IfErr result (λ found.
+            FindsOther (Mark slot (wide_at self.old expected)) (pass_of self.old) (pass_of self.new)
+            (wide_at self.old expected) (wide_at self.old found)) }
     {
         let (slots, stepper) = (self.slots, &mut *self.stepper);
-        let step = Step::Mark { slot, expected };
-        let place = Place::LinkOf(slot);
-        let marked = with_mark(expected);
-        match slots.exchange(&mut stepper.runner, step, place, expected, marked) {
+        let step = Step::Mark {
+            slot,
+            expected: wide(expected, slots.layout()),
+        };
+        let holder = At::Slot(slot);
+        let marked = with_mark(expected, slots.layout());
+        match slots.exchange_at(&mut stepper.runner, step, holder, expected, marked) {
             found if found == expected => Ok(()),
             found => Err(found),
         }
@@ -77,24 +84,26 @@ impl<N: Nodes> AtTable<'_, N> {
         requires slot { slot < self.old.slots.now.start.shape.slots }
         requires values { self.old.slots.now.start.shape.values ≡ true }
         requires checked { IsChecked self.old.slots.now (trace_of self.old)
-            (Replace slot expected new) }
-        requires word { IsWritten (trace_of self.old) (Replace slot expected new) word }
+            (Replace slot (wide_at self.old expected) new) }
+        requires word { IsWritten (trace_of self.old) (Replace slot (wide_at self.old expected) new)
+            (wide_at self.old word) }
         ensures table { IsSameTable self.old self.new }
         ensures found { OnOk result
-            (ReplacesNode slot expected new (pass_of self.old) (pass_of self.new)) }
-        ensures other { IfErr result
-            (FindsOther (Replace slot expected new)
-            (pass_of self.old) (pass_of self.new) expected) }
+            (ReplacesNode slot (wide_at self.old expected) new (pass_of self.old)
+            (pass_of self.new)) }
+        ensures other { IfErr result (λ found.
+            FindsOther (Replace slot (wide_at self.old expected) new) (pass_of self.old)
+            (pass_of self.new) (wide_at self.old expected) (wide_at self.old found)) }
     {
         let (slots, stepper) = (self.slots, &mut *self.stepper);
         let step = Step::Replace {
             slot,
-            expected,
+            expected: wide(expected, slots.layout()),
             new,
         };
-        let place = Place::LinkOf(slot);
+        let holder = At::Slot(slot);
         let kept = stepper.hand.take();
-        let found = slots.exchange(&mut stepper.runner, step, place, expected, word);
+        let found = slots.exchange_at(&mut stepper.runner, step, holder, expected, word);
         if found == expected {
             return Ok(());
         }
@@ -110,23 +119,24 @@ impl<N: Nodes> AtTable<'_, N> {
         requires pred { IsAtIn self.old.slots.now.start pred }
         requires slot { slot < self.old.slots.now.start.shape.slots }
         requires checked { IsChecked self.old.slots.now (trace_of self.old)
-            (Unlink pred expected slot) }
-        requires new { IsWritten (trace_of self.old) (Unlink pred expected slot) new }
+            (Unlink pred (wide_at self.old expected) slot) }
+        requires new { IsWritten (trace_of self.old) (Unlink pred (wide_at self.old expected) slot)
+            (wide_at self.old new) }
         ensures table { IsSameTable self.old self.new }
         ensures found { OnOk result
-            (Finds (Unlink pred expected slot) (pass_of self.old) (pass_of self.new) expected) }
-        ensures other { IfErr result
-            (FindsOther (Unlink pred expected slot)
-            (pass_of self.old) (pass_of self.new) expected) }
+            (Finds (Unlink pred (wide_at self.old expected) slot) (pass_of self.old)
+            (pass_of self.new) (wide_at self.old expected)) }
+        ensures other { IfErr result (λ found.
+            FindsOther (Unlink pred (wide_at self.old expected) slot) (pass_of self.old)
+            (pass_of self.new) (wide_at self.old expected) (wide_at self.old found)) }
     {
         let (slots, stepper) = (self.slots, &mut *self.stepper);
         let step = Step::Unlink {
             pred,
-            expected,
+            expected: wide(expected, slots.layout()),
             slot,
         };
-        let place = place_of_link(pred);
-        match slots.exchange(&mut stepper.runner, step, place, expected, new) {
+        match slots.exchange_at(&mut stepper.runner, step, pred, expected, new) {
             found if found == expected => Ok(()),
             found => Err(found),
         }

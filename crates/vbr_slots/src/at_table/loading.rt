@@ -6,9 +6,9 @@ ghost use Rattle.vbr_machine.specs.Knowledge.{holds, holds_at};
 ghost use Rattle.vbr_machine.specs.declared.event.Step.TheVariants.{LoadLink, LoadBirth, LoadKey, LoadValue, PeekBirth};
 ghost use Rattle.vbr_slots.specs.AtTables.{IsSameTable, pass_of, trace_of};
 ghost use Rattle.vbr_slots.specs.Views.{Did, KeepsPool, knows};
+ghost use Rattle.vbr_slots.specs.WideWords.{wide_at};
 
 use crate::at_table::AtTable;
-use crate::stepping::place_of_link;
 use vbr_machine::Step;
 use vbr_words::{At, Nodes, Place};
 
@@ -19,15 +19,12 @@ impl<N: Nodes> AtTable<'_, N> {
         requires holder { IsAtIn self.old.slots.now.start holder }
         requires held { IsTrue (holds_at (knows (trace_of self.old)).checked holder) }
         ensures table { IsSameTable self.old self.new }
-        ensures step { Did (LoadLink holder) (trace_of self.old) (trace_of self.new) result }
+        ensures step { Did (LoadLink holder) (trace_of self.old) (trace_of self.new)
+            (wide_at self.old result) }
         ensures pool { KeepsPool (pass_of self.old) (pass_of self.new) }
     {
         let (slots, stepper) = (self.slots, &mut *self.stepper);
-        slots.load(
-            stepper,
-            Step::LoadLink { at: holder },
-            place_of_link(holder),
-        )
+        slots.load_at(stepper, Step::LoadLink { at: holder }, holder)
     }
 
     /// Loads the birth of a held slot, an epoch, in one step.

@@ -7,9 +7,9 @@ ghost use Rattle.vbr_machine.specs.declared.event.Step.TheVariants.{LoadLink, Lo
 ghost use Rattle.vbr_slots.specs.AtTables.{IsSameTable, pass_of, trace_of};
 ghost use Rattle.vbr_slots.specs.Reads.{Reads, ReadsNode};
 ghost use Rattle.vbr_slots.specs.Views.{KeepsPool, knows};
+ghost use Rattle.vbr_slots.specs.WideWords.{wide_at};
 
 use crate::at_table::AtTable;
-use crate::stepping::place_of_link;
 use vbr_machine::Step;
 use vbr_words::{At, Nodes, Place};
 
@@ -23,17 +23,12 @@ impl<N: Nodes> AtTable<'_, N> {
         requires held { IsTrue (holds_at (knows (trace_of self.old)).checked holder) }
         ensures table { IsSameTable self.old self.new }
         ensures reads { Reads (LoadLink holder) (pass_of self.old) (pass_of self.new)
-            result.0 result.1 }
+            (wide_at self.old result.0) result.1 }
         ensures pool { KeepsPool (pass_of self.old) (pass_of self.new) }
     {
         let before = self.epoch();
         let (slots, stepper) = (self.slots, &mut *self.stepper);
-        slots.load_and_epoch(
-            stepper,
-            before,
-            Step::LoadLink { at: holder },
-            place_of_link(holder),
-        )
+        slots.load_at_and_epoch(stepper, before, Step::LoadLink { at: holder }, holder)
     }
 
     /// Loads the key of a held slot, and reads the epoch, in two steps: returns the key and
@@ -82,14 +77,15 @@ impl<N: Nodes> AtTable<'_, N> {
         requires held { IsTrue (holds (knows (trace_of self.old)).checked slot) }
         ensures table { IsSameTable self.old self.new }
         ensures reads { ReadsNode slot (pass_of self.old) (pass_of self.new)
-            result.0 result.1 result.2 }
+            result.0 (wide_at self.old result.1) result.2 }
         ensures pool { KeepsPool (pass_of self.old) (pass_of self.new) }
     {
         let before = self.epoch();
         let (slots, stepper) = (self.slots, &mut *self.stepper);
         let birth = slots.load(stepper, Step::LoadBirth { slot }, Place::Birth(slot));
-        let step = Step::LoadLink { at: At::Slot(slot) };
-        let (word, epoch) = slots.load_and_epoch(stepper, before, step, Place::LinkOf(slot));
+        let holder = At::Slot(slot);
+        let step = Step::LoadLink { at: holder };
+        let (word, epoch) = slots.load_at_and_epoch(stepper, before, step, holder);
         (birth, word, epoch)
     }
 }

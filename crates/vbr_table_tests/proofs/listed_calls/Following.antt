@@ -25,6 +25,7 @@ use Rattle.vbr_machine.proofs.Lemmas.{know_other, know_own, put_here}
 use Rattle.vbr_slots.specs.Expected.{Finds, FindsOther, Publishes, ReplacesNode}
 use Rattle.vbr_slots.specs.OwnSlots.{IsKnownStamp}
 use Rattle.vbr_slots.specs.Views.{Trace, PassView, TableView, Did, knows}
+use Rattle.vbr_slots.specs.WideWords.{wide_in}
 use Rattle.vbr_event_lists.specs.Worked.{others_of, names_link, AreWorked}
 use Rattle.vbr_table_tests.specs.Following.{KnowsAsInWorld, BothFollow, Learned}
 use Rattle.vbr_table_tests.proofs.running_table.OwnedSlots.{free_may_bear}
@@ -90,17 +91,6 @@ learned_exchange step p q expected (Ok x) effect none is did told =
 learned_exchange step p q expected (Err n) effect none is did told =
     learned step p q n effect none (told ∙ sym (is n ∙ lost n expected Won (Lost n) did.1)) did.0
 
--- what an exchange teaches that keeps the hand, made as a step that is equal to it
-pub learned_found : {T : Type 0} (made step : Step) (p q : PassView) (expected : ℕ) (answer : Result T ℕ)
-    (effect : Effect) → made ≡ step → ((w : World) → stamp_shown w step ≡ 0) →
-    ((n : ℕ) → effect_of step n ≡ exchanged expected n) → OnOk answer (Finds step p q expected) →
-    IfErr answer (FindsOther step p q expected) → MatchResult answer (λ _. effect ≡ Won) (λ n. effect ≡ Lost n) →
-    Learned made p.trace q.trace effect
-learned_found made step p q expected answer effect same none is found other told =
-    subst (λ (s : Step). Learned s p.trace q.trace effect) (sym same)
-    (learned_exchange step p.trace q.trace expected answer effect none is
-    (found_either step p q expected answer found other) told)
-
 pub learned_load : {T : Type 0} (step : Step) (p q : Trace) (expected : ℕ) (reply : Bool) (answer : Result T ℕ)
     (effect : Effect) → ((w : World) → stamp_shown w step ≡ 0) →
     ((n : ℕ) → effect_of step n ≡ confirmed reply expected n) → FoundEither T answer step p q expected →
@@ -109,6 +99,54 @@ learned_load step p q expected reply (Ok x) effect none is did told =
     learned step p q expected effect none (told ∙ sym (is expected ∙ won expected (Answered reply) (Lost expected))) did
 learned_load step p q expected reply (Err n) effect none is did told =
     learned step p q n effect none (told ∙ sym (is n ∙ lost n expected (Answered reply) (Lost n) did.1)) did.0
+
+-- ---- answers with the numbers of the words that they tell
+
+-- an answer with the number of the word that it tells, as the table keeps it
+abbrev pub numbered_in : {T : Type 0} → TableView → Result T ℕ → Result T ℕ
+numbered_in table (Ok x) = Ok x
+numbered_in table (Err n) = Err (wide_in table n)
+
+pub ok_numbered : {T : Type 0} (table : TableView) (answer : Result T ℕ) (P : Type 0) → OnOk answer P →
+    OnOk (numbered_in table answer) P
+ok_numbered table (Ok x) P told = told
+ok_numbered table (Err n) P told = tt
+
+pub err_numbered : {T : Type 0} (table : TableView) (answer : Result T ℕ) (P : ℕ → Type 0) →
+    IfErr answer (λ found. P (wide_in table found)) → IfErr (numbered_in table answer) P
+err_numbered table (Ok x) P told = tt
+err_numbered table (Err n) P told = told
+
+match_numbered : {T : Type 0} (table : TableView) (answer : Result T ℕ) (A : Type 0) (B : ℕ → Type 0) →
+    MatchResult answer (λ _. A) (λ found. B (wide_in table found)) →
+    MatchResult (numbered_in table answer) (λ _. A) B
+match_numbered table (Ok x) A B told = told
+match_numbered table (Err n) A B told = told
+
+-- a step that expects a link word, of which the table keeps this
+module _ {T : Type 0} (table : TableView) (step : ℕ → Step) (p q : PassView) (kept expected : ℕ) (answer : Result T ℕ)
+    (effect : Effect) (made : Step) (same : made ≡ step expected) (is : wide_in table kept ≡ expected)
+    (none : (n : ℕ) (w : World) → stamp_shown w (step n) ≡ 0)
+    (did : FoundEither T (numbered_in table answer) (step (wide_in table kept)) p.trace q.trace (wide_in table kept))
+  where
+    -- where it is an exchange
+    pub kept_exchange : ((m n : ℕ) → effect_of (step m) n ≡ exchanged m n) →
+        MatchResult answer (λ _. effect ≡ Won) (λ n. effect ≡ Lost (wide_in table n)) →
+        Learned made p.trace q.trace effect
+    kept_exchange effects told =
+        subst (λ (s : Step). Learned s p.trace q.trace effect) (ap step is ∙ sym same)
+        (learned_exchange (step (wide_in table kept)) p.trace q.trace (wide_in table kept) (numbered_in table answer)
+        effect
+        (none (wide_in table kept)) (effects (wide_in table kept)) did (match_numbered table answer _ _ told))
+
+    -- where it is a load
+    pub kept_load : (reply : Bool) → ((m n : ℕ) → effect_of (step m) n ≡ confirmed reply m n) →
+        MatchResult answer (λ _. effect ≡ Answered reply) (λ n. effect ≡ Lost (wide_in table n)) →
+        Learned made p.trace q.trace effect
+    kept_load reply effects told =
+        subst (λ (s : Step). Learned s p.trace q.trace effect) (ap step is ∙ sym same)
+        (learned_load (step (wide_in table kept)) p.trace q.trace (wide_in table kept) reply (numbered_in table answer)
+        effect (none (wide_in table kept)) (effects (wide_in table kept)) did (match_numbered table answer _ _ told))
 
 -- a slot that was taken had the stamp that was loaded then
 taken_with : (s : ℕ) (p q t : Trace) (n r : ℕ) → Did (TakeFlag s) p q n → has_flag n s ≡ true →

@@ -9,6 +9,7 @@ use Rattle.vbr_slots.specs.Views.{IsOf, PassView, TableView, Trace}
 use Rattle.vbr_at_table.specs.Answering.{FindsAnother}
 use Rattle.vbr_at_table.specs.Exchanges.{GivesBack, StoresIn}
 use Rattle.vbr_at_table.specs.Hands.{HandView, IsHandOf}
+use Rattle.vbr_at_table.specs.Held.{said_marked, said_rollback}
 use Rattle.vbr_at_table.specs.KeptKnowledge.{KeepsOwn}
 use Rattle.vbr_at_table.specs.Replacing.{IsReplaceable, ReplacesHeld}
 use Rattle.vbr_at_table.specs.Values.{AnswersEntry, steps_to_update, steps_to_value}
@@ -34,8 +35,10 @@ four {p} {q} has stores =
 
 -- a pass is its table's once it has replaced a node or has lost that
 pub own_replaced : (p q : PassView) {t : TableView} (hand : HandView) (value : ℕ) (node : Held)
-    (r : Result Marked (HandView × Rollback)) → IfOk r (ReplacesHeld p q node 7 value) →
-    IfErr r (GivesBack p q node hand) → IsReplaceable p.trace node 7 0 → IsOf p.trace t → IsOf q.trace t
+    (r : Result Marked (HandView × Rollback)) →
+    IfOk r (λ marked. ReplacesHeld p q node 7 value (said_marked t marked)) →
+    IfErr r (λ back. GivesBack p q node hand (back.0, said_rollback t back.1)) → IsReplaceable p.trace node 7 0 →
+    IsOf p.trace t → IsOf q.trace t
 own_replaced p q hand value node (Ok marked) replaced lost is own =
     let old = is.valued is.has_values in
     of_on (replaced.made old.0 old.1).same own
@@ -43,8 +46,8 @@ own_replaced p q hand value node (Err back) replaced lost is own = of_on lost.ex
 
 -- and once it has answered a get by it, or has lost that
 pub own_told : (p q : Trace) {t : TableView} (node : Held) (r : Result (Unit {0}) Rollback) →
-    OnOk r (AnswersEntry p q Get node) → IfErr r (FindsAnother p q node) → IsReplaceable p node 7 0 → IsOf p t →
-    IsOf q t
+    OnOk r (AnswersEntry p q Get node) → IfErr r (λ why. FindsAnother p q node (said_rollback t why)) →
+    IsReplaceable p node 7 0 → IsOf p t → IsOf q t
 own_told p q node (Ok done) answers lost is own =
     let old = is.valued is.has_values in
     of_on (answers.answers 7 old.0 is.key_is (λ _. old.1)).made.same own

@@ -3,7 +3,6 @@
 use Rattle.std.proofs.Common.{◌≡◌, ℕ, refl, sym, subst, arith}
 use Rattle.std.specs.Prelude.{Bool, true, false, Result, Ok, Err, IfOk, IfErr}
 use Rattle.vbr_machine.specs.Start.{Start}
-use Rattle.vbr_words.specs.Words.{link_of}
 use Rattle.vbr_words.specs.declared.place.At.{At}
 use Rattle.vbr_words.specs.declared.place.At.TheVariants.{Head}
 use Rattle.vbr_words.specs.Buckets.{bucket_of}
@@ -13,7 +12,7 @@ use Rattle.vbr_machine.specs.Membership.{StandsBehind}
 use Rattle.vbr_slots.specs.Views.{IsOf, TableView, Trace, knows}
 use Rattle.vbr_at_table.specs.Answering.{IsPresent}
 use Rattle.vbr_at_table.specs.Exchanges.{LosesExchange}
-use Rattle.vbr_at_table.specs.Held.{IsHeld}
+use Rattle.vbr_at_table.specs.Held.{IsHeld, said_marked, said_rollback}
 use Rattle.vbr_at_table.specs.KeptKnowledge.{Keeps}
 use Rattle.vbr_at_table.specs.Values.{IsValued, MarksEntry, ValueAt}
 use Rattle.vbr_at_table.specs.declared.held.Held.{Held}
@@ -38,11 +37,6 @@ pub behind_head : (start : Start) (know : Know) (place : At) (key : ℕ) → pla
 behind_head start know place key head one =
     let P : At → Type 0 = λ place. StandsBehind start know place key in subst P (sym head) (in_bucket start key one)
 
--- the link word 33554432 isn't marked
-pub is_unmarked : (word : ℕ) → word ≡ 33554432 → (link_of word).mark ≡ false
-unfolding link_of
-is_unmarked word is = rw is refl
-
 -- ---- a node whose value was read, where nodes have values
 
 -- what is known where a flag is up is known of some number
@@ -61,7 +55,8 @@ present_kept node keeps is =
 
 -- a pass is its table's once it has marked the node, or has lost that
 pub own_marked : (p q : Trace) {t : TableView} (node : Held) (r : Result Marked Rollback) →
-    IfOk r (MarksEntry p q node) → IfErr r (LosesExchange p q node) → IsPresent (knows p) node → IsValued p node.at →
+    IfOk r (λ marked. MarksEntry p q node (said_marked t marked)) →
+    IfErr r (λ why. LosesExchange p q node (said_rollback t why)) → IsPresent (knows p) node → IsValued p node.at →
     IsOf p t → IsOf q t
 own_marked p q node (Ok marked) removed lost is valued own =
     let P : ℕ → Type 0 = λ value. ValueAt (knows p) node.at value in

@@ -1,8 +1,13 @@
 -- What a pass knows of its epoch and of the slot in its hand, through the steps of a test.
-use Rattle.std.proofs.Common.{◌≡◌, ℕ, Option, Some, None, cond, refl, sym, ap, ◌∙◌, subst}
+use Rattle.std.proofs.Common.{◌≡◌, ℕ, ◌^◌, ◌≤◌, false, Option, Some, None, cond, refl, sym, ap, ◌∙◌, subst, arith}
 use Rattle.std.specs.Prelude.{Bool, true, is_ok, IsSome, List, Result, Ok, Err, unwrap_or}
+use Rattle.std.proofs.Math.Nat.{pow-le-pow_right}
 use Rattle.vbr_words.specs.Flags.{has_flag}
 use Rattle.vbr_words.specs.Words.{link_of, word_of}
+use Rattle.vbr_words.specs.Packing.{IsPackable}
+use Rattle.vbr_words.specs.declared.link.Link.{Link}
+use Rattle.vbr_words.specs.declared.link.TheConstants.{SLOT_BITS}
+use Rattle.vbr_words.proofs.Lemmas.{has_room, some_version}
 use Rattle.vbr_machine.specs.Links.{link_to}
 use Rattle.vbr_machine.specs.Acceptance.{MayBear}
 use Rattle.vbr_machine.specs.Knowledge.{Know, birth_of}
@@ -85,18 +90,26 @@ valued_birth p q s value r d =
     ap birth_in_hand (ap (λ (k : Know). k.own s) d.know ∙ put_here (knows p).own s _)
     ∙ birth_kept (λ h. with_value h value) refl (λ n. refl) (λ b. refl) (λ k. refl) ((knows p).own s)
 
--- ---- the link word 33554432: to none, with version 1
+-- ---- the word of the link to none, with version 1, where so many bits name a slot
 
-pub names_none : (link_of 33554432).slot ≡ None
-unfolding link_of
+abbrev pub to_none : Link
+to_none = record { slot = None; mark = false; version = 1 }
+
+power_up : (i j : ℕ) → i ≤ j → 2 ^ i ≤ 2 ^ j
+power_up i j le = pow-le-pow_right (omega arith) le
+
+-- it has room
+pub none_has_room : (bits : ℕ) → bits ≤ SLOT_BITS → IsPackable bits (word_of to_none)
+none_has_room bits few =
+    let some : 2 ^ 0 ≤ 2 ^ bits = power_up 0 bits (omega arith) in
+    has_room bits few to_none (omega (arith, some)) (some_version bits few)
+
+pub names_none : (link_of (word_of to_none)).slot ≡ None
+unfolding link_of word_of
 names_none = refl
 
-to_none : (checked : List Read) → 33554432 ≡ word_of (link_to None 1 (unwrap_or (birth_of checked None) 0))
-unfolding word_of
-to_none checked = refl
-
 pub is_word : (checked : List Read) (slot : Option ℕ) (birth : ℕ) → slot ≡ None → birth ≡ 1 →
-    33554432 ≡ word_of (link_to slot birth (unwrap_or (birth_of checked slot) 0))
+    word_of to_none ≡ word_of (link_to slot birth (unwrap_or (birth_of checked slot) 0))
 is_word checked slot birth none one =
-    subst (λ (x : Option ℕ × ℕ). 33554432 ≡ word_of (link_to x.0 x.1 (unwrap_or (birth_of checked x.0) 0)))
-    (λ i. (sym none i, sym one i)) (to_none checked)
+    subst (λ (x : Option ℕ × ℕ). word_of to_none ≡ word_of (link_to x.0 x.1 (unwrap_or (birth_of checked x.0) 0)))
+    (λ i. (sym none i, sym one i)) refl

@@ -12,13 +12,14 @@ ghost use Rattle.vbr_world.specs.KeptSteps.{IsAcceptedIn, IsRefusedIn, found_in}
 use crate::world::lists::Lists;
 use crate::world::steps::{is_below_last, is_in_shape, succeeds};
 use vbr_machine::{Call, CoreRefusal, Event, Step};
-use vbr_words::shape::MAX_EPOCH;
+use vbr_words::WideWord;
+use vbr_words::link::MAX_VERSION;
 
 impl Lists {
     // Accepts an event, or says why not. It takes no memory.
-    pub(super) fn check(&self, event: Event) -> Result<(), CoreRefusal>
-        ensures accepted { OnOk result (IsAcceptedIn self.now event) }
-        ensures refused { IfErr result (IsRefusedIn self.now event) }
+    pub(super) fn check(&self, event: &Event) -> Result<(), CoreRefusal>
+        ensures accepted { OnOk result (IsAcceptedIn self.now event.now) }
+        ensures refused { IfErr result (IsRefusedIn self.now event.now) }
         ensures memory { IfErr result (λ why. why ≢ CoreRefusal.NoMemory) }
     {
         if event.pass as usize >= self.passes.len() {
@@ -45,23 +46,23 @@ impl Lists {
 
     // The word of the link that an accepted step writes. The words have room for what the step
     // writes where it succeeds: a birth is an epoch that the pass has read.
-    pub(super) fn link_written(&self, event: Event) -> u64
-        requires { IsAcceptedIn self.now event }
+    pub(super) fn link_written(&self, event: &Event) -> WideWord
+        requires { IsAcceptedIn self.now event.now }
         ensures link { link_of result
-            ≡ link_written ((world_of self.now).know event.pass) event.step }
-        ensures room { succeeds event.step (found_in self.now event.step) ≡ true →
-            WordsHaveRoom self.now.start self.now.epoch event.step }
+            ≡ link_written ((world_of self.now).know event.now.pass) event.now.step }
+        ensures room { succeeds event.now.step (found_in self.now event.now.step) ≡ true →
+            WordsHaveRoom self.now.start self.now.epoch event.now.step }
     {
         let pass = &self.passes[event.pass as usize];
-        prove!(pass.epoch() <= MAX_EPOCH);
+        prove!(pass.epoch() <= MAX_VERSION);
         pass.link_written(&self.start, event.step)
     }
 
     // The key of the slot that a step links.
-    pub(super) fn key_written(&self, event: Event) -> u64
-        requires pass { event.pass < length self.now.passes }
-        requires in_shape { IsInShape self.now.start event.step }
-        ensures { result ≡ key_written ((world_of self.now).know event.pass) event.step }
+    pub(super) fn key_written(&self, event: &Event) -> u64
+        requires pass { event.now.pass < length self.now.passes }
+        requires in_shape { IsInShape self.now.start event.now.step }
+        ensures { result ≡ key_written ((world_of self.now).know event.now.pass) event.now.step }
     {
         match event.step {
             Step::Publish { slot, .. } => {
@@ -77,13 +78,14 @@ impl Lists {
     }
 
     // The call that a pass makes with a step ahead of its own, if it makes one.
-    pub(super) fn ahead_made(&self, event: Event, found: u64) -> Option<Call>
-        requires pass { event.pass < length self.now.passes }
-        requires found { found ≡ found_in self.now event.step }
-        ensures { result ≡ ahead_made self.now.start (world_of self.now) event.pass event.step }
+    pub(super) fn ahead_made(&self, event: &Event, found: u128) -> Option<Call>
+        requires pass { event.now.pass < length self.now.passes }
+        requires found { found ≡ found_in self.now event.now.step }
+        ensures { result ≡ ahead_made self.now.start (world_of self.now) event.now.pass
+            event.now.step }
     {
         match event.step {
-            Step::Replace { expected, .. } if found == expected => {
+            Step::Replace { .. } if succeeds(event.step, found) => {
                 let pass = &self.passes[event.pass as usize];
                 pass.call_ahead(event.pass, &self.start, event.step)
             }
@@ -92,11 +94,12 @@ impl Lists {
     }
 
     // The call that a pass makes with a step, if it makes one.
-    pub(super) fn call_made(&self, event: Event, found: u64) -> Option<Call>
-        requires pass { event.pass < length self.now.passes }
-        requires in_shape { IsInShape self.now.start event.step }
-        requires found { found ≡ found_in self.now event.step }
-        ensures { result ≡ call_made self.now.start (world_of self.now) event.pass event.step }
+    pub(super) fn call_made(&self, event: &Event, found: u128) -> Option<Call>
+        requires pass { event.now.pass < length self.now.passes }
+        requires in_shape { IsInShape self.now.start event.now.step }
+        requires found { found ≡ found_in self.now event.now.step }
+        ensures { result ≡ call_made self.now.start (world_of self.now) event.now.pass
+            event.now.step }
     {
         if succeeds(event.step, found) {
             let pass = &self.passes[event.pass as usize];

@@ -1,7 +1,7 @@
 // What a pass knows of one slot: the tests that steps make of it, and what steps make of it.
 ghost use Rattle.std.specs.Prelude.{◌≡◌, ◌≤◌, ◌↔◌, IsTrue, map};
 ghost use Rattle.vbr_words.specs.Words.{IsLink};
-ghost use Rattle.vbr_words.specs.declared.shape.TheConstants.{MAX_EPOCH};
+ghost use Rattle.vbr_words.specs.declared.link.TheConstants.{MAX_VERSION};
 ghost use Rattle.vbr_machine.specs.Acceptance.{IsUnlinked, MayBear, IsInHand, IsReread, stamp_in};
 ghost use Rattle.vbr_machine.specs.Learning.{newborn, birth_in_hand, key_in_hand, value_in_hand, link_in_hand, with_key, with_value, with_link, reread};
 ghost use Rattle.vbr_machine.specs.Links.{opening_link};
@@ -52,7 +52,7 @@ pub fn stamp_in(holding: Option<Holding>) -> u64
 // The birth of a slot in hand; 0 of another.
 pub fn birth_in_hand(holding: Option<Holding>) -> u64
     ensures birth { result ≡ birth_in_hand holding }
-    ensures fits { FitsHolding holding → result ≤ MAX_EPOCH }
+    ensures fits { FitsHolding holding → result ≤ MAX_VERSION }
 {
     match holding {
         Some(Holding::InHand(known)) => known.birth,

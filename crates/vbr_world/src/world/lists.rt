@@ -5,23 +5,24 @@ ghost use Rattle.vbr_words.specs.Places.{IsIn};
 ghost use Rattle.vbr_machine.specs.Machine as machine;
 ghost use Rattle.vbr_world.specs.WorldInLists.{world_of};
 ghost use Rattle.vbr_world.specs.KeptSteps.{IsMade, RefusesEvent, KeepsStart};
+ghost use Rattle.vbr_world.specs.KeptLearning.{FitsAt};
 
+use crate::world::numbers::number_of;
 use crate::world::passes::PassState;
 use crate::world::start::Start;
 use crate::world::steps::{effect_of, place_of_step, succeeds};
 use std::marker::Model;
 use vbr_machine::{Call, CoreRefusal, Effect, Event, SlotPlace};
-use vbr_words::Place;
 use vbr_words::flags::FLAGS;
-use vbr_words::link::MARK;
+use vbr_words::{Place, WideWord};
 
 // The words and places of a set, what each of its passes knows, and the calls that were answered.
 #[derive(Drop)]
 pub struct Lists {
     pub(super) start: Start,
     pub(super) epoch: u64,
-    pub(super) heads: Vec<u64>,
-    pub(super) links: Vec<u64>,
+    pub(super) heads: Vec<WideWord>,
+    pub(super) links: Vec<WideWord>,
     pub(super) birth: Vec<u64>,
     pub(super) stamps: Vec<u64>,
     pub(super) keys: Vec<u64>,
@@ -46,9 +47,9 @@ impl Model for Lists {
 impl Lists {
     // One step: the tests, then the pass learns, and a step that isn't lost writes. Where a step is
     // refused, nothing changes.
-    pub(super) fn step(&mut self, event: Event) -> Result<Effect, CoreRefusal>
-        ensures made { IfOk result (IsMade self.old self.new event) }
-        ensures refused { IfErr result (RefusesEvent self.old self.new event) }
+    pub(super) fn step(&mut self, event: &Event) -> Result<Effect, CoreRefusal>
+        ensures made { IfOk result (IsMade self.old self.new event.now) }
+        ensures refused { IfErr result (RefusesEvent self.old self.new event.now) }
         ensures stays { KeepsStart self.old self.new }
     {
         self.check(event)?;
@@ -72,20 +73,21 @@ impl Lists {
     }
 
     // The word at a place of the shape.
-    pub(super) fn word(&self, place: Place) -> u64
+    pub(super) fn word(&self, place: Place) -> u128
         requires { IsIn self.now.start.shape place }
-        ensures { result ≡ machine.word_at self.now.start (world_of self.now) place }
+        ensures word { result ≡ machine.word_at self.now.start (world_of self.now) place }
+        ensures room { FitsAt place result }
     {
         match place {
-            Place::Epoch => self.epoch,
-            Place::ShapeWord => u64::from(self.start.slots()) + MARK * self.start.last_epoch(),
-            Place::Head(bucket) => self.heads[bucket as usize],
-            Place::LinkOf(slot) => self.links[slot as usize],
-            Place::Birth(slot) => self.birth[slot as usize],
-            Place::Stamp(slot) => self.stamps[slot as usize],
-            Place::Key(slot) => self.keys[slot as usize],
-            Place::Value(slot) => self.values[slot as usize],
-            Place::Flags(number) => self.flags(number),
+            Place::Epoch => u128::from(self.epoch),
+            Place::ShapeWord => u128::from(self.start.shape_word()),
+            Place::Head(bucket) => number_of(self.heads[bucket as usize]),
+            Place::LinkOf(slot) => number_of(self.links[slot as usize]),
+            Place::Birth(slot) => u128::from(self.birth[slot as usize]),
+            Place::Stamp(slot) => u128::from(self.stamps[slot as usize]),
+            Place::Key(slot) => u128::from(self.keys[slot as usize]),
+            Place::Value(slot) => u128::from(self.values[slot as usize]),
+            Place::Flags(number) => u128::from(self.flags(number)),
         }
     }
 

@@ -9,13 +9,14 @@ ghost use Rattle.vbr_world.specs.WorldInLists.{world_of};
 ghost use Rattle.vbr_world.specs.KeptOpenings.{IsBare, IsNewPass, IsOpening};
 ghost use Rattle.vbr_world.specs.KeptWrites.{Writes};
 
+use crate::world::holdings::opening_link;
 use crate::world::lists::Lists;
 use crate::world::passes::{PassState, link_to};
 use crate::world::start::Start;
 use std::alloc::{AllocError, Global};
 use vbr_machine::SlotPlace;
-use vbr_words::link::{MARK, MAX_SLOTS};
-use vbr_words::{At, Link, Shape, decode, encode};
+use vbr_words::link::MAX_SLOTS;
+use vbr_words::{At, Link, Shape, WideWord};
 
 impl Lists {
     // The world that opens with these keys, and their values where nodes have values: they are
@@ -49,8 +50,10 @@ impl Lists {
     {
         let buckets = start.buckets() as usize;
         let slots = start.slots() as usize;
-        let heads = vec![in alloc; 0; buckets]?;
-        let links = vec![in alloc; MARK; slots]?;
+        let none = WideWord::of(link_to(None, 0, 0));
+        let blank = WideWord::of(opening_link());
+        let heads = vec![in alloc; none; buckets]?;
+        let links = vec![in alloc; blank; slots]?;
         let birth = vec![in alloc; 0; slots]?;
         let stamps = vec![in alloc; 0; slots]?;
         let keys = vec![in alloc; 0; slots]?;
@@ -84,8 +87,8 @@ impl Lists {
         let head = self.head(bucket);
         let link = link_to(head.slot, 1, head.version);
         let first = link_to(Some(number), 0, 1);
-        self.put_link(At::Slot(number), encode(link));
-        self.put_link(At::Head(bucket), encode(first));
+        self.put_link(At::Slot(number), WideWord::of(link));
+        self.put_link(At::Head(bucket), WideWord::of(first));
         self.store_birth(number, 1);
         self.store_key(number, key);
         self.store_value(number, value);
@@ -98,7 +101,7 @@ impl Lists {
         ensures head { result ≡ (world_of self.now).head bucket }
         ensures fits { IsLink result }
     {
-        decode(self.heads[bucket as usize])
+        self.heads[bucket as usize].link()
     }
 }
 

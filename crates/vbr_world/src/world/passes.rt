@@ -1,8 +1,7 @@
 // What the world keeps of a pass, the tests that a step asks for, and what a pass writes.
 ghost use Rattle.std.specs.Prelude.{◌≡◌, ◌<◌, ◌≤◌, ◌↔◌, length, slice_index_or, unwrap_or, Some, None, IsSome, IsTrue, IfOk, IfSome};
 ghost use Rattle.vbr_words.specs.Words.{IsLink, word_of, link_of};
-ghost use Rattle.vbr_words.specs.declared.link.TheConstants.{MAX_SLOTS};
-ghost use Rattle.vbr_words.specs.declared.shape.TheConstants.{MAX_EPOCH};
+ghost use Rattle.vbr_words.specs.declared.link.TheConstants.{MAX_SLOTS, MAX_VERSION};
 ghost use Rattle.vbr_machine.specs.Links.{link_to, marked};
 ghost use Rattle.vbr_machine.specs.Knowledge.{knows_link, marked_in, birth_in, birth_at, birth_of, key_in, value_in};
 ghost use Rattle.vbr_machine.specs.Acceptance.{IsInShape, IsOwned, HasChecked, IsInRange, Accepts, KnowsKeyAt, KnowsKeyOf, LeadsToKey, HasValue, HasValueFor, stamp_in, MayPublish, MayReplace, IsBehind, IsBefore, LeadsAbove, next_of_marked};
@@ -20,7 +19,7 @@ use std::alloc::{AllocError, Global};
 use std::marker::Model;
 use vbr_machine::{Call, Holding, Op, Read, Step, Unpublished};
 use vbr_words::link::MAX_SLOTS;
-use vbr_words::{At, Link, decode, encode, version_of};
+use vbr_words::{At, Link, WideWord, version_of};
 
 /// What the world keeps of a pass.
 #[derive(Drop)]
@@ -45,8 +44,8 @@ impl Model for PassState {
 // The unmarked link to a slot or to none.
 pub fn link_to(next: Option<u32>, holder_birth: u64, named_birth: u64) -> Link
     requires next { IfSome next (λ slot. slot < MAX_SLOTS) }
-    requires holder { holder_birth ≤ MAX_EPOCH }
-    requires named { named_birth ≤ MAX_EPOCH }
+    requires holder { holder_birth ≤ MAX_VERSION }
+    requires named { named_birth ≤ MAX_VERSION }
     ensures link { result ≡ link_to next holder_birth named_birth }
     ensures fits { IsLink result }
 {
@@ -83,7 +82,7 @@ impl PassState {
     // The epoch that the pass read last.
     pub fn epoch(&self) -> u64
         ensures epoch { result ≡ self.now.epoch }
-        ensures fits { result ≤ MAX_EPOCH }
+        ensures fits { result ≤ MAX_VERSION }
     {
         self.epoch
     }
@@ -100,7 +99,7 @@ impl PassState {
     // The birth at a place, if it is checked; otherwise 0.
     fn birth_at(&self, place: At) -> u64
         ensures birth { result ≡ unwrap_or (birth_at self.now.checked place) 0 }
-        ensures fits { result ≤ MAX_EPOCH }
+        ensures fits { result ≤ MAX_VERSION }
     {
         reads::birth_at(&self.checked, place).unwrap_or(0)
     }
@@ -108,7 +107,7 @@ impl PassState {
     // The birth of what a link names, if it is checked; otherwise 0.
     fn birth_of(&self, next: Option<u32>) -> u64
         ensures birth { result ≡ unwrap_or (birth_of self.now.checked next) 0 }
-        ensures fits { result ≤ MAX_EPOCH }
+        ensures fits { result ≤ MAX_VERSION }
     {
         reads::birth_of(&self.checked, next).unwrap_or(0)
     }
@@ -143,12 +142,12 @@ impl PassState {
     }
 
     // Whether the link that a node was read with and its key are checked.
-    fn holds_node(&self, slot: u32, expected: u64) -> bool
+    fn holds_node(&self, slot: u32, expected: WideWord) -> bool
         ensures { IsTrue result
             ↔ (IsTrue (knows_link self.now.checked (At.Slot slot) (link_of expected))
             × IsSome (key_in self.now.checked slot)) }
     {
-        reads::knows_link(&self.checked, At::Slot(slot), decode(expected))
+        reads::knows_link(&self.checked, At::Slot(slot), expected.link())
             && reads::key_in(&self.checked, slot).is_some()
     }
 
@@ -170,7 +169,7 @@ impl PassState {
     }
 
     // Whether the link that a node was read with, and its birth, its key and its value, are checked.
-    fn holds_whole(&self, slot: u32, expected: u64) -> bool
+    fn holds_whole(&self, slot: u32, expected: WideWord) -> bool
         ensures { IsTrue result
             ↔ (IsTrue (knows_link self.now.checked (At.Slot slot) (link_of expected))
             × (IsSome (birth_in self.now.checked slot) × IsSome (key_in self.now.checked slot)
@@ -182,13 +181,13 @@ impl PassState {
     }
 
     // Whether the link that a place was read with, and the keys on both sides, are checked.
-    fn holds_gap(&self, place: At, expected: u64) -> bool
+    fn holds_gap(&self, place: At, expected: WideWord) -> bool
         ensures { IsTrue result
             ↔ (IsTrue (knows_link self.now.checked place (link_of expected))
             × KnowsKeyAt self.now.checked place
             × KnowsKeyOf self.now.checked (link_of expected).slot) }
     {
-        let link = decode(expected);
+        let link = expected.link();
         reads::knows_link(&self.checked, place, link)
             && reads::knows_key_at(&self.checked, place)
             && reads::knows_key_of(&self.checked, link.slot)
@@ -196,13 +195,13 @@ impl PassState {
 
     // Whether the link that a place was read with and the key there are checked, and marked links
     // lead on from it to a checked key, or to none.
-    fn holds_way(&self, start: &Start, place: At, expected: u64) -> bool
+    fn holds_way(&self, start: &Start, place: At, expected: WideWord) -> bool
         ensures { IsTrue result
             ↔ (IsTrue (knows_link self.now.checked place (link_of expected))
             × KnowsKeyAt self.now.checked place
             × LeadsToKey start.now.shape.slots self.now.checked (link_of expected).slot) }
     {
-        let link = decode(expected);
+        let link = expected.link();
         reads::knows_link(&self.checked, place, link)
             && reads::knows_key_at(&self.checked, place)
             && reads::leads_to_key(&self.checked, start.slots(), link.slot)
@@ -218,12 +217,12 @@ impl PassState {
     }
 
     // Whether the link that a place was read with, and a marked link of a slot, are checked.
-    fn holds_removed(&self, pred: At, expected: u64, slot: u32) -> bool
+    fn holds_removed(&self, pred: At, expected: WideWord, slot: u32) -> bool
         ensures { IsTrue result
             ↔ (IsTrue (knows_link self.now.checked pred (link_of expected))
             × IsSome (marked_in self.now.checked slot)) }
     {
-        reads::knows_link(&self.checked, pred, decode(expected))
+        reads::knows_link(&self.checked, pred, expected.link())
             && reads::marked_in(&self.checked, slot).is_some()
     }
 
@@ -238,14 +237,14 @@ impl PassState {
                 reads::holds(&self.checked, slot)
             }
             Step::Publish { pred, expected, .. } => {
-                self.holds_gap(pred, expected) && self.holds_births(pred, decode(expected).slot)
+                self.holds_gap(pred, expected) && self.holds_births(pred, expected.link().slot)
             }
             Step::Mark { slot, expected } => {
                 self.holds_node(slot, expected) && self.holds_value(start, slot)
             }
             Step::Replace { slot, expected, .. } => {
                 self.holds_whole(slot, expected)
-                    && reads::birth_of(&self.checked, decode(expected).slot).is_some()
+                    && reads::birth_of(&self.checked, expected.link().slot).is_some()
             }
             Step::Unlink {
                 pred,
@@ -351,24 +350,24 @@ impl PassState {
                 expected,
                 slot,
             } => {
-                let link = decode(expected);
+                let link = expected.link();
                 !link.mark && self.is_ready(start, pred, link, slot)
             }
-            Step::Mark { expected, .. } => !decode(expected).mark,
+            Step::Mark { expected, .. } => !expected.link().mark,
             Step::Replace {
                 slot,
                 expected,
                 new,
             } => {
-                let link = decode(expected);
+                let link = expected.link();
                 !link.mark && self.is_ready_in_place(start, slot, link, self.holding(new))
             }
             Step::Unlink { expected, slot, .. } => {
-                let link = decode(expected);
+                let link = expected.link();
                 !link.mark && link.slot == Some(slot)
             }
             Step::ConfirmPresent { op, expected, .. } => {
-                !decode(expected).mark && op != Op::Remove
+                !expected.link().mark && op != Op::Remove
             }
             Step::ConfirmAbsent {
                 op,
@@ -376,7 +375,7 @@ impl PassState {
                 at: place,
                 expected,
             } => {
-                let link = decode(expected);
+                let link = expected.link();
                 !link.mark && op != Op::Insert && self.is_on_way(start, place, key, link.slot)
             }
             _ => true,
@@ -400,7 +399,7 @@ impl PassState {
                 let birth = holdings::birth_in_hand(self.holding(slot));
                 link_to(Some(slot), self.birth_at(pred), birth)
             }
-            Step::Mark { expected, .. } => marked(decode(expected)),
+            Step::Mark { expected, .. } => marked(expected.link()),
             Step::Replace { slot, new, .. } => {
                 let birth = holdings::birth_in_hand(self.holding(new));
                 marked(link_to(Some(new), self.birth_at(At::Slot(slot)), birth))
@@ -414,13 +413,13 @@ impl PassState {
     }
 
     // The word of the link that the step writes.
-    pub fn link_written(&self, start: &Start, step: Step) -> u64
+    pub fn link_written(&self, start: &Start, step: Step) -> WideWord
         requires slots { length self.now.own ≡ start.now.shape.slots }
         requires accepted { Accepts start.now (know_of self.now) step }
         ensures word { result ≡ word_of (link_written (know_of self.now) step) }
         ensures fits { IsLink (link_written (know_of self.now) step) }
     {
-        encode(self.new_link(start, step))
+        WideWord::of(self.new_link(start, step))
     }
 
     // The key of a slot in hand; 0 where there is none.

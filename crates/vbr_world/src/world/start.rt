@@ -2,11 +2,13 @@
 ghost use Rattle.std.specs.Prelude.{◌≡◌, ◌<◌, ◌≤◌, ◌%◌, length, IfOk, if◌then◌else◌};
 ghost use Rattle.std.specs.List.Sorted.{IsStrictlyIncreasing};
 ghost use Rattle.vbr_words.specs.Buckets.{bucket_of};
+ghost use Rattle.vbr_machine.specs.Machine.{shape_word};
 ghost use Rattle.vbr_machine.specs.Start.{ArePaired, IsStart, start_with};
 
 use std::alloc::{AllocError, Global};
 use std::marker::Model;
 use vbr_words::Shape;
+use vbr_words::shape::shape_word;
 
 // A shape, and the keys that a world of it opens with, with their values where nodes have values.
 #[derive(Drop)]
@@ -75,6 +77,13 @@ impl Start {
         ensures start { IsStart self.now }
     {
         self.shape.last_epoch()
+    }
+
+    // The word that says what the shape is.
+    pub fn shape_word(&self) -> u64
+        ensures { result ≡ shape_word self.now }
+    {
+        shape_word(&self.shape)
     }
 
     // Whether nodes have values.

@@ -6,9 +6,10 @@ ghost use Rattle.vbr_machine.specs.Learning.{present_reply, effect_of, succeeds}
 ghost use Rattle.vbr_machine.specs.Machine.{place_of_step};
 ghost use Rattle.vbr_machine.specs.Making.{exchanged, taken, confirmed};
 
+use crate::world::numbers::{has_flag, number_of};
 use crate::world::start::Start;
 use vbr_machine::{Effect, Op, Step};
-use vbr_words::flags::{has_flag, word_of_flag};
+use vbr_words::flags::word_of_flag;
 use vbr_words::{At, Place};
 
 // Whether a place of a link word is one of the shape.
@@ -112,24 +113,24 @@ pub fn place_of_step(step: Step) -> Place
 }
 
 // Whether a step succeeds that found this word.
-pub fn succeeds(step: Step, found: u64) -> bool
+pub fn succeeds(step: Step, found: u128) -> bool
     ensures { result ≡ succeeds step found }
 {
     match step {
-        Step::Advance { from } => found == from,
+        Step::Advance { from } => found == u128::from(from),
         Step::TakeFlag { slot } => has_flag(found, slot),
-        Step::Publish { expected, .. } => found == expected,
-        Step::Mark { expected, .. } => found == expected,
-        Step::Replace { expected, .. } => found == expected,
-        Step::Unlink { expected, .. } => found == expected,
-        Step::ConfirmPresent { expected, .. } => found == expected,
-        Step::ConfirmAbsent { expected, .. } => found == expected,
+        Step::Publish { expected, .. } => found == number_of(expected),
+        Step::Mark { expected, .. } => found == number_of(expected),
+        Step::Replace { expected, .. } => found == number_of(expected),
+        Step::Unlink { expected, .. } => found == number_of(expected),
+        Step::ConfirmPresent { expected, .. } => found == number_of(expected),
+        Step::ConfirmAbsent { expected, .. } => found == number_of(expected),
         _ => true,
     }
 }
 
 // The answer of an exchange.
-fn exchanged(expected: u64, found: u64) -> Effect
+fn exchanged(expected: u128, found: u128) -> Effect
     ensures { result ≡ exchanged expected found }
 {
     if found == expected {
@@ -140,7 +141,7 @@ fn exchanged(expected: u64, found: u64) -> Effect
 }
 
 // The answer of a step that takes the flag of a slot.
-fn taken(slot: u32, found: u64) -> Effect
+fn taken(slot: u32, found: u128) -> Effect
     ensures { result ≡ taken slot found }
 {
     if has_flag(found, slot) {
@@ -151,7 +152,7 @@ fn taken(slot: u32, found: u64) -> Effect
 }
 
 // The answer of a confirming load.
-fn confirmed(reply: bool, expected: u64, found: u64) -> Effect
+fn confirmed(reply: bool, expected: u128, found: u128) -> Effect
     ensures { result ≡ confirmed reply expected found }
 {
     if found == expected {
@@ -172,20 +173,22 @@ pub fn present_reply(op: Op) -> bool
 }
 
 // The effect of a step, from the word that it found.
-pub fn effect_of(step: Step, found: u64) -> Effect
+pub fn effect_of(step: Step, found: u128) -> Effect
     ensures { result ≡ effect_of step found }
 {
     match step {
-        Step::Advance { from } => exchanged(from, found),
+        Step::Advance { from } => exchanged(u128::from(from), found),
         Step::StoreStamp { .. } | Step::Raise { .. } | Step::StoreBirth { .. } => Effect::Done,
         Step::StoreKey { .. } | Step::StoreValue { .. } | Step::StoreLink { .. } => Effect::Done,
         Step::TakeFlag { slot } => taken(slot, found),
-        Step::Publish { expected, .. } => exchanged(expected, found),
-        Step::Mark { expected, .. } => exchanged(expected, found),
-        Step::Replace { expected, .. } => exchanged(expected, found),
-        Step::Unlink { expected, .. } => exchanged(expected, found),
-        Step::ConfirmPresent { op, expected, .. } => confirmed(present_reply(op), expected, found),
-        Step::ConfirmAbsent { expected, .. } => confirmed(false, expected, found),
+        Step::Publish { expected, .. } => exchanged(number_of(expected), found),
+        Step::Mark { expected, .. } => exchanged(number_of(expected), found),
+        Step::Replace { expected, .. } => exchanged(number_of(expected), found),
+        Step::Unlink { expected, .. } => exchanged(number_of(expected), found),
+        Step::ConfirmPresent { op, expected, .. } => {
+            confirmed(present_reply(op), number_of(expected), found)
+        }
+        Step::ConfirmAbsent { expected, .. } => confirmed(false, number_of(expected), found),
         Step::ReadEpoch | Step::LoadStamp { .. } | Step::LoadLink { .. } => Effect::Value(found),
         Step::LoadBirth { .. } | Step::LoadKey { .. } | Step::LoadValue { .. } => {
             Effect::Value(found)

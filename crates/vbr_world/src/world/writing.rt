@@ -1,7 +1,7 @@
 // The words and places that steps write. Each function is for a step that succeeds.
 ghost use Rattle.std.specs.Prelude.{◌≡◌, ◌<◌, ◌≤◌};
 ghost use Rattle.vbr_words.specs.Words.{link_of};
-ghost use Rattle.vbr_words.specs.declared.shape.TheConstants.{MAX_EPOCH};
+ghost use Rattle.vbr_words.specs.declared.link.TheConstants.{MAX_VERSION};
 ghost use Rattle.vbr_words.specs.Buckets.{bucket_of};
 ghost use Rattle.vbr_machine.specs.Acceptance.{IsAtIn, IsInShape};
 ghost use Rattle.vbr_machine.specs.Machine.{written};
@@ -11,7 +11,7 @@ ghost use Rattle.vbr_world.specs.KeptWrites.{with_link_and_place, with_link_of, 
 
 use crate::world::lists::Lists;
 use vbr_machine::{Event, SlotPlace, Step};
-use vbr_words::At;
+use vbr_words::{At, WideWord};
 
 impl Lists {
     // Advances the epoch by one.
@@ -23,7 +23,7 @@ impl Lists {
     }
 
     // Writes the word of a link.
-    pub(super) fn put_link(&mut self, place: At, link: u64)
+    pub(super) fn put_link(&mut self, place: At, link: WideWord)
         requires { IsAtIn self.old.start place }
         ensures { Writes self.old self.new (with_link_of place (link_of link)) }
     {
@@ -68,7 +68,7 @@ impl Lists {
     // Stores the birth of a slot, and counts it.
     pub(super) fn store_birth(&mut self, slot: u32, birth: u64)
         requires slot { slot < self.old.start.shape.slots }
-        requires birth { birth ≤ MAX_EPOCH }
+        requires birth { birth ≤ MAX_VERSION }
         ensures { Writes self.old self.new (with_birth_of slot birth) }
     {
         self.birth[slot as usize] = birth;
@@ -78,7 +78,7 @@ impl Lists {
     // Gives birth to an incarnation in a slot, which is then in hand.
     fn bear(&mut self, pass: u32, slot: u32, birth: u64)
         requires slot { slot < self.old.start.shape.slots }
-        requires birth { birth ≤ MAX_EPOCH }
+        requires birth { birth ≤ MAX_VERSION }
         ensures { Writes self.old self.new
             (λ w. with_place_of slot (SlotPlace.Hand pass) (with_birth_of slot birth w)) }
     {
@@ -95,7 +95,7 @@ impl Lists {
     }
 
     // Links a slot into the list of its key's bucket.
-    fn publish(&mut self, pred: At, link: u64, slot: u32, key: u64)
+    fn publish(&mut self, pred: At, link: WideWord, slot: u32, key: u64)
         requires pred { IsAtIn self.old.start pred }
         requires slot { slot < self.old.start.shape.slots }
         ensures { Writes self.old self.new (with_link_and_place pred (link_of link) slot
@@ -107,7 +107,7 @@ impl Lists {
     }
 
     // Links past a slot, which is then the pass's own.
-    fn unlink(&mut self, pass: u32, pred: At, link: u64, slot: u32)
+    fn unlink(&mut self, pass: u32, pred: At, link: WideWord, slot: u32)
         requires pred { IsAtIn self.old.start pred }
         requires slot { slot < self.old.start.shape.slots }
         ensures { Writes self.old self.new
@@ -118,11 +118,11 @@ impl Lists {
     }
 
     // Writes what the step writes, from the word of the link and the key that the pass had for it.
-    pub(super) fn write(&mut self, event: Event, link: u64, key: u64)
-        requires in_shape { IsInShape self.old.start event.step }
-        requires room { WordsHaveRoom self.old.start self.old.epoch event.step }
+    pub(super) fn write(&mut self, event: &Event, link: WideWord, key: u64)
+        requires in_shape { IsInShape self.old.start event.now.step }
+        requires room { WordsHaveRoom self.old.start self.old.epoch event.now.step }
         ensures { Writes self.old self.new
-            (written self.old.start event.pass event.step (link_of link) key) }
+            (written self.old.start event.now.pass event.now.step (link_of link) key) }
     {
         match event.step {
             Step::Advance { .. } => self.advance(),

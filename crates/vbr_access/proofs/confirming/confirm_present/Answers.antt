@@ -1,3 +1,4 @@
+use Rattle.vbr_at_table.specs.Held.{said}
 use Rattle.vbr_at_table.proofs.Lemmas.{key_asked, key_present}
 use Rattle.vbr_access.proofs.confirming.confirm_present.Goals as goal
 
@@ -7,5 +8,6 @@ confirm_present_entry-requires-clause-asked c =
 
 pub returns-clause-answers : goal.returns-clause-answers
 returns-clause-answers c =
-    key_present c.args.pass.now.trace c.confirm_present_entry.new.pass.trace c.args.op c.args.held.now
-    c.confirm_present_entry.result c.requires.op.no_get c.confirm_present_entry.ensures.answers
+    key_present c.args.pass.now.trace c.confirm_present_entry.new.pass.trace c.args.op
+    (said c.args.slots.now c.args.held.now) c.confirm_present_entry.result c.requires.op.no_get
+    c.confirm_present_entry.ensures.answers

@@ -8,4 +8,4 @@ pub returns-clause-link : goal.returns-clause-link
 returns-clause-link c =
     ap link_of (c.encode.ensures
     ∙ ap (λ (v : ℕ). word_of (record { slot = c.args.slot; mark = false; version = v })) c.version_of.ensures)
-    ∙ link_of-word_of (link_to c.args.slot c.args.holder_birth c.args.named_birth) c.requires
+    ∙ link_of-word_of (link_to c.args.slot c.args.holder_birth c.args.named_birth) c.requires.fits

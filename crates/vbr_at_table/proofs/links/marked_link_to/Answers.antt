@@ -8,4 +8,4 @@ pub returns-clause-link : goal.returns-clause-link
 returns-clause-link c =
     ap link_of (c.encode.ensures
     ∙ ap (λ (v : ℕ). word_of (record { slot = Some c.args.slot; mark = true; version = v })) c.version_of.ensures)
-    ∙ link_of-word_of (marked (link_to (Some c.args.slot) c.args.holder_birth c.args.named_birth)) c.requires
+    ∙ link_of-word_of (marked (link_to (Some c.args.slot) c.args.holder_birth c.args.named_birth)) c.requires.fits

@@ -1,5 +1,9 @@
-use Rattle.std.proofs.Common.{◌<◌, subst, refl, rules}
+use Rattle.std.proofs.Common.{◌<◌, subst, refl, rules, ap, ◌∙◌}
+use denote.Bor.{Bor}
+use Rattle.vbr_words.specs.Packing.{slot_bits}
+use Rattle.vbr_slots.specs.Views.{TableView}
 use Rattle.vbr_machine.specs.Start.{Start}
+use Rattle.vbr_at_table.specs.Held.{said}
 use Rattle.vbr_at_table.proofs.Advancing.{did_none}
 use Rattle.vbr_slots.proofs.Lemmas.{did_same, did_seen}
 use Rattle.vbr_at_table.proofs.ExchangeCalls.{run_after}
@@ -9,19 +13,22 @@ use Rattle.vbr_at_table.proofs.WonExchanges.{mark_keeps}
 use Rattle.vbr_at_table.proofs.MadeCalls.{mark_adds_none, mark_failed}
 use Rattle.vbr_at_table.proofs.ExchangeCalls.{mark_told}
 use Rattle.vbr_at_table.proofs.Records.{marked_entry}
+use Rattle.vbr_at_table.proofs.SaidWords.{said_marks}
 use Rattle.vbr_at_table.proofs.marking.mark.Goals as goal
 
 pub mark-requires-clause-slot : goal.mark-requires-clause-slot
 mark-requires-clause-slot g c =
     let P : Start → Type 0 = λ start. c.in-Slot.slot < start.shape.slots in
     subst P c.args.at.now.own.1
-    (mark_accepted c.args.at.now.stepper.now c.law.ensures c.args.held.now c.in-Slot.slot c.requires.node.held
+    (mark_accepted c.args.at.now.stepper.now c.law.ensures (said c.args.at.now.slots.now c.args.held.now) c.in-Slot.slot
+    c.requires.node.held
     c.in-Slot.is c.requires.node.key c.requires.node.unmarked c.requires.valued).in_shape
 
 pub mark-requires-clause-checked : goal.mark-requires-clause-checked
 mark-requires-clause-checked g c =
     accepted_checked c.args.at.now.own
-    (mark_accepted c.args.at.now.stepper.now c.law.ensures c.args.held.now c.in-Slot.slot c.requires.node.held
+    (mark_accepted c.args.at.now.stepper.now c.law.ensures (said c.args.at.now.slots.now c.args.held.now) c.in-Slot.slot
+    c.requires.node.held
     c.in-Slot.is c.requires.node.key c.requires.node.unmarked c.requires.valued)
 
 pub returns-in-Ok-clause-keeps : goal.returns-in-Ok-clause-keeps
@@ -41,8 +48,12 @@ returns-in-Err-clause-keeps g c = record {
 }
 
 pub returns-in-Ok-clause-removed : goal.returns-in-Ok-clause-removed
-returns-in-Ok-clause-removed g c = mark_told c.args.held.now c.law.ensures.start c.law.ensures.is_run
-    c.requires.node.held c.in-Slot.is c.in-Ok.ensures.found.did c.with_mark.ensures
+returns-in-Ok-clause-removed g c = mark_told (said c.args.at.now.slots.now c.args.held.now) c.law.ensures.start
+    c.law.ensures.is_run
+    c.requires.node.held c.in-Slot.is c.in-Ok.ensures.found.did
+    (said_marks _ _ c.args.held.now.word _
+    (c.layout.ensures.layout ∙ ap (λ (s : Bor TableView). slot_bits s.now.start.shape.slots) c.mark.ensures.table.slots)
+    c.with_mark.ensures)
 
 pub returns-in-Err-clause-lost : goal.returns-in-Err-clause-lost
 returns-in-Err-clause-lost g c = record {
@@ -54,5 +65,6 @@ returns-in-Err-clause-lost g c = record {
 }
 
 pub returns-in-Ok-clause-there : goal.returns-in-Ok-clause-there
-returns-in-Ok-clause-there g c = marked_entry c.args.held.now c.in-Slot.slot c.law.ensures.start c.in-Slot.is
+returns-in-Ok-clause-there g c = marked_entry (said c.args.at.now.slots.now c.args.held.now) c.in-Slot.slot
+    c.law.ensures.start c.in-Slot.is
     c.requires.node.held c.requires.node.unmarked c.in-Ok.ensures.found.did

@@ -1,33 +1,38 @@
-use Rattle.std.proofs.Common.{ℕ, sym, ap, ◌∙◌, subst, Option, rules}
-use Rattle.vbr_words.specs.declared.link.Link.{Link}
+use Rattle.std.proofs.Common.{ℕ, sym, ◌∙◌, subst, Option, rules}
 use Rattle.vbr_machine.specs.Membership.{BirthNamed}
 use Rattle.vbr_slots.specs.Views.{knows}
+use Rattle.vbr_at_table.specs.Held.{said}
 use Rattle.vbr_at_table.specs.Reading.{ReadsIn}
 use Rattle.vbr_at_table.specs.StepCosts.{steps_to_birth}
 use Rattle.vbr_at_table.proofs.Accepted.{named_in, named_found}
 use Rattle.vbr_at_table.proofs.CheckedReads.{checked, checked_keeps}
 use Rattle.vbr_at_table.proofs.ReadCalls.{birth_in_two, load_rolls}
 use Rattle.vbr_at_table.proofs.ReadSteps.{loads_birth}
+use Rattle.vbr_at_table.proofs.SaidWords.{said_names}
 use Rattle.vbr_at_table.proofs.reading.birth_after.Given.{Over}
 use Rattle.vbr_at_table.proofs.reading.birth_after.Goals.{After-read_epoch-now}
 use Rattle.vbr_at_table.proofs.reading.birth_after.Goals as goal
 
 pub load_birth-birth-requires-clause-slot : goal.load_birth-birth-requires-clause-slot
 load_birth-birth-requires-clause-slot g c =
-    named_in c.args.at.now.stepper.now c.law.ensures c.args.held.now c.in-Some.slot c.args.at.now.own c.requires.held
-    (ap (λ (l : Link). l.slot) (sym c.decode.ensures.link) ∙ c.in-Some.is)
+    named_in c.args.at.now.stepper.now c.law.ensures (said c.args.at.now.slots.now c.args.held.now) c.in-Some.slot
+    c.args.at.now.own c.requires.held
+    (said_names _ _ c.args.held.now.word _ _ c.layout.ensures.layout c.decode.ensures.link c.in-Some.is)
 
 pub load_birth-birth-requires-clause-held : goal.load_birth-birth-requires-clause-held
 load_birth-birth-requires-clause-held g c =
-    named_found c.args.at.now.stepper.now c.law.ensures c.args.held.now c.in-Some.slot c.requires.held
-    (ap (λ (l : Link). l.slot) (sym c.decode.ensures.link) ∙ c.in-Some.is)
+    named_found c.args.at.now.stepper.now c.law.ensures (said c.args.at.now.slots.now c.args.held.now) c.in-Some.slot
+    c.requires.held
+    (said_names _ _ c.args.held.now.word _ _ c.layout.ensures.layout c.decode.ensures.link c.in-Some.is)
 
 -- two steps were made, a load of the birth and a read of the epoch
 in_two : (g : Over) (c : After-read_epoch-now g) →
-    ReadsIn c.args.at.now.stepper.now c.read_epoch-now.new.self.stepper.now (steps_to_birth c.args.held.now.word)
+    ReadsIn c.args.at.now.stepper.now c.read_epoch-now.new.self.stepper.now
+    (steps_to_birth (said c.args.at.now.slots.now c.args.held.now).word)
 in_two g c =
     birth_in_two c.args.at.now.stepper.now c.load_birth-birth.new.self.stepper.now c.read_epoch-now.new.self.stepper.now
-    c.args.held.now.word (ap (λ (l : Link). l.slot) (sym c.decode.ensures.link) ∙ c.in-Some.is) c.law.ensures
+    (said c.args.at.now.slots.now c.args.held.now).word
+    (said_names _ _ c.args.held.now.word _ _ c.layout.ensures.layout c.decode.ensures.link c.in-Some.is) c.law.ensures
     c.load_birth-birth.ensures.step c.load_birth-birth.ensures.pool c.read_epoch-now.ensures.step
     c.read_epoch-now.ensures.pool
 
@@ -44,7 +49,8 @@ returns-clause-birth g c =
     record {
       keeps = checked_keeps (loads_birth _ _) c.load_birth-birth.ensures.step c.read_epoch-now.ensures.step
           (c.if-now-held.false ∙ c.requires.held.epoch);
-      birth = subst P (sym (ap (λ (l : Link). l.slot) (sym c.decode.ensures.link) ∙ c.in-Some.is))
+      birth = subst P (sym (said_names _ _ c.args.held.now.word _ _ c.layout.ensures.layout c.decode.ensures.link
+          c.in-Some.is))
           (checked (loads_birth _ _) c.load_birth-birth.ensures.step c.read_epoch-now.ensures.step
           (c.if-now-held.false ∙ c.requires.held.epoch));
     }

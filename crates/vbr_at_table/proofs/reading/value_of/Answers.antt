@@ -1,4 +1,5 @@
 use Rattle.std.proofs.Common.{◌∙◌}
+use Rattle.vbr_at_table.specs.Held.{said}
 use Rattle.vbr_at_table.proofs.Accepted.{node_in, node_found}
 use Rattle.vbr_at_table.proofs.ReadCalls.{apart, value_told, load_in_two, load_rolls}
 use Rattle.vbr_at_table.proofs.ReadSteps.{loads_value}
@@ -6,12 +7,14 @@ use Rattle.vbr_at_table.proofs.reading.value_of.Goals as goal
 
 pub read_value-value-requires-clause-slot : goal.read_value-value-requires-clause-slot
 read_value-value-requires-clause-slot g c =
-    node_in c.args.at.now.stepper.now c.law.ensures c.args.node.now c.in-Slot.slot c.args.at.now.own c.requires.held
+    node_in c.args.at.now.stepper.now c.law.ensures (said c.args.at.now.slots.now c.args.node.now) c.in-Slot.slot
+    c.args.at.now.own c.requires.held
     c.in-Slot.is
 
 pub read_value-value-requires-clause-held : goal.read_value-value-requires-clause-held
 read_value-value-requires-clause-held g c =
-    node_found c.args.at.now.stepper.now c.law.ensures c.args.node.now c.in-Slot.slot c.requires.held c.in-Slot.is
+    node_found c.args.at.now.stepper.now c.law.ensures (said c.args.at.now.slots.now c.args.node.now) c.in-Slot.slot
+    c.requires.held c.in-Slot.is
 
 pub returns-then-now-before-clause-reads : goal.returns-then-now-before-clause-reads
 returns-then-now-before-clause-reads g c = load_in_two c.law.ensures (loads_value _ _) c.read_value-value.ensures.reads

@@ -24,9 +24,9 @@ returns-in-Some-clause-found g c =
     rw same (record {
       quiet = search rules;
       found = search rules;
-      was_so = was_so c.args.key c.in-Some.found c.law.ensures.start c.search.ensures.goes.goes.quiet.same
+      was_so = was_so c.args.key _ c.law.ensures.start c.search.ensures.goes.goes.quiet.same
           c.in-Some.ensures.found.found;
-      clear = clear_found c.args.key c.in-Some.found c.law.ensures.start c.search.ensures.goes.goes.quiet.same
+      clear = clear_found c.args.key _ c.law.ensures.start c.search.ensures.goes.goes.quiet.same
           c.in-Some.ensures.found.found;
       within = search rules;
       took = search rules;

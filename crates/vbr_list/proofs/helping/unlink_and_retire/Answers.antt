@@ -1,6 +1,7 @@
 use Rattle.vbr_list.proofs.Names.{◌+◌, ℕ, sym, ◌∙◌, subst, arith}
 use Rattle.vbr_list.proofs.Names.{At, behind_kept, counts_on, is_kept, IsUnlinked, KeepsUnlinked, KeyOf, knows, link_of}
 use Rattle.vbr_list.proofs.Names.{quiet_on, StandsBehind, Start, unchanged_by_none}
+use Rattle.vbr_at_table.specs.Held.{said, said_marked, said_rollback}
 use Rattle.vbr_list.specs.Pieces.{Goes}
 use Rattle.vbr_list.proofs.Clearing.{clear_before, clear_skipped, out_kept}
 use Rattle.vbr_list.proofs.Disturbing.{loses_place, moved_late, opened, run_at}
@@ -22,7 +23,8 @@ returns-in-Ok-clause-goes g c = λ used.
       quiet = quiet_on a.stays.quiet b.quiet;
       counts = counts_on
           (counts_step used c.steps_to_unlink-used.result
-          (took_same c.steps_to_unlink-used.result _ c.steps_to_unlink-used.ensures.is a.stays.took))
+          (took_same c.steps_to_unlink-used.result _
+          (rw c.layout-layout.ensures.layout at c.steps_to_unlink-used.ensures.is) a.stays.took))
           (counts_step (used + c.steps_to_unlink-used.result) c.retire.result b.took);
       hand = helped_hand a.stays.own
           (subst Q (sym (rw c.in-Ok.is at c.unlink-outcome.ensures.unlinked).slot)
@@ -45,11 +47,14 @@ returns-in-Ok-clause-unlinks g c =
       helps = λ e. record {
         same_place = won.place;
         epoch = sym e ∙ won.read.known.epoch ∙ won.keeps.epoch;
-        opens = opened p.trace q.trace r.trace c.args.pred.now c.args.marked c.in-Ok.place a b c.law-in-Ok.ensures.start
+        opens = opened p.trace q.trace r.trace (said c.args.at.now.slots.now c.args.pred.now)
+            (said_marked c.args.at.now.slots.now c.args.marked) (said c.args.at.now.slots.now c.in-Ok.place) a b
+            c.law-in-Ok.ensures.start
             c.law-in-Ok.ensures.is_run won.keeps won.place won.read.known won.still won.stands won.next
             c.retire.ensures.retires.unchanged;
         come = λ key is.
-            helped key c.args.pred.now c.in-Ok.place is won.keeps won.place won.still won.read a b
+            helped key (said c.args.at.now.slots.now c.args.pred.now) (said c.args.at.now.slots.now c.in-Ok.place) is
+            won.keeps won.place won.still won.read a b
             (retired_keeps (knows q.trace) (knows r.trace) c.in-Ok.unlinked.slot (is_kept q.pool)
             c.retire.ensures.retires.known (sym e ∙ won.read.known.epoch));
       };
@@ -60,8 +65,9 @@ returns-in-Ok-clause-unlinks g c =
           let P : At → Type 0 = λ t. StandsBehind q.trace.start (knows q.trace) t key in
           let Q : Start → Type 0 = λ s. StandsBehind s (knows q.trace) c.args.pred.now.at key in
           clear_before
-          (clear_skipped c.in-Ok.place c.law.ensures.start a.same won.read won.still c.args.marked.slot key
-          (link_of c.args.marked.word)
+          (clear_skipped (said c.args.at.now.slots.now c.in-Ok.place) c.law.ensures.start a.same won.read won.still
+          c.args.marked.slot key
+          (link_of (said_marked c.args.at.now.slots.now c.args.marked).word)
           (subst P (sym won.place)
           (subst Q (sym a.same.start) (behind_kept p.trace.start c.args.pred.now.at key won.keeps behind)))
           (won.keeps.reads _ c.requires.may.marked.held.link) c.requires.may.marked.mark (sym won.next)
@@ -71,7 +77,8 @@ returns-in-Ok-clause-unlinks g c =
       left = λ key k behind.
           let P : At → Type 0 = λ t. StandsBehind q.trace.start (knows q.trace) t key in
           let Q : Start → Type 0 = λ s. StandsBehind s (knows q.trace) c.args.pred.now.at key in
-          left_skipped p.trace q.trace r.trace c.in-Ok.place c.args.marked key c.law.ensures.start c.law.ensures.is_run
+          left_skipped p.trace q.trace r.trace (said c.args.at.now.slots.now c.in-Ok.place)
+          (said_marked c.args.at.now.slots.now c.args.marked) key c.law.ensures.start c.law.ensures.is_run
           a b won.keeps won.read won.still c.requires.may.marked (sym won.next)
           (subst P (sym won.place)
           (subst Q (sym a.same.start) (behind_kept p.trace.start c.args.pred.now.at key won.keeps behind))) k;
@@ -80,8 +87,10 @@ returns-in-Ok-clause-unlinks g c =
 pub returns-in-Err-clause-lost : goal.returns-in-Err-clause-lost
 returns-in-Err-clause-lost g c =
     let failed = rw c.in-Err.is at c.unlink-outcome.ensures.failed in
-    loses_place c.args.at.now.stepper.now.trace c.unlink-outcome.new.at.stepper.now.trace c.args.pred.now
-    c.in-Err.rollback c.unlink-outcome.ensures.stays.quiet.same failed.rolled failed.fresh
+    loses_place c.args.at.now.stepper.now.trace c.unlink-outcome.new.at.stepper.now.trace
+    (said c.args.at.now.slots.now c.args.pred.now)
+    (said_rollback c.args.at.now.slots.now c.in-Err.rollback) c.unlink-outcome.ensures.stays.quiet.same failed.rolled
+    failed.fresh
     (unchanged_by_none c.law.ensures.start
     (run_at c.args.at.now.stepper.now.trace c.unlink-outcome.new.at.stepper.now.trace
     c.unlink-outcome.ensures.stays.quiet.same (c.unlink-outcome.ensures.stays.quiet.is_run c.law.ensures.is_run))

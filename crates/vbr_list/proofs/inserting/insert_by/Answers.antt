@@ -19,6 +19,9 @@ use Rattle.vbr_list.proofs.Sufficing.{had_no_slot}
 use Rattle.vbr_list.proofs.Told.{call_answered, told_as, told_bare}
 use Rattle.vbr_list.proofs.ValueReads.{few_to_update}
 use Rattle.vbr_list.proofs.Walking.{once_paid, repeated_none, vain_lacks}
+use Rattle.vbr_at_table.specs.Held.{said_succ}
+use Rattle.vbr_list.proofs.WideWords.{wide_lent}
+use Rattle.vbr_list.specs.Words.{wide_found}
 use Rattle.vbr_list.proofs.inserting.insert_by.Goals as goal
 
 -- ---- before a slot is taken
@@ -90,12 +93,18 @@ update-requires-clause-hand g c =
     (hand_kept c.loop-found.hand c.reach.ensures.goes.goes.hand c.loop-found.invariant.4).is
 
 pub update-requires-clause-gap : goal.update-requires-clause-gap
-update-requires-clause-gap g c = gap_found c.reach.ensures.goes c.in-Some.found c.in-Some.ensures.found c.if-found.false
+update-requires-clause-gap g c =
+    simp c.reach.ensures.goes.call.at.slots
+    (gap_found c.reach.ensures.goes (wide_found c.loop-found.call c.in-Some.found) c.in-Some.ensures.found
+    c.if-found.false)
 
 pub update-requires-clause-succ : goal.update-requires-clause-succ
 update-requires-clause-succ g c =
-    succ_found (knows c.reach.new.self.at.stepper.now.trace) c.loop-found.call.key c.in-Some.found.pred c.as_ref.result
-    c.in-Some.found.cur c.in-Some.found.present c.as_ref.ensures.value c.in-Some.ensures.found.found.locates.end
+    simp c.reach.ensures.goes.call.at.slots
+    (succ_found (knows c.reach.new.self.at.stepper.now.trace) c.loop-found.call.key
+    (wide_found c.loop-found.call c.in-Some.found).pred (said_succ c.loop-found.call.at.slots.now c.as_ref.result)
+    (wide_found c.loop-found.call c.in-Some.found).cur c.in-Some.found.present
+    (wide_lent c.loop-found.call c.as_ref.result c.as_ref.ensures.value) c.in-Some.ensures.found.found.locates.end)
 
 pub give_back-requires-clause-hand : goal.give_back-requires-clause-hand
 give_back-requires-clause-hand g c = (has_until c.loop-found.invariant c.reach.ensures.goes).is
@@ -108,18 +117,19 @@ pub loop-found-preserved-then-is_err : goal.loop-found-preserved-then-is_err
 loop-found-preserved-then-is_err g c =
     let d = c.answer_no.ensures in
     denied_then 4 (omega arith) {b = c.prepare.new.self} c.law-2.ensures c.loop-found.invariant c.reach.ensures.goes
-    d.call d.used d.keeps c.in-Some.found c.in-Some.ensures.found
-    (if_failed c.answer_no.result (sym c.is_err.ensures.value ∙ c.if-is_err.true) d.rolls)
+    d.call d.used d.keeps (wide_found c.loop-found.call c.in-Some.found) c.in-Some.ensures.found
+    (simp c.reach.ensures.goes.call.at.slots at
+    (if_failed c.answer_no.result (sym c.is_err.ensures.value ∙ c.if-is_err.true) d.rolls))
 
 pub loop-found-preserved : goal.loop-found-preserved
 loop-found-preserved g c =
     let stores = c.update.ensures.stores in
-    let lost = c.in-Err-update.ensures.lost in
+    let lost = simp c.reach.ensures.goes.call.at.slots at c.in-Err-update.ensures.lost in
     let q = c.reach.new.self.at.stepper.now in
     let most = (few_to_update q.trace.start).1 in
     let same = steps_updating c.steps_to_update.ensures c.reach.new.self.at.own.1 in
     let held = hand_kept c.loop-found.hand c.reach.ensures.goes.goes.hand c.loop-found.invariant.4 in
-    let found = c.in-Some.found in
+    let found = wide_found c.loop-found.call c.in-Some.found in
     lost_then 4 {b = c.prepare.new.self} c.law-2.ensures c.loop-found.invariant c.reach.ensures.goes
     (takes_on (steps_to_update q.trace.start) (search rules) (ap (λ (n : ℕ). c.reach.new.self.used + n) same)
     stores.took stores.takes_no_slot)
@@ -169,7 +179,14 @@ returns-then-found-clause-took g c =
 
 pub returns-in_default-clause-took : goal.returns-in_default-clause-took
 returns-in_default-clause-took g c =
-    let same : c.stepper-in_default-1.given.0 ≡ c.give_back.new.at.stepper.now = search rules in
+    let same : c.stepper-in_default-1.given.0 ≡ c.give_back.new.at.stepper.now =
+    search (
+      rules,
+      c.prepare.ensures.prepares.call,
+      c.loop-found.invariant.0,
+      c.reach.ensures.goes.call,
+      c.give_back.ensures.table,
+    ) in
     rw same (took_all
     (counts_on c.prepare.ensures.prepares.counts.counts
     (within_same c.give_back.ensures.back.trace (counts_until c.loop-found.invariant c.reach.ensures.goes)).counts))
@@ -204,7 +221,8 @@ returns-in-Ok-clause-calls g c =
     let had = had_then {E = Refusal} c.prepare.new.self.at.stepper.now q r (Ok true) (had_until so went)
     (had_spent q r c.loop-found.hand.slot (has_until so went).is.slot stores.pool) in
     let linked =
-    links_hand {b = c.prepare.new.self} {e = e} c.law-2.ensures so went c.in-Some.found c.in-Some.ensures.found
+    links_hand {b = c.prepare.new.self} {e = e} c.law-2.ensures so went (wide_found c.loop-found.call c.in-Some.found)
+    c.in-Some.ensures.found
     c.args.value true (omega (arith, steps)) inserted.made in
     rw same (insert_linked c.args.value (Ok true) c.law.ensures refl c.prepare.ensures.prepares c.prepare.ensures.tries
     (rw c.in-Ok-Some.field-0-is at c.in-Ok-Some.ensures.prepared.is).0 c.in-Ok-Some.ensures.prepared.searched
@@ -233,12 +251,14 @@ returns-then-found-clause-calls g c =
     let once = call_on no.call
     (same_later f c.give_back-then-found.new.at f.used c.give_back-then-found.ensures.table start f.within) in
     let links = links_then so went {e = e} (takes_back c.loop-found.hand.slot once no.used no.keeps back) back.hand in
-    let made = made_denied p d.key c.in-Some.found true c.if-found.true c.answer_no.result
+    let made = made_denied p d.key (wide_found c.loop-found.call c.in-Some.found) true c.if-found.true
+    c.answer_no.result
     (sym c.is_err.ensures.value ∙ c.if-is_err.false) no.made back in
     let some = (few_to_update p.start).0 in
     let used = no.used in
     let linked =
-    links_hand {b = c.prepare.new.self} {e = e} c.law-2.ensures so went c.in-Some.found c.in-Some.ensures.found
+    links_hand {b = c.prepare.new.self} {e = e} c.law-2.ensures so went (wide_found c.loop-found.call c.in-Some.found)
+    c.in-Some.ensures.found
     c.args.value false (omega (arith, some, used)) (told_as (told_bare p.start p.who Insert d.key false) made) in
     rw same (insert_linked c.args.value (Ok false) c.law.ensures refl c.prepare.ensures.prepares c.prepare.ensures.tries
     (rw c.in-Ok-Some.field-0-is at c.in-Ok-Some.ensures.prepared.is).0 c.in-Ok-Some.ensures.prepared.searched links
@@ -246,7 +266,14 @@ returns-then-found-clause-calls g c =
 
 pub returns-in_default-clause-calls : goal.returns-in_default-clause-calls
 returns-in_default-clause-calls g c =
-    let same : c.stepper-in_default-1.given.0 ≡ c.give_back.new.at.stepper.now = search rules in
+    let same : c.stepper-in_default-1.given.0 ≡ c.give_back.new.at.stepper.now =
+    search (
+      rules,
+      c.prepare.ensures.prepares.call,
+      c.loop-found.invariant.0,
+      c.reach.ensures.goes.call,
+      c.give_back.ensures.table,
+    ) in
     let so = c.loop-found.invariant in
     let went = c.reach.ensures.goes in
     let d = c.reach.new.self in

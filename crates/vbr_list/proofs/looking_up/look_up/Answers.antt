@@ -15,6 +15,7 @@ use Rattle.vbr_list.proofs.Sights.{few_to_answer}
 use Rattle.vbr_list.proofs.Sufficing.{took_alone}
 use Rattle.vbr_list.proofs.Tiring.{look_up_tires}
 use Rattle.vbr_list.proofs.Told.{answer_since, call_answered, given_same, told_since}
+use Rattle.vbr_list.specs.Words.{wide_sight}
 use Rattle.vbr_list.proofs.looking_up.look_up.Goals as goal
 
 pub settle_look_up-requires-clause-asked : goal.settle_look_up-requires-clause-asked
@@ -52,9 +53,10 @@ loop-sight-preserved g c =
           let own = unchanged_at p p r (bucket_of p.start.shape c.args.key) c.law.ensures.start ok (same_refl p)
           whole.same whole.seen adds in
           round_on p q m r c.law.ensures.start ok c.args.key (steps_to_answer c.args.gives) first.same two.same
-          whole.same first.seen a.seen b.seen own (sighted c.in-Some.sight) c.loop-sight.invariant.4
+          whole.same first.seen a.seen b.seen own (sighted (wide_sight c.loop-sight.call c.in-Some.sight))
+          c.loop-sight.invariant.4
           c.in-Some.ensures.sight.fresh looks c.settle_look_up.ensures.few
-          c.in_default-settle_look_up.ensures.rolls.loses),
+          (rw c.look.ensures.goes.call.at.slots at c.in_default-settle_look_up.ensures.rolls.loses)),
     )
 
 pub loop-sight-init : goal.loop-sight-init

@@ -5,6 +5,7 @@ use Rattle.vbr_list.proofs.Disturbing.{run_at}
 use Rattle.vbr_list.proofs.Walking.{search_round_on}
 use Rattle.vbr_list.proofs.Tiring.{remove_tires}
 use Rattle.vbr_list.proofs.AnsweredRemoves.{removed}
+use Rattle.vbr_list.specs.Words.{wide_found}
 use Rattle.vbr_list.proofs.removing.remove_by.Goals as goal
 
 pub settle_remove-requires-clause-expects : goal.settle_remove-requires-clause-expects
@@ -37,8 +38,10 @@ loop-found-preserved g c =
           let key = c.loop-found.invariant.0.key ∙ c.loop-found.invariant.1 in
           search_round_on p q m r c.law.ensures.start (run_at p r whole.same (whole.is_run c.law.ensures.is_run))
           c.args.key 3 first.same a.same whole.same first.seen a.seen b.seen s.hand.takes_no_slot.count
-          c.loop-found.invariant.4 c.in-Some.found (rw key at c.in-Some.ensures.found.last)
-          c.in_default-settle_remove.ensures.rolls.few c.in_default-settle_remove.ensures.rolls.loses,
+          c.loop-found.invariant.4 (wide_found c.loop-found.call c.in-Some.found)
+          (rw key at c.in-Some.ensures.found.last)
+          c.in_default-settle_remove.ensures.rolls.few
+          (simp c.reach.ensures.goes.call.at.slots at c.in_default-settle_remove.ensures.rolls.loses),
     )
 
 pub returns-in_default-clause-took : goal.returns-in_default-clause-took
@@ -72,4 +75,5 @@ returns-in-Ok-clause-calls g c =
     rw same (removed c.law.ensures c.args.key c.args.budget (c.loop-found.invariant.0.key ∙ c.loop-found.invariant.1)
     (c.loop-found.invariant.0.budget ∙ c.loop-found.invariant.2) c.loop-found.invariant.3 c.loop-found.invariant.4
     c.reach.ensures.goes c.in-Some.ensures.found c.args.expected c.in-Ok.answer c.settle_remove.ensures.settles
-    c.in-Ok.ensures.answers (search rules) (rw c.loop-found.invariant.2 at (within_call call)))
+    (simp c.reach.ensures.goes.call.at.slots at c.in-Ok.ensures.answers) (search rules)
+    (rw c.loop-found.invariant.2 at (within_call call)))

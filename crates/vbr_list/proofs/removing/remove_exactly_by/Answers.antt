@@ -6,6 +6,8 @@ use Rattle.vbr_list.proofs.AnsweredRemoves.{removed, removed_none}
 use Rattle.vbr_list.proofs.RemovedEntries.{lacked_entry, lacked_since, marked_node, takes_exactly, tires_exactly}
 use Rattle.vbr_list.proofs.Walking.{search_round_on}
 use Rattle.vbr_list.proofs.Tiring.{remove_tires}
+use Rattle.vbr_list.proofs.WideWords.{node_bare, node_wide}
+use Rattle.vbr_list.specs.Words.{wide_found}
 use Rattle.vbr_list.proofs.removing.remove_exactly_by.Goals as goal
 
 pub loop-found-preserved : goal.loop-found-preserved
@@ -33,8 +35,10 @@ loop-found-preserved g c =
           let key = c.loop-found.invariant.0.key ∙ c.loop-found.invariant.1 in
           search_round_on p q m r c.law.ensures.start (run_at p r whole.same (whole.is_run c.law.ensures.is_run))
           c.args.key 3 first.same a.same whole.same first.seen a.seen b.seen s.hand.takes_no_slot.count
-          c.loop-found.invariant.4 c.in-Some.found (rw key at c.in-Some.ensures.found.last)
-          c.in_default-mark_and_unlink.ensures.rolls.few c.in_default-mark_and_unlink.ensures.rolls.loses,
+          c.loop-found.invariant.4 (wide_found c.loop-found.call c.in-Some.found)
+          (rw key at c.in-Some.ensures.found.last)
+          c.in_default-mark_and_unlink.ensures.rolls.few
+          (simp c.reach.ensures.goes.call.at.slots at c.in_default-mark_and_unlink.ensures.rolls.loses),
     )
 
 pub returns-then-not-is_node_of-clause-took : goal.returns-then-not-is_node_of-clause-took
@@ -78,7 +82,8 @@ returns-then-not-is_node_of-clause-removes g c =
         quiet = all.quiet;
         lacked = lacked_since before
             (lacked_entry start went.same (rw key at c.in-Some.ensures.found.found) c.args.entry.now
-            (c.is_node_of.ensures.is_not c.if-not-is_node_of.true));
+            (λ is. c.is_node_of.ensures.is_not c.if-not-is_node_of.true
+            (node_bare c.loop-found.call c.in-Some.found is)));
       };
       quiet = tt;
       hand = search rules;
@@ -98,10 +103,11 @@ returns-in-Ok-clause-removes g c =
     let before = c.loop-found.invariant.3.goes.quiet in
     let first = quiet_on before c.reach.ensures.goes.goes.quiet in
     let marked = marked_node c.args.entry.now first
-    (rw (c.reach.ensures.goes.call.key ∙ key) at (c.in-Ok.ensures.answers.marks c.in-Ok.ensures.some))
-    (c.is_node_of.ensures.is c.if-not-is_node_of.false) in
+    (rw (c.reach.ensures.goes.call.key ∙ key) at
+    ((simp c.reach.ensures.goes.call.at.slots at c.in-Ok.ensures.answers).marks c.in-Ok.ensures.some))
+    (node_wide c.loop-found.call (c.is_node_of.ensures.is c.if-not-is_node_of.false)) in
     rw same (takes_exactly c.args.entry.now c.in-Ok.answer
     (removed c.law.ensures c.args.key c.args.budget key budget c.loop-found.invariant.3 c.loop-found.invariant.4
     c.reach.ensures.goes c.in-Some.ensures.found None c.in-Ok.answer c.mark_and_unlink.ensures.settles
-    c.in-Ok.ensures.answers (search rules) within)
+    (simp c.reach.ensures.goes.call.at.slots at c.in-Ok.ensures.answers) (search rules) within)
     c.in-Ok.ensures.some marked)

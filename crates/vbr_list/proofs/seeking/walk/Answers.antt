@@ -9,6 +9,8 @@ use Rattle.vbr_list.proofs.Observing.{reads_observe}
 use Rattle.vbr_list.proofs.Traversals.{Follows}
 use Rattle.vbr_list.proofs.ValueReads.{steps_read}
 use Rattle.vbr_list.proofs.Visits.{paid_so_far, starts_none}
+use Rattle.vbr_at_table.specs.Held.{said, said_marked}
+use Rattle.vbr_list.proofs.WideWords.{layout_at}
 use Rattle.vbr_list.proofs.seeking.walk.Goals as goal
 
 no_slot : (o : Option ℕ) → is_some o ≡ false → o ≡ None
@@ -22,30 +24,32 @@ loop-here-init g c =
     let reads = c.start_at-head.ensures.reads in (
       c.start_at-head.ensures.table,
       (
-        c.in-Ok.here,
+        (said c.args.at.now.slots.now c.in-Ok.here),
         follows_head c.law.ensures c.args.bucket c.args.from c.args.used.now (c.args.used.now + 3) c.args.budget
-            c.in-Ok.here (record { goes = goes_read c.args.used.now reads; observes = reads_observe reads })
+            (said c.args.at.now.slots.now c.in-Ok.here)
+            (record { goes = goes_read c.args.used.now reads; observes = reads_observe reads })
             (omega arith) (c.affords.ensures.0 c.if-not-affords.false) c.in-Ok.ensures.head,
       ),
     )
 
 pub visit_behind-requires-clause-held : goal.visit_behind-requires-clause-held
-visit_behind-requires-clause-held g c = c.loop-here.invariant.1.1.inside.held
+visit_behind-requires-clause-held g c = rw c.loop-here.invariant.0.slots c.loop-here.invariant.1.1.inside.held
 
 pub loop-here-preserved-in-Ok-Marked : goal.loop-here-preserved-in-Ok-Marked
 loop-here-preserved-in-Ok-Marked g c =
     let v = c.visit_behind.ensures in
     let i = c.loop-here.invariant in
-    let met = rw c.in-Ok-Marked.field-0-is at c.in-Ok-Marked.ensures.met in
+    let met = rw c.loop-here.invariant.0.slots at (rw c.in-Ok-Marked.field-0-is at c.in-Ok-Marked.ensures.met) in
     let fits = c.affords-in-loop-here.ensures.0 c.if-not-affords-2.false in
-    let P : Held → Type 0 =
+    let P : Held → Type 0 = λ h.
     Follows c.args.at.now.stepper.now c.visit_behind.new.at.stepper.now c.args.bucket c.args.from c.args.used.now
-    c.visit_behind.new.used c.args.budget i.1.0 in (
+    c.visit_behind.new.used c.args.budget i.1.0 (said c.args.at.now.slots.now h) in (
       table_on i.0 v.table,
       (
         i.1.0,
         subst P (sym c.held_of-here.ensures)
-            (follows_marked c.law.ensures i.1.1 v.looks v.used fits c.in-Ok-Marked.marked met),
+            (follows_marked c.law.ensures i.1.1 v.looks v.used fits
+            (said_marked c.args.at.now.slots.now c.in-Ok-Marked.marked) met),
       ),
     )
 
@@ -53,10 +57,14 @@ pub loop-here-preserved : goal.loop-here-preserved
 loop-here-preserved g c =
     let v = c.visit_behind.ensures in
     let i = c.loop-here.invariant in
-    let met = rw c.in-Ok-Smaller.field-0-is at c.in-Ok-Smaller.ensures.met in
+    let met = rw c.loop-here.invariant.0.slots at (rw c.in-Ok-Smaller.field-0-is at c.in-Ok-Smaller.ensures.met) in
     let fits = c.affords-in-loop-here.ensures.0 c.if-not-affords-2.false in (
       table_on i.0 v.table,
-      (c.in-Ok-Smaller.node, follows_node c.law.ensures i.1.1 v.looks v.used fits c.in-Ok-Smaller.node met),
+      (
+        (said c.args.at.now.slots.now c.in-Ok-Smaller.node),
+        follows_node c.law.ensures i.1.1 v.looks v.used fits
+            (said c.args.at.now.slots.now c.in-Ok-Smaller.node) met,
+      ),
     )
 
 pub returns-in_default-clause-stopped : goal.returns-in_default-clause-stopped
@@ -81,8 +89,10 @@ returns-in-Err-clause-peeks g c =
 pub returns-in-Err-clause-stopped : goal.returns-in-Err-clause-stopped
 returns-in-Err-clause-stopped g c =
     let v = c.visit_behind.ensures in
-    let some : is_some (link_of c.loop-here.here.word).slot ≡ true =
-    ap (λ (l : Link). is_some l.slot) (sym c.decode.ensures.link) ∙ sym c.is_some.ensures ∙ c.loop-here-test.true in
+    let some : is_some (link_of (said c.args.at.now.slots.now c.loop-here.here).word).slot ≡ true =
+    ap (λ (l : Link). is_some l.slot)
+    (sym (rw (layout_at c.layout.ensures.layout c.loop-here.invariant.0) at c.decode.ensures.link)) ∙ sym
+    c.is_some.ensures ∙ c.loop-here-test.true in
     let lost = visit_lost c.law.ensures c.loop-here.invariant.1.1 v.looks v.used
     (c.affords-in-loop-here.ensures.0 c.if-not-affords-2.false) some c.in-Err.ensures.moved in
     let paid = lost.1 in
@@ -101,7 +111,7 @@ returns-in_default-read-clause-stopped g c =
     let i = c.loop-here.invariant.1.1 in
     let v = c.visit_behind.ensures in
     let w = c.value_if_any-read.ensures in
-    let met = rw c.in-Ok-Beyond.field-0-is at c.in-Ok-Beyond.ensures.met in
+    let met = rw c.loop-here.invariant.0.slots at (rw c.in-Ok-Beyond.field-0-is at c.in-Ok-Beyond.ensures.met) in
     let steps = steps_read c.steps_to_value_of.ensures c.value_if_any-read.new.at.own.1 w.reads.quiet.same.start in
     value_lost c.law.ensures i v.looks v.used (c.affords-in-loop-here.ensures.0 c.if-not-affords-2.false) met w.reads
     steps (moves_epoch _ c.in_default-read.ensures.moved.rolls)
@@ -119,14 +129,17 @@ returns-in-Ok-Beyond-clause-next g c =
     let i = c.loop-here.invariant.1.1 in
     let v = c.visit_behind.ensures in
     let w = c.value_if_any-read.ensures in
-    let met = rw c.in-Ok-Beyond.field-0-is at c.in-Ok-Beyond.ensures.met in
+    let met = rw c.loop-here.invariant.0.slots at (rw c.in-Ok-Beyond.field-0-is at c.in-Ok-Beyond.ensures.met) in
     let steps = steps_read c.steps_to_value_of.ensures c.value_if_any-read.new.at.own.1 w.reads.quiet.same.start in
     record {
       tells = tells_next c.value_if_any-read.new.at.stepper.now c.in-Ok-Beyond.key c.in-Ok-read.value
           c.named-entry.result c.is_none-is_last.result
-          c.in-Ok-Beyond.node c.law.ensures.start i v.looks.goes.quiet met w.reads.quiet c.in-Ok-read.ensures.value
+          (said c.args.at.now.slots.now c.in-Ok-Beyond.node) c.law.ensures.start i v.looks.goes.quiet met w.reads.quiet
+          c.in-Ok-read.ensures.value
           (is_last_so c.is_none-is_last.result c.decode-in-Ok-Beyond.result.slot c.is_none-is_last.ensures
-          ∙ ap (λ (l : Link). is_none l.slot) c.decode-in-Ok-Beyond.ensures.link)
+          ∙ ap (λ (l : Link). is_none l.slot)
+          (rw (layout_at c.layout-in-Ok-Beyond.ensures.layout (table_on c.loop-here.invariant.0 v.table)) at
+          c.decode-in-Ok-Beyond.ensures.link))
           c.named-entry.ensures;
       paid = value_paid c.law.ensures i v.looks v.used (c.affords-in-loop-here.ensures.0 c.if-not-affords-2.false) met
           w.reads steps;
@@ -138,6 +151,9 @@ returns-clause-next g c =
     let none = no_slot c.decode.result.slot (sym c.is_some.ensures ∙ c.loop-here-test.false) in
     let paid = paid_so_far c.law.ensures i.peeks.tries.goes.quiet i.walks in
     record {
-      tells = tells_none c.law.ensures.start i (ap (λ (l : Link). l.slot) (sym c.decode.ensures.link) ∙ none);
+      tells = tells_none c.law.ensures.start i
+          (ap (λ (l : Link). l.slot) (sym
+          (rw (layout_at c.layout.ensures.layout c.loop-here.invariant.0) at c.decode.ensures.link)) ∙
+          none);
       paid = omega (arith, paid);
     }

@@ -1,5 +1,7 @@
 use Rattle.vbr_list.proofs.Names.{ℕ, Ok, Err, IfOk, IfErr, Result}
 use Rattle.vbr_list.proofs.Names.{Held, IsFresh, IsHeadRead, PassView, reads_on, ReadsIn, Rollback, RollsBack}
+use Rattle.vbr_slots.specs.Views.{TableView}
+use Rattle.vbr_at_table.specs.Held.{said}
 use Rattle.vbr_list.specs.Visiting.{StartsAt, StartsNone}
 use Rattle.vbr_list.specs.Walking.{Checks}
 use Rattle.vbr_list.proofs.Disturbing.{moves_epoch}
@@ -10,15 +12,16 @@ module _ {p q r : PassView} {m n : ℕ} (x : ReadsIn p q m) (y : ReadsIn q r n) 
   abbrev checked : Checks p.trace r.trace
   checked = record { between = q.trace; same = x.quiet.same; from = x.quiet.seen; to = y.quiet.seen; was = fresh }
 
-  starts : (bucket : ℕ) (head : Result Held Rollback) → IfOk head (IsHeadRead q r bucket) →
-      IfOk head (StartsAt p.trace r.trace bucket)
-  starts bucket (Ok h) read = record {
+  starts : (table : TableView) (bucket : ℕ) (head : Result Held Rollback) →
+      IfOk head (λ held. IsHeadRead q r bucket (said table held)) →
+      IfOk head (λ held. StartsAt p.trace r.trace bucket (said table held))
+  starts table bucket (Ok h) read = record {
     known = read.read.known;
     unmarked = read.unmarked;
     place = read.place;
     reads = record { checks = checked; epoch = read.keeps.epoch; fresh = read.fresh; stood = read.read.stood };
   }
-  starts bucket (Err e) read = tt
+  starts table bucket (Err e) read = tt
 
   starts_none : (head : Result Held Rollback) → IfErr head (RollsBack q r) → IfErr head (StartsNone p.trace r.trace)
   starts_none (Ok h) rolls = tt
@@ -29,8 +32,9 @@ returns-clause-reads g c = reads_on c.checkpoint-point.ensures.reads c.first.ens
 
 pub returns-clause-head : goal.returns-clause-head
 returns-clause-head g c =
-    starts c.checkpoint-point.ensures.reads c.first.ensures.reads c.checkpoint-point.ensures.point.fresh c.args.bucket
-    c.first.result c.first.ensures.head
+    starts c.checkpoint-point.ensures.reads c.first.ensures.reads c.checkpoint-point.ensures.point.fresh
+    c.args.at.now.slots.now c.args.bucket c.first.result
+    (rw c.checkpoint-point.ensures.table.slots at c.first.ensures.head)
 
 pub returns-clause-moved : goal.returns-clause-moved
 returns-clause-moved g c =

@@ -1,6 +1,7 @@
 use Rattle.vbr_list.proofs.Names.{◌≡◌, ◌≤◌, ℕ, ◌+◌, Option, Some, None, sym, ap, ◌∙◌, subst, arith, false, IsSome, refl}
 use Rattle.vbr_list.proofs.Names.{bucket_of, Held, held_kept, IsHeld, IsKeyRead, IsNext, IsSlot, keeps_on, knows}
 use Rattle.vbr_list.proofs.Names.{link_of, next_steps, PassView, reads_on, ReadsIn, Start, stood_before, Trace}
+use Rattle.vbr_at_table.specs.Held.{said, said_if}
 use Rattle.vbr_list.specs.Pieces.{LooksOn}
 use Rattle.vbr_at_table.specs.Reading.{IsNextRead}
 use Rattle.vbr_list.specs.Visiting.{HasKey, MeetsBehind, Visits, met_place, steps_met}
@@ -12,6 +13,7 @@ use Rattle.vbr_list.proofs.Going.{goes_on, goes_read}
 use Rattle.vbr_list.proofs.Observing.{reads_observe}
 use Rattle.vbr_list.proofs.Reaching.{next_inside, node_unmarked, slot_same}
 use Rattle.vbr_list.proofs.Sufficing.{any_error}
+use Rattle.vbr_list.proofs.WideWords.{layout_at}
 use Rattle.vbr_list.proofs.visiting.visit_behind.Goals as goal
 
 in_three : {p q : PassView} (next : Option ℕ) → IsSome next → ReadsIn p q (next_steps next) → ReadsIn p q 3
@@ -38,17 +40,21 @@ returns-in-Some-of-clause-met g c =
     let x = c.in_ok-node.ensures in
     let n = rw c.in-Some.is at x.next.read in
     let fresh = rw c.in-Some.is at x.next.fresh in
-    let is = c.in-Some-of.ensures.0 in
+    let is = rw (layout_at c.layout.ensures.layout c.next-node.ensures.table) at c.in-Some-of.ensures.0 in
     let p = c.args.at.now.stepper.now in
     let q = c.next-node.new.at.stepper.now.trace in
-    let P : Held → Type 0 = λ h. ReadsNext p.trace q c.args.here.now h in
+    let P : Held → Type 0 = λ h. ReadsNext p.trace q (said c.args.at.now.slots.now c.args.here.now) h in
     let s : n.0 ≡ c.in-Some-of.marked.slot =
     slot_same c.in-Some-of.marked.slot n.0 (ap (λ (h : Held). h.at) is ∙ n.2) in
     record {
       keeps = x.next.keeps;
       visits = (
         let H : Held → Type 0 = IsHeld (knows q) in
-            record { held = subst H (sym is) n.3.known; mark = c.in-Some-of.ensures.1 },
+            record {
+              held = subst H (sym is) n.3.known;
+              mark = rw (layout_at c.layout.ensures.layout c.next-node.ensures.table) at
+                  c.in-Some-of.ensures.1;
+            },
         n.1 ∙ ap Some s,
       );
       reads = subst P (sym is) (read_next n);
@@ -60,7 +66,8 @@ returns-in-Some-of-clause-met g c =
 
 pub returns-in_err-key-clause-looks : goal.returns-in_err-key-clause-looks
 returns-in_err-key-clause-looks g c =
-    looks_five c.args.used.now c.args.here.now c.requires.some c.next-node.ensures.reads c.key_of-read.ensures.reads
+    looks_five c.args.used.now (said c.args.at.now.slots.now c.args.here.now) c.requires.some
+    c.next-node.ensures.reads c.key_of-read.ensures.reads
 
 pub returns-in_err-key-clause-moved : goal.returns-in_err-key-clause-moved
 returns-in_err-key-clause-moved g c =
@@ -72,11 +79,13 @@ returns-in_err-key-clause-moved g c =
 
 pub returns-then-key-number-clause-looks : goal.returns-then-key-number-clause-looks
 returns-then-key-number-clause-looks g c =
-    looks_five c.args.used.now c.args.here.now c.requires.some c.next-node.ensures.reads c.key_of-read.ensures.reads
+    looks_five c.args.used.now (said c.args.at.now.slots.now c.args.here.now) c.requires.some
+    c.next-node.ensures.reads c.key_of-read.ensures.reads
 
 pub returns-else-key-number-clause-looks : goal.returns-else-key-number-clause-looks
 returns-else-key-number-clause-looks g c =
-    looks_five c.args.used.now c.args.here.now c.requires.some c.next-node.ensures.reads c.key_of-read.ensures.reads
+    looks_five c.args.used.now (said c.args.at.now.slots.now c.args.here.now) c.requires.some
+    c.next-node.ensures.reads c.key_of-read.ensures.reads
 
 module _ {p q r : PassView} {m n : ℕ} (x : ReadsIn p q m) (y : ReadsIn q r n) (here : Held)
     (held : IsHeld (knows p.trace) here) {found : Option Held} (next : IsNextRead p q here found) (node : Held)
@@ -118,12 +127,15 @@ pub returns-then-key-number-clause-met : goal.returns-then-key-number-clause-met
 returns-then-key-number-clause-met g c =
     let x = c.in_ok-node.ensures in
     let y = c.in_ok-key.ensures in
-    let node = c.in-Some.node in
-    meets_key x.reads y.reads c.args.here.now c.requires.held x.next node c.in-Some.is y.key c.in_default-of.ensures
+    let node = said c.args.at.now.slots.now c.in-Some.node in
+    let there = ap (said_if c.args.at.now.slots.now) c.in-Some.is in
+    let plain = rw (layout_at c.layout.ensures.layout c.next-node.ensures.table) at c.in_default-of.ensures in
+    meets_key x.reads y.reads (said c.args.at.now.slots.now c.args.here.now) c.requires.held x.next node there y.key
+    plain
     c.args.number c.args.used.now _ (Smaller node) refl (omega arith) (record {
       key = c.in_ok-key.key;
-      has = has_key x.reads y.reads c.args.here.now c.requires.held x.next node c.in-Some.is y.key
-          c.in_default-of.ensures;
+      has = has_key x.reads y.reads (said c.args.at.now.slots.now c.args.here.now) c.requires.held x.next node there
+          y.key plain;
       low = c.if-key-number.true;
     })
 
@@ -131,10 +143,14 @@ pub returns-else-key-number-clause-met : goal.returns-else-key-number-clause-met
 returns-else-key-number-clause-met g c =
     let x = c.in_ok-node.ensures in
     let y = c.in_ok-key.ensures in
-    let node = c.in-Some.node in
+    let node = said c.args.at.now.slots.now c.in-Some.node in
+    let there = ap (said_if c.args.at.now.slots.now) c.in-Some.is in
+    let plain = rw (layout_at c.layout.ensures.layout c.next-node.ensures.table) at c.in_default-of.ensures in
     let high : c.args.number ≤ c.in_ok-key.key = let f = c.if-key-number.false in omega (arith, f) in
-    meets_key x.reads y.reads c.args.here.now c.requires.held x.next node c.in-Some.is y.key c.in_default-of.ensures
+    meets_key x.reads y.reads (said c.args.at.now.slots.now c.args.here.now) c.requires.held x.next node there y.key
+    plain
     c.args.number c.args.used.now _ (Beyond node c.in_ok-key.key) refl (omega arith) (
-      has_key x.reads y.reads c.args.here.now c.requires.held x.next node c.in-Some.is y.key c.in_default-of.ensures,
+      has_key x.reads y.reads (said c.args.at.now.slots.now c.args.here.now) c.requires.held x.next node there y.key
+          plain,
       high,
     )

@@ -2,6 +2,7 @@ use Rattle.std.proofs.Common.{◌≡◌, ℕ, ◌+◌, ◌<◌, length, sym, ap,
 use Rattle.std.specs.Prelude.{slice_index}
 use Rattle.std.specs.Vec.{vec_capacity}
 use Rattle.std.proofs.lemmas.List.{length_push}
+use Rattle.vbr_words.specs.Packing.{unpacked}
 use Rattle.vbr_words.specs.Words.{link_of}
 use Rattle.vbr_words.specs.declared.link.Link.{Link}
 use Rattle.vbr_machine.specs.Accounts.{incarnations_after}
@@ -29,7 +30,8 @@ loop-slot-preserved g c =
     let low : c.loop-slot.slot < c.args.shape.now.slots =
     (let l = c.loop-slot-test.true in let e = c.slots-slot-end.ensures.slots in omega arith) in
     let i = c.loop-slot.invariant in
-    let link = c.decode.ensures.link ∙ ap (λ (k : ℕ). link_of (slice_index words k)) c.place_index.ensures.index in
+    let link = c.decode.ensures.link ∙ (λ i. link_of
+    (unpacked (c.layout.ensures.layout i) (slice_index words (c.place_index.ensures.index i)))) in
     let mark = sym (ap (λ (l : Link). l.mark) link) in
     elim c.if-decode.branch [
       | then-decode w ↦ record {

@@ -1,6 +1,7 @@
-use Rattle.std.proofs.Common.{ℕ, ◌<◌, length, sym, ap, ◌∙◌, arith}
+use Rattle.std.proofs.Common.{◌<◌, length, sym, ap, ◌∙◌, arith}
 use Rattle.std.specs.Prelude.{slice_index}
 use Rattle.std.proofs.lemmas.List.{length_push}
+use Rattle.vbr_words.specs.Packing.{unpacked}
 use Rattle.vbr_words.specs.Words.{link_of}
 use Rattle.vbr_words.specs.declared.link.Link.{Link}
 use Rattle.vbr_machine.specs.Accounts.{incarnations_after}
@@ -28,8 +29,8 @@ loop-slot-preserved-then-not-notes-slot c =
             | then-not-notes-slot-via-else-not-notes-slot+then-decode w ↦
                 (gathered_marked c.args.notes.now x lists low w.if-not-notes-slot.false
                 (sym (ap (λ (l : Link). l.mark)
-                (w.decode.ensures.link
-                ∙ ap (λ (k : ℕ). link_of (slice_index c.args.words.now k)) w.place_index.ensures.index))
+                (w.decode.ensures.link ∙ (λ i. link_of
+                (unpacked (w.layout.ensures.layout i) (slice_index c.args.words.now (c.place_index.ensures.index i))))))
                 ∙ w.if-decode.true) before).listed_is
           ];
       few = (let f = i.few in omega arith);
@@ -44,7 +45,8 @@ loop-slot-preserved c =
     (let l = c.loop-slot-test.true in let e = c.slots-slot-end.ensures.slots in omega arith) in
     let i = c.loop-slot.invariant in
     let mark = sym (ap (λ (l : Link). l.mark)
-    (c.decode.ensures.link ∙ ap (λ (k : ℕ). link_of (slice_index words k)) c.place_index.ensures.index)) in
+    (c.decode.ensures.link ∙ (λ i. link_of
+    (unpacked (c.layout.ensures.layout i) (slice_index words (c.place_index.ensures.index i)))))) in
     record {
       gathered = λ opened run x lists.
           let start = with_opened c.args.shape.now opened in

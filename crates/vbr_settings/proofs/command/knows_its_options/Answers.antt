@@ -1,13 +1,15 @@
 -- `clap`'s definition computes at these arguments.
 use Rattle.std.proofs.Common.{refl}
 use Rattle.clap.proofs.OnLiterals.{clap_on_literals}
+use lib.Count.{count_leading_zeros}
+use Rattle.vbr_words.specs.Packing.{slot_bits}
 use Rattle.vbr_settings.specs.Options.{command_line, AreOptions, number_among, has_switch, asks_map, file_among}
 use Rattle.vbr_settings.specs.Options.{explained_among, settings_of, file_of, explained_of}
 use Rattle.vbr_settings.proofs.command.knows_its_options.Goals as goal
 
 pub returns-clause-name_alone : goal.returns-clause-name_alone
 unfolding clap_on_literals command_line AreOptions number_among has_switch asks_map file_among explained_among
-    settings_of file_of explained_of
+    settings_of file_of explained_of slot_bits count_leading_zeros
 returns-clause-name_alone c name = (refl, refl, refl, refl, refl)
 
 pub returns-clause-all_given : goal.returns-clause-all_given

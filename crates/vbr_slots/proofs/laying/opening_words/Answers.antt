@@ -1,7 +1,6 @@
 -- Each turn links the key before those that are linked; after the last, all are.
 use Rattle.std.proofs.Common.{◌≡◌, suc, ◌-◌, ◌<◌, ◌≤◌, drop, length, refl, sym, ap, ◌∙◌, subst, arith}
 use Rattle.vbr_machine.specs.Start.{Start, start_with}
-use Rattle.vbr_words.specs.declared.link.TheConstants.{MAX_SLOTS}
 use Rattle.vbr_machine.specs.Machine.{World}
 use Rattle.vbr_machine.specs.Making.{opening_from}
 use Rattle.vbr_machine.proofs.Lemmas.{opening_all, opening_step}
@@ -19,15 +18,16 @@ loop-number-preserved c =
     let low = c.loop-number.invariant.low in
     let last : number ≡ suc (number - 1) = (let test = c.loop-number-test.true in omega (arith, test)) in
     let inside : number - 1 < length c.args.keys.now = omega (arith, low, last) in
-    let few : length c.args.keys.now ≤ MAX_SLOTS =
-    (let most = c.in_ok-words.ensures.shape.slots in let f = c.requires.few in omega (arith, most, f)) in
+    let few : length c.args.keys.now ≤ c.args.shape.now.slots = c.requires.few in
+    let most = c.in_ok-words.ensures.shape.slots in
     let linked =
-    c.link_key.ensures c.args.keys.now c.args.values.now (opening_from start number) (heads_fit start number low few)
+    c.link_key.ensures c.args.keys.now c.args.values.now (opening_from start number)
+    (heads_fit start number low few c.in_ok-words.ensures.shape.some_epoch)
     (subst (AreWordsOf start (opening_from start number)) (sym c.deref_mut.ensures.value)
     c.loop-number.invariant.words) in
     let next = subst (λ (w : World). AreWordsOf start w c.link_key.new.words)
     (opening_step start start number (number - 1) _ _ _ (opening_from start number) _ refl refl last
-    (omega (arith, inside)) refl c.value_at.ensures inside (omega (arith, few)) refl) linked in
+    (omega (arith, inside)) refl c.value_at.ensures inside (omega (arith, few, most)) refl) linked in
     let long : c.loop-number.words.len ≡ length c.link_key.new.words =
     (let l = c.loop-number.words.ok in
     let k = c.link_key.auto.words in

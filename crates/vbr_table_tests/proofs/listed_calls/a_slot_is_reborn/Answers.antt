@@ -1,9 +1,8 @@
 -- The list is worked, without values and with them.
-use Rattle.vbr_event_lists.proofs.Lemmas.{reborn_slot, reborn_slot_with_values}
 use Rattle.vbr_table_tests.proofs.listed_calls.a_slot_is_reborn.Goals as goal
 
 pub expect_both-requires-clause-bare : goal.expect_both-requires-clause-bare
-expect_both-requires-clause-bare g c = reborn_slot
+expect_both-requires-clause-bare g c = c.reborn_slot.ensures.worked
 
 pub expect_both-requires-clause-valued : goal.expect_both-requires-clause-valued
-expect_both-requires-clause-valued g c = reborn_slot_with_values
+expect_both-requires-clause-valued g c = c.reborn_slot.ensures.valued

@@ -5,6 +5,7 @@ use Rattle.vbr_words.specs.declared.place.At.TheVariants.{Head, Slot}
 use Rattle.vbr_machine.specs.Knowledge.{Know}
 use Rattle.vbr_machine.specs.Membership.{KeyAt}
 use Rattle.vbr_at_table.specs.KeptKnowledge.{Keeps}
+use Rattle.vbr_at_table.specs.Held.{said}
 use Rattle.vbr_at_table.specs.Values.{IsValueRead}
 use Rattle.vbr_at_table.proofs.Lemmas.{held_kept}
 use Rattle.vbr_table_tests.proofs.lost_stores.lose_get.Goals as goal
@@ -18,7 +19,7 @@ value_of-requires-clause-held g c = c.requires.node.present.held
 
 pub confirm_present_entry-told-requires-clause-node : goal.confirm_present_entry-told-requires-clause-node
 confirm_present_entry-told-requires-clause-node g c =
-    let node = c.args.node.now in
+    let node = said c.args.slots.now c.args.node.now in
     let value : IsValueRead c.args.pass.now c.value_of.new.pass node.at c.expect-value.result = search rules in
     record {
       held = held_kept node value.keeps c.requires.node.present.held;
@@ -34,7 +35,7 @@ confirm_present_entry-told-requires-clause-asked g c =
 
 pub returns-clause-held : goal.returns-clause-held
 returns-clause-held g c =
-    let node = c.args.node.now in
+    let node = said c.args.slots.now c.args.node.now in
     let value : IsValueRead c.args.pass.now c.value_of.new.pass node.at c.expect-value.result = search rules in
     held_kept node c.confirm_present_entry-told.ensures.keeps.keeps.keeps
     (held_kept node value.keeps c.requires.node.present.held)

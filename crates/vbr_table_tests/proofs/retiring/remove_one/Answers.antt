@@ -1,16 +1,17 @@
 -- The node is present until it is marked, and the head stays held.
 use Rattle.vbr_at_table.proofs.Lemmas.{held_kept}
 use Rattle.vbr_list.proofs.Lemmas.{of_on}
+use Rattle.vbr_at_table.specs.Held.{said}
 use Rattle.vbr_table_tests.proofs.retiring.HeldThrough.{own_marked, present_kept}
 use Rattle.vbr_table_tests.proofs.retiring.remove_one.Goals as goal
 
 pub mark_entry-requires-clause-node : goal.mark_entry-requires-clause-node
 mark_entry-requires-clause-node g c =
-    present_kept c.read_one.result.1 c.read_value.ensures.keeps c.read_one.ensures.node
+    present_kept (said c.args.slots.now c.read_one.result.1) c.read_value.ensures.keeps c.read_one.ensures.node
 
 pub unlink-requires-clause-own : goal.unlink-requires-clause-own
 unlink-requires-clause-own g c =
-    let node = c.read_one.result.1 in
+    let node = said c.args.slots.now c.read_one.result.1 in
     own_marked c.read_value.new.pass.trace c.mark_entry.new.pass.trace node c.mark_entry.result
     c.mark_entry.ensures.removed c.mark_entry.ensures.lost
     (present_kept node c.read_value.ensures.keeps c.read_one.ensures.node) c.read_value.ensures.valued
@@ -18,7 +19,7 @@ unlink-requires-clause-own g c =
 
 pub unlink-requires-clause-pred : goal.unlink-requires-clause-pred
 unlink-requires-clause-pred g c =
-    let head = c.read_one.result.0 in
+    let head = said c.args.slots.now c.read_one.result.0 in
     record {
       held = held_kept head c.mark_entry.ensures.keeps.keeps
           (held_kept head c.read_value.ensures.keeps c.read_one.ensures.head.held);
@@ -27,7 +28,7 @@ unlink-requires-clause-pred g c =
 
 pub returns-clause-own : goal.returns-clause-own
 returns-clause-own g c =
-    let node = c.read_one.result.1 in
+    let node = said c.args.slots.now c.read_one.result.1 in
     of_on c.unlink.ensures.stays.quiet.same
     (own_marked c.read_value.new.pass.trace c.mark_entry.new.pass.trace node c.mark_entry.result
     c.mark_entry.ensures.removed c.mark_entry.ensures.lost

@@ -1,9 +1,11 @@
 -- The first rows of the list are worked.
 use Rattle.vbr_machine.specs.Machine.{opening}
 use Rattle.vbr_event_lists.specs.Worked.{many_epochs}
-use Rattle.vbr_event_lists.specs.declared.standing.TheConstants.{STANDING, STANDING_WORDS}
-use Rattle.vbr_event_lists.proofs.Lemmas.{first_worked, standing}
+use Rattle.vbr_event_lists.specs.declared.standing.TheConstants.{STANDING_WORDS}
+use Rattle.vbr_event_lists.proofs.Lemmas.{first_worked}
 use Rattle.vbr_table_tests.proofs.standing_still.stand_behind.Goals as goal
 
 pub stand_still-requires : goal.stand_still-requires
-stand_still-requires g c = first_worked many_epochs c.args.steps STANDING (opening many_epochs) STANDING_WORDS standing
+stand_still-requires g c =
+    first_worked many_epochs c.args.steps c.standing_rows.result (opening many_epochs) STANDING_WORDS
+    c.standing_rows.ensures.worked

@@ -2,11 +2,12 @@
 use Rattle.vbr_machine.specs.Machine.{opening}
 use Rattle.vbr_event_lists.specs.Worked.{many_epochs}
 use Rattle.vbr_event_lists.specs.Valued.{valued}
-use Rattle.vbr_event_lists.specs.declared.standing.TheConstants.{STANDING_WITH_VALUES, STANDING_WORDS}
-use Rattle.vbr_event_lists.proofs.Lemmas.{first_worked, standing_with_values}
+use Rattle.vbr_event_lists.specs.declared.standing.TheConstants.{STANDING_WORDS}
+use Rattle.vbr_event_lists.proofs.Lemmas.{first_worked}
 use Rattle.vbr_table_tests.proofs.standing_still.stand_behind_in_a_map.Goals as goal
 
 pub stand_still-requires : goal.stand_still-requires
 stand_still-requires g c =
-    first_worked (valued many_epochs) c.args.steps STANDING_WITH_VALUES (opening (valued many_epochs)) STANDING_WORDS
-    standing_with_values
+    first_worked (valued many_epochs) c.args.steps c.standing_rows_with_values.result (opening (valued many_epochs))
+    STANDING_WORDS
+    c.standing_rows_with_values.ensures.worked

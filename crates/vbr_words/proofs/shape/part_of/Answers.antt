@@ -1,19 +1,20 @@
 -- A part by a shift, where the number of buckets is a power of two.
-use Rattle.std.proofs.Common.{◌≡◌, ℕ, ◌*◌, ◌/◌, ◌^◌, ◌∙◌, ap, sym, arith}
+use Rattle.std.proofs.Common.{ℕ, ◌*◌, ◌/◌, ◌^◌, ◌<◌, ◌∙◌, ap, subst, sym, arith}
 use Rattle.std.specs.Int.{trailing_zeros, w32}
-use Rattle.std.specs.Prelude.{count_ones}
-use Rattle.std.proofs.lemmas.Bool.Decides.{nat_tests}
 use Rattle.std.proofs.lemmas.Nat.{trailing_le}
+use Rattle.vbr_words.proofs.Buckets.{shift_is}
 use Rattle.vbr_words.proofs.Powers.{part_is, power_is}
 use Rattle.vbr_words.proofs.shape.part_of.Goals as goal
 
-pub returns-then-is_power_of_two : goal.returns-then-is_power_of_two
-returns-then-is_power_of_two c =
+pub returns-then-shift-gt0 : goal.returns-then-shift-gt0
+returns-then-shift-gt0 c =
+    let bits = c.args.bits in
     let buckets = c.args.buckets in
     let zeros = trailing_zeros w32 buckets in
-    let test = c.if-is_power_of_two.ensures in
-    let one : count_ones buckets ≡ 1 = grind (arith, nat_tests) in
+    let some = c.if-shift-gt0.true in
+    let is = shift_is buckets (subst (λ (n : ℕ). 0 < n) c.requires.shift (omega (arith, some))) in
     record {
-      part = part_is c.args.bits zeros (trailing_le 32 buckets)
-          ∙ ap (λ (n : ℕ). c.args.bits * n / 2 ^ 32) (sym (power_is buckets c.ranges.buckets.fits one));
+      part = ap (λ (n : ℕ). bits / 2 ^ n) (c.requires.shift ∙ is.1)
+          ∙ part_is bits zeros (trailing_le 32 buckets)
+          ∙ ap (λ (n : ℕ). bits * n / 2 ^ 32) (sym (power_is buckets c.ranges.buckets.fits is.0));
     }

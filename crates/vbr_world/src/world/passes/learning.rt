@@ -2,7 +2,7 @@
 ghost use Rattle.std.specs.Prelude.{◌≡◌, ◌<◌, ◌≤◌, length, Some, None, OnOk, OnErr};
 ghost use Rattle.std.specs.List.{AllByRecursion};
 ghost use Rattle.vbr_words.specs.Words.{IsLink};
-ghost use Rattle.vbr_words.specs.declared.shape.TheConstants.{MAX_EPOCH};
+ghost use Rattle.vbr_words.specs.declared.link.TheConstants.{MAX_VERSION};
 ghost use Rattle.vbr_machine.specs.Acceptance.{Accepts, stamp_in};
 ghost use Rattle.vbr_machine.specs.Learning.{newborn, learn, with_own, with_checked, with_pending, read_epoch};
 ghost use Rattle.vbr_world.specs.Growth.{ReadsMore};
@@ -10,12 +10,12 @@ ghost use Rattle.vbr_world.specs.WorldInLists.{know_of, FitsRead, FitsHolding};
 ghost use Rattle.vbr_world.specs.KeptLearning.{HasRoomInWords, Learns, with_all_checked, with_all_reread, with_epoch, with_linked, know_with_won};
 
 use crate::world::holdings;
+use crate::world::numbers::{has_flag, link_of, number_of};
 use crate::world::passes::PassState;
 use crate::world::start::Start;
 use std::alloc::AllocError;
 use vbr_machine::{Holding, Read, Step};
-use vbr_words::flags::has_flag;
-use vbr_words::{At, Link, decode};
+use vbr_words::{At, Link};
 
 impl PassState {
     // What the pass knows of a slot is changed.
@@ -59,7 +59,7 @@ impl PassState {
 
     // The epoch has moved: nothing that was read counts any more.
     fn forget(&mut self, epoch: u64)
-        requires { epoch ≤ MAX_EPOCH }
+        requires { epoch ≤ MAX_VERSION }
         ensures { Learns self.old self.new (with_epoch epoch) }
     {
         self.epoch = epoch;
@@ -76,7 +76,7 @@ impl PassState {
 
     // The pass has read this epoch.
     fn read_epoch(&mut self, epoch: u64) -> Result<(), AllocError>
-        requires { epoch ≤ MAX_EPOCH }
+        requires { epoch ≤ MAX_VERSION }
         ensures learned { OnOk result (Learns self.old self.new (λ know. read_epoch know epoch)) }
         ensures refused { OnErr result (self.new ≡ self.old) }
         ensures grows { OnErr result
@@ -135,20 +135,20 @@ impl PassState {
 
     // An exchange of a link has succeeded: the link that it wrote is checked. What was published is
     // no longer the pass's, and what was unlinked is.
-    fn learn_won(&mut self, start: &Start, step: Step) -> Result<(), AllocError>
+    fn learn_won(&mut self, start: &Start, step: &Step) -> Result<(), AllocError>
         requires slots { length self.old.own ≡ start.now.shape.slots }
-        requires accepted { Accepts start.now (know_of self.old) step }
-        ensures learned { OnOk result (Learns self.old self.new (know_with_won step)) }
+        requires accepted { Accepts start.now (know_of self.old) step.now }
+        ensures learned { OnOk result (Learns self.old self.new (know_with_won step.now)) }
         ensures refused { OnErr result (self.new ≡ self.old) }
     {
-        let link = self.new_link(start, step);
+        let link = self.new_link(start, *step);
         match step {
-            Step::Publish { pred, slot, .. } => self.learn_linked(pred, link, slot)?,
-            Step::Mark { slot, .. } => self.add_checked(&[Read::LinkAt(At::Slot(slot), link)])?,
-            Step::Replace { slot, new, .. } => self.learn_linked(At::Slot(slot), link, new)?,
+            Step::Publish { pred, slot, .. } => self.learn_linked(*pred, link, *slot)?,
+            Step::Mark { slot, .. } => self.add_checked(&[Read::LinkAt(At::Slot(*slot), link)])?,
+            Step::Replace { slot, new, .. } => self.learn_linked(At::Slot(*slot), link, *new)?,
             Step::Unlink { pred, slot, .. } => {
-                self.add_checked(&[Read::LinkAt(pred, link)])?;
-                self.put(slot, Some(Holding::Unlinked(false)));
+                self.add_checked(&[Read::LinkAt(*pred, link)])?;
+                self.put(*slot, Some(Holding::Unlinked(false)));
             }
             _ => {}
         }
@@ -160,46 +160,56 @@ impl PassState {
     pub fn learn(
         &mut self,
         start: &Start,
-        step: Step,
-        found: u64,
+        step: &Step,
+        found: u128,
         stamp: u64,
     ) -> Result<(), AllocError>
         requires slots { length self.old.own ≡ start.now.shape.slots }
-        requires accepted { Accepts start.now (know_of self.old) step }
-        requires room { HasRoomInWords step found }
-        ensures learned { OnOk result (Learns self.old self.new (learn step found stamp)) }
+        requires accepted { Accepts start.now (know_of self.old) step.now }
+        requires room { HasRoomInWords step.now found }
+        ensures learned { OnOk result (Learns self.old self.new (learn step.now found stamp)) }
         ensures refused { OnErr result (self.new ≡ self.old) }
         ensures grows { OnErr result
-            (ReadsMore (know_of self.old) (learn step found stamp (know_of self.old))) }
+            (ReadsMore (know_of self.old) (learn step.now found stamp (know_of self.old))) }
     {
         match step {
-            Step::ReadEpoch => self.read_epoch(found)?,
-            Step::LoadLink { at: place } => self.add_pending(Read::LinkAt(place, decode(found)))?,
-            Step::LoadBirth { slot } => self.add_pending(Read::BirthOf(slot, found))?,
-            Step::LoadKey { slot } => self.add_pending(Read::KeyOf(slot, found))?,
-            Step::LoadValue { slot } => self.add_pending(Read::ValueOf(slot, found))?,
-            Step::StoreStamp { slot, stamp } => self.put(slot, Some(Holding::Free(stamp))),
-            Step::Raise { slot } => self.put(slot, None),
-            Step::TakeFlag { slot } if has_flag(found, slot) => {
-                self.put(slot, Some(Holding::Free(stamp)));
+            Step::ReadEpoch => self.read_epoch(found as u64)?,
+            Step::LoadLink { at: place } => {
+                self.add_pending(Read::LinkAt(*place, link_of(found)))?;
             }
-            Step::StoreBirth { slot, birth } => self.bear(slot, birth),
+            Step::LoadBirth { slot } => self.add_pending(Read::BirthOf(*slot, found as u64))?,
+            Step::LoadKey { slot } => self.add_pending(Read::KeyOf(*slot, found as u64))?,
+            Step::LoadValue { slot } => self.add_pending(Read::ValueOf(*slot, found as u64))?,
+            Step::StoreStamp { slot, stamp } => self.put(*slot, Some(Holding::Free(*stamp))),
+            Step::Raise { slot } => self.put(*slot, None),
+            Step::TakeFlag { slot } if has_flag(found, *slot) => {
+                self.put(*slot, Some(Holding::Free(stamp)));
+            }
+            Step::StoreBirth { slot, birth } => self.bear(*slot, *birth),
             Step::StoreKey { slot, key } => {
-                let holding = self.holding(slot);
-                self.put(slot, holdings::with_key(holding, key));
+                let holding = self.holding(*slot);
+                self.put(*slot, holdings::with_key(holding, *key));
             }
             Step::StoreValue { slot, value } => {
-                let holding = self.holding(slot);
-                self.put(slot, holdings::with_value(holding, value));
+                let holding = self.holding(*slot);
+                self.put(*slot, holdings::with_value(holding, *value));
             }
             Step::StoreLink { slot, .. } => {
-                let (holding, link) = (self.holding(slot), self.new_link(start, step));
-                self.put(slot, holdings::with_link(holding, link));
+                let (holding, link) = (self.holding(*slot), self.new_link(start, *step));
+                self.put(*slot, holdings::with_link(holding, link));
             }
-            Step::Publish { expected, .. } if found == expected => self.learn_won(start, step)?,
-            Step::Mark { expected, .. } if found == expected => self.learn_won(start, step)?,
-            Step::Replace { expected, .. } if found == expected => self.learn_won(start, step)?,
-            Step::Unlink { expected, .. } if found == expected => self.learn_won(start, step)?,
+            Step::Publish { expected, .. } if found == number_of(*expected) => {
+                self.learn_won(start, step)?;
+            }
+            Step::Mark { expected, .. } if found == number_of(*expected) => {
+                self.learn_won(start, step)?;
+            }
+            Step::Replace { expected, .. } if found == number_of(*expected) => {
+                self.learn_won(start, step)?;
+            }
+            Step::Unlink { expected, .. } if found == number_of(*expected) => {
+                self.learn_won(start, step)?;
+            }
             _ => {}
         }
         Ok(())

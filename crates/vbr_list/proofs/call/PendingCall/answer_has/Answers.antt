@@ -5,24 +5,31 @@ use Rattle.vbr_list.specs.Walking.{LosesHeld}
 use Rattle.vbr_list.proofs.Disturbing.{loses_link}
 use Rattle.vbr_list.proofs.Going.{settles_step}
 use Rattle.vbr_list.proofs.Sights.{answers_bare, sight_answers, sight_held, sight_unmarked}
+use Rattle.vbr_at_table.specs.Held.{said_rollback}
+use Rattle.vbr_list.proofs.WideWords.{wide_present, wide_sighted}
+use Rattle.vbr_list.specs.Words.{wide_held, wide_sight}
 use Rattle.vbr_list.proofs.call.PendingCall.answer_has.Goals as goal
 
 pub confirm_look_up-outcome-requires-clause-held : goal.confirm_look_up-outcome-requires-clause-held
 confirm_look_up-outcome-requires-clause-held g c =
     let p = c.args.self.now.at.stepper.now.trace in
-    let P : Held → Type 0 = IsUnmarked (knows p) in
-    subst P (sym c.told_by-present.ensures.held)
+    let P : Held → Type 0 = λ h. IsUnmarked (knows p) (wide_held c.args.self.now h) in
+    subst P (sym c.told_by-present.ensures.held) (rw⁻¹ (wide_sighted c.args.self.now c.args.sight)
     (record {
-      held = sight_held p.start (knows p) c.args.self.now.key c.args.sight c.requires.sight;
-      unmarked = sight_unmarked p.start (knows p) c.args.self.now.key c.args.sight c.requires.sight;
-    })
+      held = sight_held p.start (knows p) c.args.self.now.key (wide_sight c.args.self.now c.args.sight)
+          c.requires.sight;
+      unmarked = sight_unmarked p.start (knows p) c.args.self.now.key (wide_sight c.args.self.now c.args.sight)
+          c.requires.sight;
+    }))
 
 pub confirm_look_up-outcome-requires-clause-decides : goal.confirm_look_up-outcome-requires-clause-decides
 confirm_look_up-outcome-requires-clause-decides g c =
     let p = c.args.self.now.at.stepper.now.trace in
-    let P : Held × Bool → Type 0 = λ x. DecidesKey p.start (knows p) c.args.self.now.key x.0 x.1 in
+    let P : Held × Bool → Type 0 = λ x. DecidesKey p.start (knows p) c.args.self.now.key (wide_held c.args.self.now x.0)
+    x.1 in
     subst P (λ i. (sym c.told_by-present.ensures.held i, sym c.told_by-present.ensures.present i))
-    (sight_answers p.start (knows p) c.args.self.now.key c.args.sight c.requires.sight)
+    (rw (wide_sighted c.args.self.now c.args.sight, wide_present c.args.self.now c.args.sight) at
+    (sight_answers p.start (knows p) c.args.self.now.key (wide_sight c.args.self.now c.args.sight) c.requires.sight))
 
 pub returns-in-Ok-clause-settles : goal.returns-in-Ok-clause-settles
 returns-in-Ok-clause-settles g c = settles_step (search rules) refl c.confirm_look_up-outcome.ensures.keeps.keeps
@@ -42,9 +49,11 @@ returns-in-Err-clause-rolls g c =
     let p = c.args.self.now.at.stepper.now.trace in
     let q = c.confirm_look_up-outcome.new.at.stepper.now.trace in
     let lost = c.in-Err.ensures.lost in
-    let P : Held → Type 0 = LosesHeld p q in
+    let P : Held → Type 0 = λ h. LosesHeld p q (wide_held c.args.self.now h) in
     record {
       quiet = lost.quiet;
       adds_none = lost.adds_none;
-      loses = subst P c.told_by-present.ensures.held (loses_link c.told_by-present.result.0 _ lost.lost);
+      loses = rw (wide_sighted c.args.self.now c.args.sight) (subst P c.told_by-present.ensures.held
+          (loses_link (wide_held c.args.self.now c.told_by-present.result.0)
+          (said_rollback c.args.self.now.at.slots.now c.in-Err.rollback) lost.lost));
     }

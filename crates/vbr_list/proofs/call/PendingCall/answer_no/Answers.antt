@@ -5,11 +5,14 @@ use Rattle.vbr_list.proofs.LostAnswers.{unanswered_by_cur, unanswered_by_pred}
 use Rattle.vbr_list.proofs.Moments.{key_found}
 use Rattle.vbr_list.proofs.Passing.{before_named}
 use Rattle.vbr_list.proofs.Sufficing.{each_error, on_ok}
+use Rattle.vbr_at_table.specs.Held.{said_rollback}
+use Rattle.vbr_list.proofs.WideWords.{wide_is}
+use Rattle.vbr_list.specs.Words.{wide_found, wide_held}
 use Rattle.vbr_list.proofs.call.PendingCall.answer_no.Goals as goal
 
 pub confirm_absent-requires-clause-gap : goal.confirm_absent-requires-clause-gap
 confirm_absent-requires-clause-gap g c =
-    let f = c.args.found.now in
+    let f = wide_found c.args.self.now c.args.found.now in
     record {
       held = search rules;
       behind = search rules;
@@ -37,7 +40,7 @@ returns-then-not-found-clause-made g c =
 pub returns-clause-made : goal.returns-clause-made
 returns-clause-made g c =
     let p = c.args.self.now.at.stepper.now.trace in
-    let key = key_found c.requires.locates c.in-Some.is c.if-not-found.false in
+    let key = key_found c.requires.locates (wide_is c.args.self.now c.in-Some.is) c.if-not-found.false in
     let P : Bool → Type 0 =
     λ present. IfOk c.confirm_present.result
     (λ _. Made (set_call p.who (denied present) c.args.self.now.key false) p
@@ -48,12 +51,18 @@ returns-clause-made g c =
 
 pub returns-then-not-found-clause-rolls : goal.returns-then-not-found-clause-rolls
 returns-then-not-found-clause-rolls g c =
-    each_error (FindsAnother c.args.self.now.at.stepper.now.trace c.confirm_absent.new.at.stepper.now.trace
-    c.args.found.now.pred) _ c.confirm_absent.result (unanswered_by_pred c.law.ensures c.args.found.now)
+    each_error (λ why. FindsAnother c.args.self.now.at.stepper.now.trace c.confirm_absent.new.at.stepper.now.trace
+    (wide_held c.args.self.now c.args.found.now.pred) (said_rollback c.args.self.now.at.slots.now why)) _
+    c.confirm_absent.result
+    (λ why. unanswered_by_pred c.law.ensures (wide_found c.args.self.now c.args.found.now)
+    (said_rollback c.args.self.now.at.slots.now why))
     c.confirm_absent.ensures.lost
 
 pub returns-clause-rolls : goal.returns-clause-rolls
 returns-clause-rolls g c =
-    each_error (FindsAnother c.args.self.now.at.stepper.now.trace c.confirm_present.new.at.stepper.now.trace
-    c.in-Some.cur) _ c.confirm_present.result
-    (unanswered_by_cur c.law.ensures c.args.found.now c.in-Some.cur c.in-Some.is) c.confirm_present.ensures.lost
+    each_error (λ why. FindsAnother c.args.self.now.at.stepper.now.trace c.confirm_present.new.at.stepper.now.trace
+    (wide_held c.args.self.now c.in-Some.cur) (said_rollback c.args.self.now.at.slots.now why)) _
+    c.confirm_present.result
+    (λ why. unanswered_by_cur c.law.ensures (wide_found c.args.self.now c.args.found.now)
+    (wide_held c.args.self.now c.in-Some.cur) (wide_is c.args.self.now c.in-Some.is)
+    (said_rollback c.args.self.now.at.slots.now why)) c.confirm_present.ensures.lost

@@ -5,6 +5,7 @@ use Rattle.vbr_list.proofs.FoundValues.{asks_read, asks_then, tells_since}
 use Rattle.vbr_list.proofs.ReadFirst.{found_lost_since}
 use Rattle.vbr_list.proofs.Sufficing.{any_error}
 use Rattle.vbr_list.proofs.Wants.{compare_few}
+use Rattle.vbr_list.specs.Words.{wide_found}
 use Rattle.vbr_list.proofs.call.PendingCall.ask.Goals as goal
 
 pub returns-in_err-there-clause-asks : goal.returns-in_err-there-clause-asks
@@ -29,7 +30,8 @@ returns-then-wants-clause-met g c =
     let reads = c.in_ok-there.ensures.found in
     let is : wants c.args.wanted c.in_ok-there.there ≡ true = sym c.wants.ensures ∙ c.if-wants.true in
     let used = r.used in
-    let few = compare_few (knows c.read_found.new.self.at.stepper.now.trace) c.args.found.now c.args.wanted
+    let few = compare_few (knows c.read_found.new.self.at.stepper.now.trace)
+    (wide_found c.args.self.now c.args.found.now) c.args.wanted
     c.in_ok-there.there c.requires.open is reads.known.is in
     (c.in_ok-there.there, record { quiet = r.reads.quiet; reads = reads; is = is; few = omega (arith, used, few) })
 
@@ -42,14 +44,15 @@ returns-in_err-tell_found-clause-asks g c =
 pub returns-in_err-tell_found-clause-lost : goal.returns-in_err-tell_found-clause-lost
 returns-in_err-tell_found-clause-lost g c =
     let r = c.read_found.ensures in
-    let lost = c.in_err-tell_found.ensures.lost in
+    let lost = simp r.call.at.slots at c.in_err-tell_found.ensures.lost in
     let used = r.used in
     let one = c.tell_found.ensures.used in
     any_error c.from_residual-in_err-tell_found.result
     (λ rollback.
     record {
       quiet = quiet_on r.reads.quiet lost.quiet;
-      loses = found_lost_since c.args.found.now c.law.ensures r.reads c.in_ok-there.ensures.found.keeps lost.loses;
+      loses = found_lost_since (wide_found c.args.self.now c.args.found.now) c.law.ensures r.reads
+          c.in_ok-there.ensures.found.keeps lost.loses;
       more = omega (arith, used, one);
     })
 

@@ -5,6 +5,8 @@ use Rattle.vbr_at_table.specs.Values.{IsOtherIn}
 use Rattle.vbr_list.proofs.Disturbing.{loses_link}
 use Rattle.vbr_list.proofs.Going.{settles_step}
 use Rattle.vbr_list.proofs.Sights.{answers_bare, none_given, op_gets, op_other}
+use Rattle.vbr_at_table.specs.Held.{said_rollback}
+use Rattle.vbr_list.specs.Words.{wide_held}
 use Rattle.vbr_list.proofs.call.PendingCall.give_none.Goals as goal
 
 pub confirm_absent-outcome-requires-clause-gap : goal.confirm_absent-outcome-requires-clause-gap
@@ -41,4 +43,9 @@ returns-in-Ok-clause-answers g c =
 pub returns-in-Err-clause-rolls : goal.returns-in-Err-clause-rolls
 returns-in-Err-clause-rolls g c =
     let lost = c.in-Err.ensures.lost in
-    record { quiet = lost.quiet; adds_none = lost.adds_none; loses = loses_link c.args.pred.now _ lost.lost }
+    record {
+      quiet = lost.quiet;
+      adds_none = lost.adds_none;
+      loses = loses_link (wide_held c.args.self.now c.args.pred.now)
+          (said_rollback c.args.self.now.at.slots.now c.in-Err.rollback) lost.lost;
+    }

@@ -11,6 +11,8 @@ use Rattle.vbr_list.proofs.Sufficing.{any_error}
 use Rattle.vbr_list.proofs.Told.{given_kept, told_since}
 use Rattle.vbr_list.proofs.ValueReads.{few_read, settles_read, steps_read}
 use Rattle.vbr_list.proofs.EntryAnswers.{held_entry_since}
+use Rattle.vbr_at_table.specs.Held.{said_rollback}
+use Rattle.vbr_list.specs.Words.{wide_held}
 use Rattle.vbr_list.proofs.call.PendingCall.give_value.Goals as goal
 
 pub value_if_any-read-requires-clause-held : goal.value_if_any-read-requires-clause-held
@@ -24,11 +26,11 @@ pub confirm_present-outcome-requires-clause-node : goal.confirm_present-outcome-
 confirm_present-outcome-requires-clause-node g c =
     let s = c.requires.sight in
     let keeps = c.in_ok-value.ensures.value.keeps in
-    record {
-      held = held_kept c.args.node.now keeps s.0;
+    rw c.value_if_any-read.ensures.table.slots (record {
+      held = held_kept (wide_held c.args.self.now c.args.node.now) keeps s.0;
       key = (c.args.self.now.key, key_kept c.args.node.now.at c.args.self.now.key keeps s.2);
       unmarked = s.1;
-    }
+    })
 
 pub confirm_present-outcome-requires-clause-op : goal.confirm_present-outcome-requires-clause-op
 confirm_present-outcome-requires-clause-op g c = λ e. absurd (cc)
@@ -57,7 +59,12 @@ returns-in_err-value-clause-rolls g c =
     let lost = c.in_err-value.ensures.moved in
     any_error c.from_residual.result
     (λ rollback.
-    record { quiet = reads.quiet; adds_none = reads.adds_none; loses = loses_value c.args.node.now _ lost.rolls })
+    record {
+      quiet = reads.quiet;
+      adds_none = reads.adds_none;
+      loses = loses_value
+          (wide_held c.args.self.now c.args.node.now) _ lost.rolls;
+    })
 
 pub returns-in-Ok-clause-settles : goal.returns-in-Ok-clause-settles
 returns-in-Ok-clause-settles g c =
@@ -107,16 +114,18 @@ returns-in-Ok-clause-answers g c =
       value = value;
       is = refl;
       zero = λ bare. absurd (cc);
-      shows = λ s at_slot. held_entry_since reads.quiet (c.in-Ok.ensures.there.shows s key at_slot keyed);
+      shows = λ s at_slot. held_entry_since reads.quiet
+          ((rw c.value_if_any-read.ensures.table.slots at c.in-Ok.ensures.there).shows s key at_slot keyed);
     }
 
 pub returns-in-Err-clause-rolls : goal.returns-in-Err-clause-rolls
 returns-in-Err-clause-rolls g c =
     let reads = c.value_if_any-read.ensures.reads in
-    let lost = c.in-Err.ensures.lost in
+    let lost = rw c.value_if_any-read.ensures.table.slots at c.in-Err.ensures.lost in
     record {
       quiet = quiet_on reads.quiet lost.quiet;
       adds_none = adds_on reads.adds_none lost.adds_none;
-      loses = loses_later c.args.node.now reads.quiet c.in_ok-value.ensures.value.keeps
-          (loses_link c.args.node.now _ lost.lost);
+      loses = loses_later (wide_held c.args.self.now c.args.node.now) reads.quiet c.in_ok-value.ensures.value.keeps
+          (loses_link (wide_held c.args.self.now c.args.node.now)
+          (said_rollback c.args.self.now.at.slots.now c.in-Err.rollback) lost.lost);
     }

@@ -1,5 +1,6 @@
 use Rattle.vbr_list.proofs.Names.{rules, arith}
 use Rattle.vbr_list.specs.Walking.{LosesPlace}
+use Rattle.vbr_list.specs.Words.{wide_held}
 use Rattle.vbr_list.proofs.Sufficing.{any_error}
 use Rattle.vbr_list.proofs.call.PendingCall.help.Goals as goal
 
@@ -13,7 +14,7 @@ returns-in_err-place-clause-goes g c =
 
 pub returns-in_err-place-clause-lost : goal.returns-in_err-place-clause-lost
 returns-in_err-place-clause-lost g c =
-    let held = record c.args.pred { epoch = c.args.marked.epoch } in
+    let held = wide_held c.args.self.now (record c.args.pred { epoch = c.args.marked.epoch }) in
     let lost : LosesPlace c.args.self.now.at.stepper.now.trace c.help_by_copy-outcome.new.at.stepper.now.trace held =
     search rules in
     any_error c.from_residual.result (λ rollback. lost)

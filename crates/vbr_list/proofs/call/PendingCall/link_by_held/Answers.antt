@@ -13,11 +13,14 @@ use Rattle.vbr_list.proofs.Going.{counts_step, took_same}
 use Rattle.vbr_list.proofs.Linking.{succ_found}
 use Rattle.vbr_list.proofs.Moments.{stands_before}
 use Rattle.vbr_list.proofs.Stores.{had_same}
+use Rattle.vbr_at_table.specs.Held.{said_succ}
+use Rattle.vbr_list.proofs.WideWords.{wide_lent}
+use Rattle.vbr_list.specs.Words.{wide_found, wide_held}
 use Rattle.vbr_list.proofs.call.PendingCall.link_by_held.Goals as goal
 
 pub update-requires-clause-gap : goal.update-requires-clause-gap
 update-requires-clause-gap g c =
-    let f = c.args.found.now in
+    let f = wide_found c.args.self.now c.args.found.now in
     let know = knows c.args.self.now.at.stepper.now.trace in
     let x = c.requires.knows.locates in
     let P : Bool → Type 0 = IsEnd know c.args.self.now.key f.pred f.cur in
@@ -30,9 +33,10 @@ update-requires-clause-gap g c =
 
 pub update-requires-clause-succ : goal.update-requires-clause-succ
 update-requires-clause-succ g c =
-    let f = c.args.found.now in
-    succ_found (knows c.args.self.now.at.stepper.now.trace) c.args.self.now.key f.pred c.as_ref.result f.cur f.present
-    c.as_ref.ensures.value c.requires.knows.locates.end
+    let f = wide_found c.args.self.now c.args.found.now in
+    succ_found (knows c.args.self.now.at.stepper.now.trace) c.args.self.now.key f.pred
+    (said_succ c.args.self.now.at.slots.now c.as_ref.result) f.cur f.present
+    (wide_lent c.args.self.now c.as_ref.result c.as_ref.ensures.value) c.requires.knows.locates.end
 
 pub update-requires-clause-hand : goal.update-requires-clause-hand
 update-requires-clause-hand g c = c.requires.hand.is
@@ -100,7 +104,8 @@ returns-in-Err-clause-back g c =
         given = record {
           quiet = lost.exchange.quiet;
           hand = record { is = lost.hand; room = subst P (sym c.update.ensures.stores.pool) c.requires.hand.room };
-          loses = inl (lost_place c.args.found.now.pred _ lost.exchange.lost lost.exchange.unchanged);
+          loses = inl (lost_place (wide_held c.args.self.now c.args.found.now.pred) _ lost.exchange.lost
+              lost.exchange.unchanged);
         };
         few = omega arith;
       };

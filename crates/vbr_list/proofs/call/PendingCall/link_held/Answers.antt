@@ -10,6 +10,9 @@ use Rattle.vbr_list.proofs.Linking.{lost_then, none_until, succ_found, takes_on}
 use Rattle.vbr_list.proofs.Preparing.{if_failed, if_went}
 use Rattle.vbr_list.proofs.Told.{told_as, told_bare}
 use Rattle.vbr_list.proofs.ValueReads.{few_to_update}
+use Rattle.vbr_at_table.specs.Held.{said_succ}
+use Rattle.vbr_list.proofs.WideWords.{wide_lent}
+use Rattle.vbr_list.specs.Words.{wide_found}
 use Rattle.vbr_list.proofs.call.PendingCall.link_held.Goals as goal
 
 -- the steps that an update makes
@@ -35,8 +38,9 @@ pub loop-found-preserved-then-is_err : goal.loop-found-preserved-then-is_err
 loop-found-preserved-then-is_err g c =
     let d = c.answer_no.ensures in (
       denied_then 4 (omega arith) {b = c.args.self.now} c.law.ensures c.loop-found.invariant.0 c.reach.ensures.goes
-          d.call d.used d.keeps c.in-Some.found c.in-Some.ensures.found
-          (if_failed c.answer_no.result (sym c.is_err.ensures.value ∙ c.if-is_err.true) d.rolls),
+          d.call d.used d.keeps (wide_found c.loop-found.self c.in-Some.found) c.in-Some.ensures.found
+          (simp c.reach.ensures.goes.call.at.slots at
+          (if_failed c.answer_no.result (sym c.is_err.ensures.value ∙ c.if-is_err.true) d.rolls)),
       c.loop-found.invariant.1,
     )
 
@@ -66,19 +70,25 @@ returns-then-found-clause-kept g c =
     let used = no.used in
     held_denied {b = c.args.self.now} {first = c.args.hand} c.law.ensures c.loop-found.invariant.0 c.reach.ensures.goes
     c.loop-found.invariant.1 c.answer_no.new.self c.args.value
-    c.in-Some.found c.in-Some.ensures.found (omega (arith, some, used))
+    (wide_found c.loop-found.self c.in-Some.found) c.in-Some.ensures.found (omega (arith, some, used))
     (told_as (told_bare p.start p.who Insert d.key false) made)
     (has_denied c.loop-found.invariant.0 c.reach.ensures.goes no.keeps)
 
 -- ---- the slot is linked
 
 pub update-requires-clause-gap : goal.update-requires-clause-gap
-update-requires-clause-gap g c = gap_found c.reach.ensures.goes c.in-Some.found c.in-Some.ensures.found c.if-found.false
+update-requires-clause-gap g c =
+    simp c.reach.ensures.goes.call.at.slots
+    (gap_found c.reach.ensures.goes (wide_found c.loop-found.self c.in-Some.found) c.in-Some.ensures.found
+    c.if-found.false)
 
 pub update-requires-clause-succ : goal.update-requires-clause-succ
 update-requires-clause-succ g c =
-    succ_found (knows c.reach.new.self.at.stepper.now.trace) c.loop-found.self.key c.in-Some.found.pred c.as_ref.result
-    c.in-Some.found.cur c.in-Some.found.present c.as_ref.ensures.value c.in-Some.ensures.found.found.locates.end
+    simp c.reach.ensures.goes.call.at.slots
+    (succ_found (knows c.reach.new.self.at.stepper.now.trace) c.loop-found.self.key
+    (wide_found c.loop-found.self c.in-Some.found).pred (said_succ c.loop-found.self.at.slots.now c.as_ref.result)
+    (wide_found c.loop-found.self c.in-Some.found).cur c.in-Some.found.present
+    (wide_lent c.loop-found.self c.as_ref.result c.as_ref.ensures.value) c.in-Some.ensures.found.found.locates.end)
 
 pub update-requires-clause-hand : goal.update-requires-clause-hand
 update-requires-clause-hand g c = (has_until c.loop-found.invariant.0 c.reach.ensures.goes).is
@@ -126,18 +136,19 @@ returns-in-Ok-clause-linked g c =
     let fits : d.used + c.steps_to_update.result ≤ d.budget = omega (arith, steps, most, room) in
     let e = later d c.update.new.at (d.used + c.steps_to_update.result) c.update.ensures.table start fits in
     held_linked {b = c.args.self.now} {first = c.args.hand} c.law.ensures c.loop-found.invariant.0 c.reach.ensures.goes
-    c.loop-found.invariant.1 e c.args.value c.in-Some.found c.in-Some.ensures.found (omega (arith, steps))
+    c.loop-found.invariant.1 e c.args.value (wide_found c.loop-found.self c.in-Some.found) c.in-Some.ensures.found
+    (omega (arith, steps))
     inserted.made inserted.spent c.in-Ok.ensures.published
 
 pub loop-found-preserved : goal.loop-found-preserved
 loop-found-preserved g c =
     let stores = c.update.ensures.stores in
-    let lost = c.in-Err.ensures.lost in
+    let lost = simp c.reach.ensures.goes.call.at.slots at c.in-Err.ensures.lost in
     let q = c.reach.new.self.at.stepper.now in
     let most = (few_to_update q.trace.start).1 in
     let same = steps_updating c.steps_to_update.ensures c.reach.new.self.at.own.1 in
     let held = has_until c.loop-found.invariant.0 c.reach.ensures.goes in
-    let found = c.in-Some.found in (
+    let found = wide_found c.loop-found.self c.in-Some.found in (
       lost_then 4 {b = c.args.self.now} c.law.ensures c.loop-found.invariant.0 c.reach.ensures.goes
           (takes_on (steps_to_update q.trace.start) (search rules) (ap (λ (n : ℕ). c.reach.new.self.used + n) same)
           stores.took stores.takes_no_slot)

@@ -8,6 +8,7 @@ use Rattle.vbr_list.proofs.LostWalks.{run_whole}
 use Rattle.vbr_list.proofs.Going.{call_on, call_refl, goes_further, within_call}
 use Rattle.vbr_list.proofs.Observing.{observes_on}
 use Rattle.vbr_list.proofs.Passing.{peeks_on, peeks_refl}
+use Rattle.vbr_list.specs.Words.{wide_sight}
 use Rattle.vbr_list.proofs.call.PendingCall.look.Goals as goal
 
 pub loop-sight-init : goal.loop-sight-init
@@ -22,8 +23,12 @@ loop-sight-preserved g c =
     let v = c.walk.ensures.goes in
     let same = call_on c.loop-sight.invariant.0 v.call in
     let stopped =
-    rw c.loop-sight.invariant.0.bucket at (rw c.in-Err-Again.field-0-is at c.in-Err-Again.ensures.stopped) in
-    (same, peeks_on c.loop-sight.invariant.1 v.goes c.walk.ensures.observes v.more (within_call same), lost_on c.law.ensures c.loop-sight.invariant.1.tries.goes.quiet v.goes.quiet c.loop-sight.invariant.2 stopped.1 stopped.2)
+    rw c.loop-sight.invariant.0.bucket at (rw c.in-Err-Again.field-0-is at c.in-Err-Again.ensures.stopped) in (
+      same,
+      peeks_on c.loop-sight.invariant.1 v.goes c.walk.ensures.observes v.more (within_call same),
+      lost_on c.law.ensures c.loop-sight.invariant.1.tries.goes.quiet v.goes.quiet c.loop-sight.invariant.2 stopped.1
+          stopped.2,
+    )
 
 pub returns-in-Ok-clause-goes : goal.returns-in-Ok-clause-goes
 returns-in-Ok-clause-goes g c = goes_further c.loop-sight.invariant.0 c.loop-sight.invariant.1.tries c.walk.ensures.goes
@@ -40,7 +45,7 @@ returns-in-Err-Tired-clause-observes g c = observes_on c.loop-sight.invariant.1.
 
 pub returns-in-Ok-clause-sight : goal.returns-in-Ok-clause-sight
 returns-in-Ok-clause-sight g c =
-    let x = c.in-Ok.ensures.sight in
+    let x = simp c.loop-sight.invariant.0.at.slots at c.in-Ok.ensures.sight in
     let p = c.args.self.now.at.stepper.now.trace in
     let q = c.loop-sight.self.at.stepper.now.trace in
     let r = c.walk.new.self.at.stepper.now.trace in
@@ -59,7 +64,8 @@ returns-in-Ok-clause-sight g c =
       sees = rw c.loop-sight.invariant.0.key at x.sees;
       fresh = x.fresh;
       looks = record {
-        stood = stood_from p q r (sighted c.in-Ok.sight) (same ∙ c.args.self.now.of_key) first.same first.seen x.stood;
+        stood = stood_from p q r (sighted (wide_sight c.args.self.now c.in-Ok.sight)) (same ∙ c.args.self.now.of_key)
+            first.same first.seen x.stood;
         lost = c.loop-sight.invariant.2.lost;
         repeats = subst
             (λ (b : ℕ). RepeatsIn 5 p r b 3 c.args.self.now.used c.walk.new.self.used

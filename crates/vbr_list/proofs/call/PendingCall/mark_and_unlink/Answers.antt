@@ -21,20 +21,27 @@ use Rattle.vbr_list.proofs.Reaching.{key_kept, slot_same}
 use Rattle.vbr_list.proofs.Sufficing.{any_error}
 use Rattle.vbr_list.proofs.Told.{given_kept, told_as, told_since}
 use Rattle.vbr_list.proofs.ValueReads.{few_read, read_then_step, settles_read, slot_at, steps_read, valued_since}
+use Rattle.vbr_list.proofs.WideWords.{wide_is}
+use Rattle.vbr_list.specs.Words.{wide_found, wide_held}
 use Rattle.vbr_list.proofs.call.PendingCall.mark_and_unlink.Goals as goal
 
 pub value_if_any-read-requires-clause-held : goal.value_if_any-read-requires-clause-held
-value_if_any-read-requires-clause-held g c = (cur_is c.requires.locates c.in-Some.is).held
+value_if_any-read-requires-clause-held g c = (cur_is c.requires.locates (wide_is c.args.self.now c.in-Some.is)).held
 
 pub value_if_any-read-requires-clause-slot : goal.value_if_any-read-requires-clause-slot
-value_if_any-read-requires-clause-slot g c = slot_at (cur_is c.requires.locates c.in-Some.is)
+value_if_any-read-requires-clause-slot g c = slot_at (cur_is c.requires.locates (wide_is c.args.self.now c.in-Some.is))
 
 pub mark-outcome-requires-clause-node : goal.mark-outcome-requires-clause-node
-mark-outcome-requires-clause-node g c =
-    let y = cur_is c.requires.locates c.in-Some.is in
+mark-outcome-requires-clause-node g c = simp c.value_if_any-read.ensures.table.slots (
+    let y = cur_is c.requires.locates (wide_is c.args.self.now c.in-Some.is) in
     let keeps = c.in_ok-value.ensures.value.keeps in
-    let there = key_found_since keeps c.requires.locates c.in-Some.is c.requires.present in
-    record { held = held_kept c.in-Some.cur keeps y.held; key = (c.args.self.now.key, there); unmarked = y.unmarked }
+    let there = key_found_since keeps c.requires.locates (wide_is c.args.self.now c.in-Some.is) c.requires.present in
+    record {
+      held = held_kept (wide_held c.args.self.now c.in-Some.cur) keeps y.held;
+      key =
+          (c.args.self.now.key, there);
+      unmarked = y.unmarked;
+    })
 
 pub mark-outcome-requires-clause-valued : goal.mark-outcome-requires-clause-valued
 mark-outcome-requires-clause-valued g c = λ has. (
@@ -43,16 +50,19 @@ mark-outcome-requires-clause-valued g c = λ has. (
 )
 
 pub unlink_marked-requires-clause-marked : goal.unlink_marked-requires-clause-marked
-unlink_marked-requires-clause-marked g c =
-    let y = cur_is c.requires.locates c.in-Some.is in
+unlink_marked-requires-clause-marked g c = simp
+    (c.mark-outcome.ensures.table.slots ∙ c.value_if_any-read.ensures.table.slots) (
+    let y = cur_is c.requires.locates (wide_is c.args.self.now c.in-Some.is) in
     let read = c.in_ok-value.ensures.value in
-    let there = key_found_since read.keeps c.requires.locates c.in-Some.is c.requires.present in
+    let there = key_found_since read.keeps c.requires.locates (wide_is c.args.self.now c.in-Some.is)
+    c.requires.present in
     let mark = c.mark-outcome.ensures.keeps in
-    let removed = c.in_ok-marked.ensures.removed in
-    let pred = pred_marked c.requires.locates c.in-Some.is c.requires.present c.value_if_any-read.ensures.reads read
+    let removed = simp c.value_if_any-read.ensures.table.slots at c.in_ok-marked.ensures.removed in
+    let pred = pred_marked c.requires.locates (wide_is c.args.self.now c.in-Some.is) c.requires.present
+    c.value_if_any-read.ensures.reads read
     removed mark.keeps in
     let P : At → Type 0 = λ place. KeyAt (knows c.mark-outcome.new.at.stepper.now.trace) place c.args.self.now.key in
-    let Q : ℕ → Type 0 = Names c.args.found.now.pred in
+    let Q : ℕ → Type 0 = Names (wide_held c.args.self.now c.args.found.now.pred) in
     record {
       may = record {
         held = pred.held;
@@ -64,7 +74,7 @@ unlink_marked-requires-clause-marked g c =
       inside = pred.inside;
       behind = pred.behind;
       out = removed.out;
-    }
+    })
 
 pub returns-in_err-value-clause-settles : goal.returns-in_err-value-clause-settles
 returns-in_err-value-clause-settles g c =
@@ -96,17 +106,19 @@ returns-in_err-value-clause-rolls g c =
 -- ---- another value is expected
 
 pub tell_found-requires-clause-knows : goal.tell_found-requires-clause-knows
-tell_found-requires-clause-knows g c =
+tell_found-requires-clause-knows g c = simp c.value_if_any-read.ensures.table.slots (
     let reads = c.value_if_any-read.ensures.reads in
     let has = c.requires.expects
     (kept_expected c.args.expected c.in_ok-value.value (sym c.takes_out.ensures ∙ c.if-not-takes_out.true)) in
     record {
       values = ap (λ (d : Start). d.shape.values) reads.quiet.same.start ∙ has;
-      locates = located_on c.args.self.now.key c.args.found.now reads.quiet.same c.in_ok-value.ensures.value.keeps
+      locates = located_on c.args.self.now.key (wide_found c.args.self.now c.args.found.now) reads.quiet.same
+          c.in_ok-value.ensures.value.keeps
           c.requires.locates;
-      is = value_found c.args.found.now c.in-Some.cur c.requires.present c.in-Some.is
+      is = value_found (wide_found c.args.self.now c.args.found.now) (wide_held c.args.self.now c.in-Some.cur)
+          c.requires.present (wide_is c.args.self.now c.in-Some.is)
           (c.in_ok-value.ensures.value.value has);
-    }
+    })
 
 pub returns-in_err-tell_found-clause-settles : goal.returns-in_err-tell_found-clause-settles
 returns-in_err-tell_found-clause-settles g c =
@@ -123,13 +135,14 @@ returns-then-not-takes_out-clause-settles g c =
 pub returns-in_err-tell_found-clause-rolls : goal.returns-in_err-tell_found-clause-rolls
 returns-in_err-tell_found-clause-rolls g c =
     let reads = c.value_if_any-read.ensures.reads in
-    let lost = c.in_err-tell_found.ensures.lost in
+    let lost = simp c.value_if_any-read.ensures.table.slots at c.in_err-tell_found.ensures.lost in
     let two = few_read _ c.steps_to_value_of.ensures in
     let one = c.tell_found.ensures.used in
     any_error c.from_residual-in_err-tell_found.result (λ rollback. record {
       quiet = quiet_on reads.quiet lost.quiet;
       few = omega (arith, two, one);
-      loses = found_lost_since c.args.found.now c.law.ensures reads c.in_ok-value.ensures.value.keeps lost.loses;
+      loses = found_lost_since (wide_found c.args.self.now c.args.found.now) c.law.ensures reads
+          c.in_ok-value.ensures.value.keeps lost.loses;
     })
 
 pub returns-then-not-takes_out-clause-answers : goal.returns-then-not-takes_out-clause-answers
@@ -165,12 +178,13 @@ returns-in_err-marked-clause-settles g c =
 pub returns-in_err-marked-clause-rolls : goal.returns-in_err-marked-clause-rolls
 returns-in_err-marked-clause-rolls g c =
     let reads = c.value_if_any-read.ensures.reads in
-    let lost = c.in_err-marked.ensures.lost in
+    let lost = simp c.value_if_any-read.ensures.table.slots at c.in_err-marked.ensures.lost in
     let two = few_read _ c.steps_to_value_of.ensures in
     any_error c.from_residual-in_err-marked.result (λ rollback. record {
       quiet = quiet_on reads.quiet lost.quiet;
       few = omega (arith, two);
-      loses = cur_lost_since c.args.found.now c.law.ensures reads c.in_ok-value.ensures.value.keeps c.in-Some.is lost;
+      loses = cur_lost_since (wide_found c.args.self.now c.args.found.now) c.law.ensures reads
+          c.in_ok-value.ensures.value.keeps (wide_is c.args.self.now c.in-Some.is) lost;
     })
 
 pub returns-then-affords-clause-settles : goal.returns-then-affords-clause-settles
@@ -188,13 +202,15 @@ returns-then-affords-clause-settles g c =
 
 pub returns-then-affords-clause-answers : goal.returns-then-affords-clause-answers
 returns-then-affords-clause-answers g c =
-    let f = c.args.found.now in
-    let key = key_found c.requires.locates c.in-Some.is c.requires.present in
+    let f = wide_found c.args.self.now c.args.found.now in
+    let key = key_found c.requires.locates (wide_is c.args.self.now c.in-Some.is) c.requires.present in
     let reads = c.value_if_any-read.ensures.reads in
     let read = c.in_ok-value.ensures.value in
-    let removed = c.in_ok-marked.ensures.removed in
-    let made = mark_made c.requires.locates c.in-Some.is c.requires.present reads read removed in
-    let told = mark_told c.requires.locates c.in-Some.is c.requires.present reads read removed in
+    let removed = simp c.value_if_any-read.ensures.table.slots at c.in_ok-marked.ensures.removed in
+    let made = mark_made c.requires.locates (wide_is c.args.self.now c.in-Some.is) c.requires.present reads read
+    removed in
+    let told = mark_told c.requires.locates (wide_is c.args.self.now c.in-Some.is) c.requires.present reads read
+    removed in
     let taken = taken_removes c.args.expected (Some c.in_ok-value.value)
     (sym c.takes_out.ensures ∙ c.if-not-takes_out.false) in
     let then = c.unlink_marked.ensures.goes.goes.quiet in
@@ -203,7 +219,8 @@ returns-then-affords-clause-answers g c =
     let r = c.mark-outcome.new.at.stepper.now in
     let steps = steps_read c.steps_to_value_of.ensures c.value_if_any-read.new.at.own.1 reads.quiet.same.start in
     let mark = c.mark-outcome.ensures.keeps in
-    let pred = pred_marked c.requires.locates c.in-Some.is c.requires.present reads read removed mark.keeps in
+    let pred = pred_marked c.requires.locates (wide_is c.args.self.now c.in-Some.is) c.requires.present reads read
+    removed mark.keeps in
     let E : Type 0 =
     RemovesSoon c.args.expected c.args.self.now c.unlink_marked.new.self (Some c.in_ok-value.value) ⊎
     RemovesLate c.args.expected c.args.self.now c.unlink_marked.new.self f (Some c.in_ok-value.value) in
@@ -211,9 +228,11 @@ returns-then-affords-clause-answers g c =
       made = told_as
           (told_op c.args.self.now.at.stepper.now.trace c.args.self.now.key (Some c.in_ok-value.value) (sym taken))
           (made_then told then);
-      marks = λ yes. marked_found c.requires.locates c.in-Some.is c.requires.present reads read removed
-          c.in_ok-marked.ensures.there then.seen;
-      paid = by_either {C = E} c.unlink_marked.ensures.paid
+      marks = λ yes. marked_found c.requires.locates (wide_is c.args.self.now c.in-Some.is) c.requires.present reads
+          read removed
+          (simp c.value_if_any-read.ensures.table.slots at c.in_ok-marked.ensures.there) then.seen;
+      paid = by_either {C = E} (simp (c.mark-outcome.ensures.table.slots ∙ c.value_if_any-read.ensures.table.slots) at
+          c.unlink_marked.ensures.paid)
           (λ soon. inl
           (record {
             few = let few = soon.few in omega (arith, few, steps);
@@ -223,7 +242,8 @@ returns-then-affords-clause-answers g c =
             taken = sym c.takes_out.ensures ∙ c.if-not-takes_out.false;
             late = record {
               marked = r.trace;
-              marks = marks_behind p.trace q.trace r.trace c.args.self.now.key f.pred c.in-Some.cur c.law.ensures.start
+              marks = marks_behind p.trace q.trace r.trace c.args.self.now.key f.pred
+                  (wide_held c.args.self.now c.in-Some.cur) c.law.ensures.start
                   (run_at p.trace r.trace told.same told.is_run) reads.quiet reads.adds_none made.same removed.leaves
                   (apart p.trace c.law.ensures.start c.law.ensures.is_run f.pred.at c.in-Some.cur.at c.args.self.now.key
                   c.requires.locates.pred.behind key)
@@ -246,8 +266,9 @@ returns-else-affords-clause-settles g c =
 pub returns-else-affords-clause-answers : goal.returns-else-affords-clause-answers
 returns-else-affords-clause-answers g c =
     let reads = c.value_if_any-read.ensures.reads in
-    let told = mark_told c.requires.locates c.in-Some.is c.requires.present reads c.in_ok-value.ensures.value
-    c.in_ok-marked.ensures.removed in
+    let told = mark_told c.requires.locates (wide_is c.args.self.now c.in-Some.is) c.requires.present reads
+    c.in_ok-value.ensures.value
+    (simp c.value_if_any-read.ensures.table.slots at c.in_ok-marked.ensures.removed) in
     let taken = taken_removes c.args.expected (Some c.in_ok-value.value)
     (sym c.takes_out.ensures ∙ c.if-not-takes_out.false) in
     let steps = steps_read c.steps_to_value_of.ensures c.value_if_any-read.new.at.own.1 reads.quiet.same.start in
@@ -257,8 +278,10 @@ returns-else-affords-clause-answers g c =
       made = told_as
           (told_op c.args.self.now.at.stepper.now.trace c.args.self.now.key (Some c.in_ok-value.value) (sym taken))
           told;
-      marks = λ yes. marked_found c.requires.locates c.in-Some.is c.requires.present reads c.in_ok-value.ensures.value
-          c.in_ok-marked.ensures.removed c.in_ok-marked.ensures.there
+      marks = λ yes. marked_found c.requires.locates (wide_is c.args.self.now c.in-Some.is) c.requires.present reads
+          c.in_ok-value.ensures.value
+          (simp c.value_if_any-read.ensures.table.slots at c.in_ok-marked.ensures.removed)
+          (simp c.value_if_any-read.ensures.table.slots at c.in_ok-marked.ensures.there)
           (begins_refl c.mark-outcome.new.at.stepper.now.trace.seen);
       paid = inl (record {
         few = omega (arith, steps);

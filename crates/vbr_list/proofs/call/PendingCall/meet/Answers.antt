@@ -14,6 +14,7 @@ use Rattle.vbr_list.proofs.LostWalks.{found_in, HasSearched, searched_for, searc
 use Rattle.vbr_list.proofs.LostWalks.{short_of, so_in}
 use Rattle.vbr_list.proofs.Preparing.{steps_gone, within_on}
 use Rattle.vbr_list.proofs.Wants.{met_as, was_compared, was_plain}
+use Rattle.vbr_list.specs.Words.{wide_found}
 use Rattle.vbr_list.proofs.call.PendingCall.meet.Goals as goal
 
 pub ask-requires-clause-values : goal.ask-requires-clause-values
@@ -22,7 +23,8 @@ ask-requires-clause-values g c =
     (quiet_on c.loop-found.invariant.1.goes.quiet c.search.ensures.goes.goes.quiet).same.start ∙ c.requires.values
 
 pub ask-requires-clause-locates : goal.ask-requires-clause-locates
-ask-requires-clause-locates g c = located c.search.ensures.goes c.in-Some.found c.in-Some.ensures.found
+ask-requires-clause-locates g c = simp c.search.ensures.goes.call.at.slots
+    (located c.search.ensures.goes (wide_found c.loop-found.self c.in-Some.found) c.in-Some.ensures.found)
 
 pub ask-requires-clause-open : goal.ask-requires-clause-open
 ask-requires-clause-open g c = sym c.has_wanted.ensures ∙ c.if-has_wanted.false
@@ -30,9 +32,10 @@ ask-requires-clause-open g c = sym c.has_wanted.ensures ∙ c.if-has_wanted.fals
 pub loop-found-preserved : goal.loop-found-preserved
 loop-found-preserved g c =
     let a = c.ask.ensures.asks in
-    let lost = c.in_default-ask.ensures.lost in
+    let lost = simp c.search.ensures.goes.call.at.slots at c.in_default-ask.ensures.lost in
     let few = a.few in
-    searched_more c.law.ensures c.loop-found.invariant c.search.ensures.goes c.in-Some.found c.in-Some.ensures.found
+    searched_more c.law.ensures c.loop-found.invariant c.search.ensures.goes
+    (wide_found c.loop-found.self c.in-Some.found) c.in-Some.ensures.found
     a.call (record { quiet = lost.quiet; counts = a.counts; hand = a.hand }) a.more (omega (arith, few)) lost.loses
 
 pub loop-found-smaller : goal.loop-found-smaller
@@ -124,7 +127,8 @@ returns-then-has_wanted-clause-met g c =
     let m = c.search.new.self.at.stepper.now.trace in
     let is : has_wanted c.args.wanted c.in-Some.found.present ≡ true =
     sym c.has_wanted.ensures ∙ c.if-has_wanted.true in
-    let so = so_in c.law.ensures c.loop-found.invariant c.search.ensures.goes c.in-Some.found c.in-Some.ensures.found in
+    let so = so_in c.law.ensures c.loop-found.invariant c.search.ensures.goes
+    (wide_found c.loop-found.self c.in-Some.found) c.in-Some.ensures.found in
     record {
       quiet = gone.goes.quiet;
       was = was_plain p m c.args.self.now.key c.args.wanted c.in-Some.found.present is so;
@@ -142,7 +146,7 @@ returns-in-Ok-clause-met g c =
     let m = d.at.stepper.now.trace in
     let r = e.at.stepper.now.trace in
     let wanted = c.args.wanted in
-    let found = c.in-Some.found in
+    let found = wide_found c.loop-found.self c.in-Some.found in
     let few = c.ask.ensures.asks.few in
     let there = found_in c.law.ensures c.loop-found.invariant c.search.ensures.goes found c.in-Some.ensures.found in
     met_as b d e wanted found c.in-Ok.met
@@ -167,4 +171,4 @@ returns-in-Ok-clause-met g c =
             c.in-Some.ensures.found.walks e.used 3 6 few (omega arith);
       };
     })
-    c.in-Ok.ensures.met
+    (simp c.search.ensures.goes.call.at.slots at c.in-Ok.ensures.met)

@@ -18,15 +18,18 @@ use Rattle.vbr_list.proofs.Preparing.{steps_gone, takes_gone, tries_after}
 use Rattle.vbr_list.proofs.Sufficing.{take_least, taken_after}
 use Rattle.vbr_list.specs.declared.wanted.Wanted.TheVariants.{Absent}
 use Rattle.vbr_list.proofs.Wants.{wanted_for}
+use Rattle.vbr_list.specs.Words.{wide_found}
 use Rattle.vbr_list.proofs.call.PendingCall.prepare.Goals as goal
 
 pub loop-found-preserved : goal.loop-found-preserved
 loop-found-preserved g c =
     let d = c.answer_no.ensures in
     let step = settles_step d.call d.used d.keeps in
-    let rolls = if_err c.answer_no.result (sym c.is_ok.ensures.value ∙ c.if-is_ok.false) d.rolls in
+    let rolls = simp c.search.ensures.goes.call.at.slots at
+    (if_err c.answer_no.result (sym c.is_ok.ensures.value ∙ c.if-is_ok.false) d.rolls) in
     let used = d.used in
-    searched_more c.law.ensures c.loop-found.invariant c.search.ensures.goes c.in-Some.found c.in-Some.ensures.found
+    searched_more c.law.ensures c.loop-found.invariant c.search.ensures.goes
+    (wide_found c.loop-found.self c.in-Some.found) c.in-Some.ensures.found
     d.call (record { quiet = rolls.quiet; counts = step.counts; hand = step.hand }) (omega (arith, used))
     (omega (arith, used)) rolls.loses
 
@@ -82,12 +85,14 @@ module _ {N : Type 0} {kind : Ghosts N} {b c d : PendingCall N kind} (law : Pass
 
 pub returns-in_err-hand-clause-tries : goal.returns-in_err-hand-clause-tries
 returns-in_err-hand-clause-tries g c =
-    absent_tries c.law.ensures c.loop-found.invariant c.search.ensures.goes c.in-Some.found c.in-Some.ensures.found
+    absent_tries c.law.ensures c.loop-found.invariant c.search.ensures.goes
+    (wide_found c.loop-found.self c.in-Some.found) c.in-Some.ensures.found
     c.if-not-found.true c.provide.new.self.at.stepper.now c.provide.ensures.quiet c.provide.ensures.tries
 
 pub returns-then-not-found-clause-tries : goal.returns-then-not-found-clause-tries
 returns-then-not-found-clause-tries g c =
-    absent_tries c.law.ensures c.loop-found.invariant c.search.ensures.goes c.in-Some.found c.in-Some.ensures.found
+    absent_tries c.law.ensures c.loop-found.invariant c.search.ensures.goes
+    (wide_found c.loop-found.self c.in-Some.found) c.in-Some.ensures.found
     c.if-not-found.true c.provide.new.self.at.stepper.now c.provide.ensures.quiet c.provide.ensures.tries
 
 pub returns-then-is_ok-clause-tries : goal.returns-then-is_ok-clause-tries
@@ -137,7 +142,8 @@ returns-in_err-hand-clause-refused g c =
     let r = c.provide.new.self.at.stepper.now in
     let steps = steps_for_slot c.args.self.now.at.stepper.now r.trace in
     let taken = taken_after gone r.trace in
-    let so = absent_so c.law.ensures c.loop-found.invariant c.search.ensures.goes c.in-Some.found
+    let so = absent_so c.law.ensures c.loop-found.invariant c.search.ensures.goes
+    (wide_found c.loop-found.self c.in-Some.found)
     c.in-Some.ensures.found c.if-not-found.true r d in
     let m = c.search.new.self in
     rw (error.1, error.2) (record {

@@ -4,6 +4,7 @@ use Rattle.vbr_list.proofs.Going.{call_on, within_call}
 use Rattle.vbr_list.proofs.Linking.{begun, counts_until, has_until, located, lost_then, none_until, quiet_until}
 use Rattle.vbr_list.proofs.Preparing.{within_on}
 use Rattle.vbr_list.proofs.SettledSoon.{held_stores, held_tires, takes_settled}
+use Rattle.vbr_list.specs.Words.{wide_found}
 use Rattle.vbr_list.proofs.call.PendingCall.put_by_held.Goals as goal
 
 pub returns-in_default-clause-counts : goal.returns-in_default-clause-counts
@@ -24,7 +25,9 @@ returns-in_default-clause-kept g c =
     }
 
 pub put_found-requires-clause-found : goal.put_found-requires-clause-found
-put_found-requires-clause-found g c = located c.reach.ensures.goes c.in-Some.found c.in-Some.ensures.found
+put_found-requires-clause-found g c =
+    simp c.reach.ensures.goes.call.at.slots
+    (located c.reach.ensures.goes (wide_found c.loop-found.self c.in-Some.found) c.in-Some.ensures.found)
 
 pub put_found-requires-clause-has : goal.put_found-requires-clause-has
 put_found-requires-clause-has g c =
@@ -49,16 +52,18 @@ returns-in-Ok-clause-takes_no_slot g c =
 pub returns-in-Ok-clause-put : goal.returns-in-Ok-clause-put
 returns-in-Ok-clause-put g c =
     held_stores c.args.self.now c.loop-found.self c.reach.new.self c.put_found.new.self c.law.ensures
-    c.loop-found.invariant.0 c.reach.ensures.goes c.in-Some.found c.in-Some.ensures.found
-    c.put_found.ensures.settles.call c.args.value c.in-Ok.there c.loop-found.invariant.1 c.in-Ok.ensures.put
+    c.loop-found.invariant.0 c.reach.ensures.goes (wide_found c.loop-found.self c.in-Some.found) c.in-Some.ensures.found
+    c.put_found.ensures.settles.call c.args.value c.in-Ok.there c.loop-found.invariant.1
+    (simp c.reach.ensures.goes.call.at.slots at c.in-Ok.ensures.put)
 
 pub loop-found-preserved : goal.loop-found-preserved
 loop-found-preserved g c =
-    let back = c.in-Err.ensures.back in
+    let back = simp c.reach.ensures.goes.call.at.slots at c.in-Err.ensures.back in
     let few = back.settles.few in (
       lost_then 8 {b = c.args.self.now} c.law.ensures c.loop-found.invariant.0 c.reach.ensures.goes
           (takes_settled c.put_found.ensures.settles) (omega (arith, few)) back.settles.given.quiet
-          back.settles.given.hand (rw c.in-Err.is at c.put_found.ensures.had) c.in-Some.found
+          back.settles.given.hand (rw c.in-Err.is at c.put_found.ensures.had)
+          (wide_found c.loop-found.self c.in-Some.found)
           c.in-Some.ensures.found back.settles.given.loses,
       back.same ∙ c.loop-found.invariant.1,
     )

@@ -1,6 +1,7 @@
 use Rattle.vbr_list.proofs.Names.{Option, ℕ, sym, subst}
 use Rattle.vbr_list.specs.Holding.{StoresByHand}
 use Rattle.vbr_list.proofs.Going.{ok_as}
+use Rattle.vbr_list.specs.Words.{wide_found}
 use Rattle.vbr_list.proofs.call.PendingCall.put_found.Goals as goal
 
 pub returns-then-found-clause-put : goal.returns-then-found-clause-put
@@ -8,6 +9,6 @@ returns-then-found-clause-put g c =
     ok_as c.replace_by_held.result
     (λ there x. (
     let P : Option ℕ → Type 0 = StoresByHand c.args.value c.args.self.now c.replace_by_held.new.self c.args.hand
-    c.args.found.now in
+    (wide_found c.args.self.now c.args.found.now) in
     subst P (sym x.is) x.stores))
     c.replace_by_held.ensures.replaced

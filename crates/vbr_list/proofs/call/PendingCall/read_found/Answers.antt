@@ -2,6 +2,8 @@ use Rattle.vbr_list.proofs.Names.{ap, ◌∙◌, inl}
 use Rattle.vbr_list.proofs.Names.{Start}
 use Rattle.vbr_list.proofs.Disturbing.{moves_epoch, moves_on}
 use Rattle.vbr_list.proofs.FoundValues.{located_on, value_found}
+use Rattle.vbr_list.proofs.WideWords.{wide_is}
+use Rattle.vbr_list.specs.Words.{wide_found, wide_held}
 use Rattle.vbr_list.proofs.call.PendingCall.read_found.Goals as goal
 
 pub returns-in-Ok-clause-found : goal.returns-in-Ok-clause-found
@@ -12,8 +14,11 @@ returns-in-Ok-clause-found g c =
       keeps = keeps;
       known = record {
         values = ap (λ (d : Start). d.shape.values) same.start ∙ c.requires.values;
-        locates = located_on c.args.self.now.key c.args.found.now same keeps c.requires.locates;
-        is = value_found c.args.found.now c.in-Some.cur c.if-not-found.false c.in-Some.is c.in-Ok.ensures.value.value;
+        locates = located_on c.args.self.now.key (wide_found c.args.self.now c.args.found.now) same keeps
+            c.requires.locates;
+        is = value_found (wide_found c.args.self.now c.args.found.now)
+            (wide_held c.args.self.now c.in-Some.cur) c.if-not-found.false (wide_is c.args.self.now c.in-Some.is)
+            c.in-Ok.ensures.value.value;
       };
     }
 

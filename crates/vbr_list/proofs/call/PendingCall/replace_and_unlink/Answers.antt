@@ -5,6 +5,7 @@ use Rattle.vbr_list.specs.Replacing.{UnlinksAtOnce}
 use Rattle.vbr_list.proofs.Going.{call_on}
 use Rattle.vbr_list.proofs.Stores.{all_but_then}
 use Rattle.vbr_list.proofs.Sweeping.{leaves_replaced}
+use Rattle.vbr_list.specs.Words.{wide_held}
 use Rattle.vbr_list.proofs.call.PendingCall.replace_and_unlink.Goals as goal
 
 pub returns-clause-settles : goal.returns-clause-settles
@@ -67,7 +68,7 @@ returns-clause-paid g c =
           leaves_replaced p q r c.in-Ok.marked.slot c.args.self.now.key c.law.ensures.start stores.made.same
           stores.made.is_run x.replaced (rw key at x.old.key) then (soon.leaves (omega (arith, room, low, budget)));
     }))
-    (λ (on : SearchesOn q r d.key d.used e.used c.args.found.now.pred). (
-    let S : ℕ → Type 0 = λ k. SearchesOn q r k d.used e.used c.args.found.now.pred in
+    (λ (on : SearchesOn q r d.key d.used e.used (wide_held c.args.self.now c.args.found.now.pred)). (
+    let S : ℕ → Type 0 = λ k. SearchesOn q r k d.used e.used (wide_held c.args.self.now c.args.found.now.pred) in
     inr (record { marked = q; marks = x.marks; used = d.used; few = low; searches = subst S key on })))
-    c.unlink_replaced.ensures.paid
+    (simp c.replace_found.ensures.tries.call.at.slots at c.unlink_replaced.ensures.paid)

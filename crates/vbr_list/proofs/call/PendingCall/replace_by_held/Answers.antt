@@ -23,6 +23,7 @@ use Rattle.vbr_list.proofs.ReplacedEntries.{entry_since}
 use Rattle.vbr_list.proofs.Settled.{settles_after, settles_since}
 use Rattle.vbr_list.proofs.Stores.{all_but_then, two_since, unless_since}
 use Rattle.vbr_list.proofs.Sweeping.{leaves_replaced, leaves_replaced_since}
+use Rattle.vbr_list.specs.Words.{wide_found, wide_marked}
 use Rattle.vbr_list.proofs.call.PendingCall.replace_by_held.Goals as goal
 
 -- a piece that stores a node may have settled the call
@@ -61,7 +62,7 @@ returns-in-Err-clause-had g c =
 pub returns-in-Err-clause-back : goal.returns-in-Err-clause-back
 returns-in-Err-clause-back g c =
     let read = c.read_found.ensures in
-    let back = c.in-Err.ensures.back in
+    let back = simp read.call.at.slots at c.in-Err.ensures.back in
     let few = few_where c.args.found.now.present in
     let used = read.used in
     let more = c.replace_found.ensures.tries.few in
@@ -70,7 +71,8 @@ returns-in-Err-clause-back g c =
         given = record {
           quiet = quiet_on read.reads.quiet back.quiet;
           hand = back.hand;
-          loses = found_lost_since c.args.found.now c.law.ensures read.reads c.in-Ok.ensures.found.keeps back.loses;
+          loses = found_lost_since (wide_found c.args.self.now c.args.found.now) c.law.ensures read.reads
+              c.in-Ok.ensures.found.keeps back.loses;
         };
         few = omega (arith, few, used, more);
       };
@@ -134,7 +136,7 @@ returns-clause-replaced g c =
     let b = c.args.self.now in
     let d = c.replace_found.new.self in
     let e = c.unlink_replaced.new.self in
-    let f = c.args.found.now in
+    let f = wide_found c.args.self.now c.args.found.now in
     let o = b.at.stepper.now.trace in
     let p = c.read_found.new.self.at.stepper.now.trace in
     let q = d.at.stepper.now.trace in
@@ -144,7 +146,7 @@ returns-clause-replaced g c =
     let quiet = read.reads.quiet in
     let there = value_there {c = c.read_found.new.self} f c.in-Ok.there c.requires.found.present
     c.in-Ok.ensures.found.known in
-    let x = c.in-Ok-replace_found.ensures.replaced in
+    let x = simp read.call.at.slots at c.in-Ok-replace_found.ensures.replaced in
     let stores = x.stores there.0 there.1 in
     let later = c.unlink_replaced.ensures.goes.goes.quiet in
     let key = read.call.key in
@@ -181,9 +183,11 @@ returns-clause-replaced g c =
         };
         paid = settles_since b c.read_found.new.self e f c.law.ensures went (omega (arith, used, few))
             read.reads.adds_none c.in-Ok.ensures.found.keeps true
-            (replaced_paid {c = c.read_found.new.self} {d = d} {e = e} c.args.value f c.in-Ok-replace_found.marked own
+            (replaced_paid {c = c.read_found.new.self} {d = d} {e = e} c.args.value f
+            (wide_marked b c.in-Ok-replace_found.marked) own
             c.replace_found.ensures.tries x stores.made.same stores.made.is_run later
-            c.unlink_replaced.ensures.paid);
+            (simp (c.replace_found.ensures.tries.call.at.slots ∙ read.call.at.slots) at
+            c.unlink_replaced.ensures.paid));
       };
       gone = λ node is s place.
           let E : ℕ → Type 0 = λ k. ReplacedEntry p.start p.seen q.seen p.who s node.birth k there.0 in

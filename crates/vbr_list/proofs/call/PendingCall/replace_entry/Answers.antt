@@ -7,6 +7,8 @@ use Rattle.vbr_list.proofs.OtherEntries.{other_since, was_other}
 use Rattle.vbr_list.proofs.Preparing.{within_on}
 use Rattle.vbr_list.proofs.ReplacedEntries.{entry_since}
 use Rattle.vbr_list.proofs.SettledSoon.{held_finds, held_stores, held_tires, takes_settled}
+use Rattle.vbr_list.proofs.WideWords.{node_bare, node_wide}
+use Rattle.vbr_list.specs.Words.{wide_found}
 use Rattle.vbr_list.proofs.call.PendingCall.replace_entry.Goals as goal
 
 pub returns-in_default-clause-counts : goal.returns-in_default-clause-counts
@@ -44,13 +46,15 @@ returns-then-not-is_node_of-clause-kept g c =
     let T : Start → Type 0 = IsStart in
     let start = subst T (sym so.1.same.start) c.law.ensures.start in
     let W : ℕ → Type 0 = λ k. WasOther o p k c.args.entry.now in
-    let was = was_other c.loop-found.self.key c.in-Some.found c.args.entry.now start went.goes.quiet.same found.found
-    (c.is_node_of.ensures.is_not c.if-not-is_node_of.true) in
+    let was = was_other c.loop-found.self.key (wide_found c.loop-found.self c.in-Some.found) c.args.entry.now start
+    went.goes.quiet.same found.found
+    (λ is. c.is_node_of.ensures.is_not c.if-not-is_node_of.true (node_bare c.loop-found.self c.in-Some.found is)) in
     record {
       same = c.loop-found.invariant.1;
       has = has_until so went;
       quiet = quiet_until so went;
-      says = held_finds {b = b} c.law.ensures so went c.in-Some.found found c.args.entry.now
+      says = held_finds {b = b} c.law.ensures so went (wide_found c.loop-found.self c.in-Some.found) found
+          c.args.entry.now
           (other_since so.1 (subst W so.0.key was));
     }
 
@@ -75,8 +79,8 @@ returns-in-Ok-clause-replaced g c =
     let b = c.args.self.now in
     let d = c.reach.new.self in
     let e = c.replace_by_held.new.self in
-    let x = c.in-Ok.ensures.replaced in
-    let node = c.is_node_of.ensures.is c.if-not-is_node_of.false in
+    let x = simp c.reach.ensures.goes.call.at.slots at c.in-Ok.ensures.replaced in
+    let node = node_wide c.loop-found.self (c.is_node_of.ensures.is c.if-not-is_node_of.false) in
     let p = d.at.stepper.now.trace in
     let q = e.at.stepper.now.trace in
     let birth = node.birth in
@@ -85,7 +89,8 @@ returns-in-Ok-clause-replaced g c =
     let B : ℕ → Type 0 = λ n. ReplacedEntry p.start p.seen q.seen p.who c.args.entry.now.slot n b.key x.old in
     record {
       old = x.old;
-      stores = held_stores b c.loop-found.self d e c.law.ensures so went c.in-Some.found c.in-Some.ensures.found
+      stores = held_stores b c.loop-found.self d e c.law.ensures so went (wide_found c.loop-found.self c.in-Some.found)
+          c.in-Some.ensures.found
           c.replace_by_held.ensures.settles.call c.args.value (Some x.old) c.loop-found.invariant.1 x.stores;
       gone = entry_since q q (quiet_until so went) (begins_refl q.seen)
           (subst B birth (subst K (begun so went).key (x.gone node.node node.cur c.args.entry.now.slot node.place)));
@@ -93,11 +98,12 @@ returns-in-Ok-clause-replaced g c =
 
 pub loop-found-preserved : goal.loop-found-preserved
 loop-found-preserved g c =
-    let back = c.in-Err.ensures.back in
+    let back = simp c.reach.ensures.goes.call.at.slots at c.in-Err.ensures.back in
     let few = back.settles.few in (
       lost_then 8 {b = c.args.self.now} c.law.ensures c.loop-found.invariant.0 c.reach.ensures.goes
           (takes_settled c.replace_by_held.ensures.settles) (omega (arith, few)) back.settles.given.quiet
-          back.settles.given.hand (rw c.in-Err.is at c.replace_by_held.ensures.had) c.in-Some.found
+          back.settles.given.hand (rw c.in-Err.is at c.replace_by_held.ensures.had)
+          (wide_found c.loop-found.self c.in-Some.found)
           c.in-Some.ensures.found back.settles.given.loses,
       back.same ∙ c.loop-found.invariant.1,
     )

@@ -21,44 +21,49 @@ use Rattle.vbr_list.proofs.ReadFirst.{cur_lost_since}
 use Rattle.vbr_list.proofs.Stores.{had_same, hand_kept, two_since}
 use Rattle.vbr_list.proofs.Publishing.{published_since}
 use Rattle.vbr_list.proofs.ReplacedEntries.{gone_entry}
+use Rattle.vbr_list.proofs.WideWords.{wide_is}
+use Rattle.vbr_list.specs.Words.{wide_found, wide_held}
 use Rattle.vbr_list.proofs.call.PendingCall.replace_found.Goals as goal
 
 some_same : {A : Type 0} (x y : A) → Some x ≡ Some y → x ≡ y
 some_same x y e = cc
 
 pub birth_after-named-requires : goal.birth_after-named-requires
-birth_after-named-requires g c = record { held = (cur_is c.requires.read.1.locates c.in-Some.is).held }
+birth_after-named-requires g c = record
+    { held = (cur_is c.requires.read.1.locates (wide_is c.args.self.now c.in-Some.is)).held }
 
 pub replace-requires-clause-node : goal.replace-requires-clause-node
-replace-requires-clause-node g c =
+replace-requires-clause-node g c = rw c.birth_after-named.ensures.table.slots (
     let k = c.requires.read.1 in
-    let y = cur_is k.locates c.in-Some.is in
-    let there = key_found k.locates c.in-Some.is k.is.present in
+    let y = cur_is k.locates (wide_is c.args.self.now c.in-Some.is) in
+    let there = key_found k.locates (wide_is c.args.self.now c.in-Some.is) k.is.present in
     let keeps = c.in-Ok.ensures.birth.keeps in
     let key = key_on c.in-Some.cur.at c.args.self.now.key keeps there in
     record {
       has_values = ap (λ (d : Start). d.shape.values) c.birth_after-named.ensures.reads.quiet.same.start ∙ k.values;
       present = record {
-        held = held_kept c.in-Some.cur keeps y.held;
+        held = held_kept (wide_held c.args.self.now c.in-Some.cur) keeps y.held;
         key = (c.args.self.now.key, key);
         unmarked = y.unmarked;
       };
       key_is = key;
       valued = λ has. (
         c.requires.read.0,
-        value_on c.in-Some.cur.at c.requires.read.0 keeps (k.is.known c.in-Some.cur c.in-Some.is),
+        value_on c.in-Some.cur.at c.requires.read.0 keeps
+            (k.is.known (wide_held c.args.self.now c.in-Some.cur) (wide_is c.args.self.now c.in-Some.is)),
       );
       birth = c.in-Ok.ensures.birth.birth;
-    }
+    })
 
 pub returns-in_default-named-clause-tries : goal.returns-in_default-named-clause-tries
 returns-in_default-named-clause-tries g c =
     let n = c.steps_to_birth.result in
-    let read = goes_counted c.args.self.now.used n (steps_to_birth c.in-Some.cur.word) c.steps_to_birth.ensures.is
+    let read = goes_counted c.args.self.now.used n (steps_to_birth (wide_held c.args.self.now c.in-Some.cur).word)
+    (rw c.layout-layout.ensures.layout at c.steps_to_birth.ensures.is)
     c.birth_after-named.ensures.reads in
     let few = c.steps_to_birth.ensures.few in
-    let some = some_birth c.in-Some.cur.word c.in_default-named.ensures.moved.some in
-    let is = c.steps_to_birth.ensures.is in
+    let some = some_birth (wide_held c.args.self.now c.in-Some.cur).word c.in_default-named.ensures.moved.some in
+    let is = (rw c.layout-layout.ensures.layout at c.steps_to_birth.ensures.is) in
     record {
       call = search rules;
       counts = read.counts;
@@ -71,8 +76,9 @@ pub returns-in_default-named-clause-back : goal.returns-in_default-named-clause-
 returns-in_default-named-clause-back g c =
     let p = c.args.self.now.at.stepper.now.trace in
     let q = c.birth_after-named.new.at.stepper.now.trace in
-    let read = goes_counted c.args.self.now.used c.steps_to_birth.result (steps_to_birth c.in-Some.cur.word)
-    c.steps_to_birth.ensures.is c.birth_after-named.ensures.reads in
+    let read = goes_counted c.args.self.now.used c.steps_to_birth.result
+    (steps_to_birth (wide_held c.args.self.now c.in-Some.cur).word)
+    (rw c.layout-layout.ensures.layout at c.steps_to_birth.ensures.is) c.birth_after-named.ensures.reads in
     record {
       quiet = read.quiet;
       hand = hand_kept c.args.hand read.hand c.requires.hand;
@@ -105,14 +111,18 @@ tried_replace {c = c} {d = d} {q = q} n steps same used counted few birth values
 
 pub returns-in-Ok-replace-clause-tries : goal.returns-in-Ok-replace-clause-tries
 returns-in-Ok-replace-clause-tries g c =
-    tried_replace c.steps_to_birth.result (steps_to_birth c.in-Some.cur.word) (search rules) refl
-    c.steps_to_birth.ensures.is c.steps_to_birth.ensures.few c.birth_after-named.ensures.reads c.requires.read.1.values
+    tried_replace c.steps_to_birth.result (steps_to_birth (wide_held c.args.self.now c.in-Some.cur).word) (search rules)
+    refl
+    (rw c.layout-layout.ensures.layout at c.steps_to_birth.ensures.is) c.steps_to_birth.ensures.few
+    c.birth_after-named.ensures.reads c.requires.read.1.values
     c.replace.ensures.stores
 
 pub returns-in-Err-clause-tries : goal.returns-in-Err-clause-tries
 returns-in-Err-clause-tries g c =
-    tried_replace c.steps_to_birth.result (steps_to_birth c.in-Some.cur.word) (search rules) refl
-    c.steps_to_birth.ensures.is c.steps_to_birth.ensures.few c.birth_after-named.ensures.reads c.requires.read.1.values
+    tried_replace c.steps_to_birth.result (steps_to_birth (wide_held c.args.self.now c.in-Some.cur).word) (search rules)
+    refl
+    (rw c.layout-layout.ensures.layout at c.steps_to_birth.ensures.is) c.steps_to_birth.ensures.few
+    c.birth_after-named.ensures.reads c.requires.read.1.values
     c.replace.ensures.stores
 
 pub returns-in-Ok-replace-clause-replaced : goal.returns-in-Ok-replace-clause-replaced
@@ -120,19 +130,20 @@ returns-in-Ok-replace-clause-replaced g c =
     let p = c.args.self.now.at.stepper.now.trace in
     let q = c.birth_after-named.new.at.stepper.now.trace in
     let r = c.replace.new.at.stepper.now.trace in
-    let f = c.args.found.now in
+    let f = wide_found c.args.self.now c.args.found.now in
     let k = c.args.self.now.key in
     let first = c.requires.read.1 in
     let reads = c.birth_after-named.ensures.reads in
     let quiet = reads.quiet in
-    let told = c.in-Ok-replace.ensures.replaced in
+    let told = rw c.birth_after-named.ensures.table.slots at c.in-Ok-replace.ensures.replaced in
     let read = c.in-Ok.ensures.birth.keeps in
     let made_now =
     told.made c.requires.read.0
-    (value_on c.in-Some.cur.at c.requires.read.0 read (first.is.known c.in-Some.cur c.in-Some.is)) in
+    (value_on c.in-Some.cur.at c.requires.read.0 read
+    (first.is.known (wide_held c.args.self.now c.in-Some.cur) (wide_is c.args.self.now c.in-Some.is))) in
     let has : q.start.shape.values ≡ true = ap (λ (d : Start). d.shape.values) quiet.same.start ∙ first.values in
-    let y = cur_is first.locates c.in-Some.is in
-    let there = key_found first.locates c.in-Some.is first.is.present in
+    let y = cur_is first.locates (wide_is c.args.self.now c.in-Some.is) in
+    let there = key_found first.locates (wide_is c.args.self.now c.in-Some.is) first.is.present in
     let keeps = keeps_on read c.replace.ensures.stores.keeps in
     let two = two_since quiet (two_told q.start q.who k c.requires.read.0 c.args.value has made_now) in
     let pred = pred_on k f.pred two.same keeps first.locates.pred in
@@ -146,7 +157,8 @@ returns-in-Ok-replace-clause-replaced g c =
       stores = λ old known. record {
         made = two_since quiet
             (two_told q.start q.who k old c.args.value has
-            (told.made old (value_on c.in-Some.cur.at old read (known.is.known c.in-Some.cur c.in-Some.is))));
+            (told.made old (value_on c.in-Some.cur.at old read
+            (known.is.known (wide_held c.args.self.now c.in-Some.cur) (wide_is c.args.self.now c.in-Some.is)))));
         spent = told.spent;
       };
       old = record {
@@ -160,13 +172,15 @@ returns-in-Ok-replace-clause-replaced g c =
         behind = pred.behind;
       };
       replaced = old_node;
-      marks = marks_behind p q r k f.pred c.in-Some.cur c.law.ensures.start R quiet reads.adds_none made_now.same
+      marks = marks_behind p q r k f.pred (wide_held c.args.self.now c.in-Some.cur) c.law.ensures.start R quiet
+          reads.adds_none made_now.same
           told.leaves
           (apart p c.law.ensures.start c.law.ensures.is_run f.pred.at c.in-Some.cur.at k first.locates.pred.behind
           there)
           keeps.epoch (steps_last ∙ steps) pred.held pred.unmarked pred.inside;
       entry = λ old known node found s at_slot.
-          let same : c.in-Some.cur ≡ node = some_same c.in-Some.cur node (sym c.in-Some.is ∙ found) in
+          let same : (wide_held c.args.self.now c.in-Some.cur) ≡ node = some_same
+          (wide_held c.args.self.now c.in-Some.cur) node (sym (wide_is c.args.self.now c.in-Some.is) ∙ found) in
           let here : c.in-Some.cur.at ≡ Slot s = ap (λ (h : Held). h.at) same ∙ at_slot in
           let slot : c.in-Ok-replace.marked.slot ≡ s =
           sym (slot_same c.in-Ok-replace.marked.slot s (told.place ∙ here)) in
@@ -175,9 +189,10 @@ returns-in-Ok-replace-clause-replaced g c =
           let B : Held → Type 0 = λ h. BirthAt (knows r) h.at h.birth in
           let A : At → Type 0 = λ place. BirthAt (knows r) place node.birth in
           gone_entry p r c.law.ensures.start two.same R two.seen s node.birth k old (subst O slot old_node)
-          (subst A at_slot (subst B same (held_kept c.in-Some.cur keeps y.held).birth))
+          (subst A at_slot (subst B same (held_kept (wide_held c.args.self.now c.in-Some.cur) keeps y.held).birth))
           (subst K here (key_kept c.in-Some.cur.at k keeps there))
-          (subst V here (value_on c.in-Some.cur.at old keeps (known.is.known c.in-Some.cur c.in-Some.is)));
+          (subst V here (value_on c.in-Some.cur.at old keeps
+          (known.is.known (wide_held c.args.self.now c.in-Some.cur) (wide_is c.args.self.now c.in-Some.is))));
     }
 
 pub returns-in-Ok-replace-clause-had : goal.returns-in-Ok-replace-clause-had
@@ -196,9 +211,10 @@ returns-in-Err-clause-had g c =
 pub returns-in-Err-clause-back : goal.returns-in-Err-clause-back
 returns-in-Err-clause-back g c =
     let reads = c.birth_after-named.ensures.reads in
-    let read = goes_counted c.args.self.now.used c.steps_to_birth.result (steps_to_birth c.in-Some.cur.word)
-    c.steps_to_birth.ensures.is reads in
-    let lost = c.in-Err.ensures.lost in
+    let read = goes_counted c.args.self.now.used c.steps_to_birth.result
+    (steps_to_birth (wide_held c.args.self.now c.in-Some.cur).word)
+    (rw c.layout-layout.ensures.layout at c.steps_to_birth.ensures.is) reads in
+    let lost = rw c.birth_after-named.ensures.table.slots at c.in-Err.ensures.lost in
     let P : List ℕ → Type 0 = λ l. length l < POOL in
     record {
       quiet = quiet_on read.quiet lost.exchange.quiet;
@@ -206,7 +222,8 @@ returns-in-Err-clause-back g c =
         is = lost.hand;
         room = subst P (sym c.replace.ensures.stores.pool) (read.hand.room c.requires.hand.room);
       };
-      loses = cur_lost_since c.args.found.now c.law.ensures reads c.in-Ok.ensures.birth.keeps c.in-Some.is
+      loses = cur_lost_since (wide_found c.args.self.now c.args.found.now) c.law.ensures reads
+          c.in-Ok.ensures.birth.keeps (wide_is c.args.self.now c.in-Some.is)
           lost.exchange;
     }
 

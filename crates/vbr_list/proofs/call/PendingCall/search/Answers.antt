@@ -1,6 +1,7 @@
 use Rattle.vbr_list.proofs.Names.{ap, ◌∙◌, arith}
 use Rattle.vbr_list.proofs.Names.{bucket_of}
 use Rattle.vbr_list.specs.Disturbed.{disturbed_at}
+use Rattle.vbr_list.specs.Words.{wide_found}
 use Rattle.vbr_list.proofs.Going.{call_on, goes_further, tries_on, within_call}
 use Rattle.vbr_list.proofs.LostWalks.{searched_none}
 use Rattle.vbr_list.proofs.Moments.{found_since}
@@ -31,7 +32,7 @@ returns-in-Err-Tired-clause-goes g c =
 
 pub returns-in-Ok-clause-found : goal.returns-in-Ok-clause-found
 returns-in-Ok-clause-found g c =
-    let x = c.in-Ok.ensures.found in
+    let x = simp c.loop-found.invariant.0.at.slots at c.in-Ok.ensures.found in
     let p = c.args.self.now.at.stepper.now.trace in
     let q = c.loop-found.self.at.stepper.now.trace in
     let lost = c.loop-found.invariant.2 in
@@ -42,7 +43,8 @@ returns-in-Ok-clause-found g c =
     let repeats =
     last_walk c.law.ensures first t.quiet lost paid (disturbed_at p c.args.self.now.bucket q.seen) (omega arith) in
     record {
-      found = found_since c.args.self.now.key c.in-Ok.found first (rw c.loop-found.invariant.0.key at x.found);
+      found = found_since c.args.self.now.key (wide_found c.args.self.now c.in-Ok.found) first
+          (rw c.loop-found.invariant.0.key at x.found);
       used = x.used;
       last = record {
         begun = q;

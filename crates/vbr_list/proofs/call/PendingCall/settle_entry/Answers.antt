@@ -4,13 +4,15 @@ use Rattle.vbr_list.specs.LookUpPieces.{IsSightFor}
 use Rattle.vbr_list.specs.declared.entries.Entry.{Entry}
 use Rattle.vbr_list.specs.declared.looking.Sight.{Sight}
 use Rattle.vbr_list.proofs.EntryAnswers.{entry_answers}
+use Rattle.vbr_list.specs.Words.{wide_held, wide_sight}
 use Rattle.vbr_list.proofs.call.PendingCall.settle_entry.Goals as goal
 
 pub returns-in-Ok-clause-answers : goal.returns-in-Ok-clause-answers
 returns-in-Ok-clause-answers g c =
-    let P : Sight → Type 0 = IsSightFor c.args.self.now in
+    let P : Sight → Type 0 = λ s. IsSightFor c.args.self.now (wide_sight c.args.self.now s) in
     let sight = subst P c.in-Present.is c.requires.sight in
     let E : Option Entry → Type 0 = EntryAnswers c.args.gives c.args.self.now c.give_node.new.self in
     subst E (sym c.entry_of.ensures)
-    (entry_answers c.in-Present.node c.in-Ok.value c.args.gives (knows c.args.self.now.at.stepper.now.trace)
+    (entry_answers (wide_held c.args.self.now c.in-Present.node) c.in-Ok.value c.args.gives
+    (knows c.args.self.now.at.stepper.now.trace)
     c.args.self.now.key sight.2 c.in-Ok.ensures.answers)

@@ -2,18 +2,21 @@ use Rattle.vbr_list.proofs.Names.{◌+◌, ◌≤◌, Bool, arith, sym, subst, I
 use Rattle.vbr_list.specs.LookUpPieces.{IsSightFor, LookUpAnswers, steps_to_answer}
 use Rattle.vbr_list.specs.declared.looking.Sight.{Sight}
 use Rattle.vbr_list.proofs.Going.{ok_as}
+use Rattle.vbr_list.specs.Words.{wide_sight}
 use Rattle.vbr_list.proofs.call.PendingCall.settle_look_up.Goals as goal
 
 pub give_value-requires-clause-sight : goal.give_value-requires-clause-sight
 give_value-requires-clause-sight g c =
-    let P : Sight → Type 0 = IsSightFor c.args.self.now in subst P c.in-Present.is c.requires.sight
+    let P : Sight → Type 0 = λ s. IsSightFor c.args.self.now (wide_sight c.args.self.now s) in subst P c.in-Present.is
+    c.requires.sight
 
 pub give_value-requires-clause-values : goal.give_value-requires-clause-values
 give_value-requires-clause-values g c = c.requires.asked c.if-not-gives.false
 
 pub give_none-requires-clause-sight : goal.give_none-requires-clause-sight
 give_none-requires-clause-sight g c =
-    let P : Sight → Type 0 = IsSightFor c.args.self.now in subst P c.in-Absent.is c.requires.sight
+    let P : Sight → Type 0 = λ s. IsSightFor c.args.self.now (wide_sight c.args.self.now s) in subst P c.in-Absent.is
+    c.requires.sight
 
 pub give_none-requires-clause-asked : goal.give_none-requires-clause-asked
 give_none-requires-clause-asked g c = λ _. c.requires.asked c.if-not-gives.false

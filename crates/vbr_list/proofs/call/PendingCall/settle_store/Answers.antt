@@ -11,6 +11,7 @@ use Rattle.vbr_list.proofs.Preparing.{if_failed, if_went}
 use Rattle.vbr_list.proofs.Settled.{answers_since, change_answers, settles_after, settles_since, told_answers}
 use Rattle.vbr_list.proofs.ReadFirst.{found_lost_since}
 use Rattle.vbr_list.proofs.Stores.{hand_kept, replaced_where, unless_since}
+use Rattle.vbr_list.specs.Words.{wide_found}
 use Rattle.vbr_list.proofs.call.PendingCall.settle_store.Goals as goal
 
 pub returns-in_default-clause-had : goal.returns-in_default-clause-had
@@ -71,7 +72,7 @@ returns-in-Ok-change-clause-paid g c =
     let read = c.read_found.ensures in
     let b = c.args.self.now in
     let d = c.change.new.self in
-    let f = c.args.found.now in
+    let f = wide_found c.args.self.now c.args.found.now in
     let went = read_goes {c = b} {d = c.read_found.new.self} _ read.call read.used read.reads in
     let few = few_where f.present in
     let used = read.used in
@@ -79,12 +80,12 @@ returns-in-Ok-change-clause-paid g c =
     let P : Bool → Type 0 = λ stored. SettlesIn 8 stored b d f in
     subst P (sym (replaced_where c.args.wanted c.in-Ok.there is))
     (settles_since b c.read_found.new.self d f c.law.ensures went (omega (arith, used, few)) read.reads.adds_none
-    c.in-Ok.ensures.found.keeps _ c.in-Ok-change.ensures.paid)
+    c.in-Ok.ensures.found.keeps _ (simp read.call.at.slots at c.in-Ok-change.ensures.paid))
 
 pub returns-in-Err-clause-back : goal.returns-in-Err-clause-back
 returns-in-Err-clause-back g c =
     let read = c.read_found.ensures in
-    let back = c.in-Err.ensures.back in
+    let back = simp read.call.at.slots at c.in-Err.ensures.back in
     let few = few_where c.args.found.now.present in
     let used = read.used in
     let more = back.few in
@@ -92,7 +93,8 @@ returns-in-Err-clause-back g c =
       given = record {
         quiet = quiet_on read.reads.quiet back.given.quiet;
         hand = back.given.hand;
-        loses = found_lost_since c.args.found.now c.law.ensures read.reads c.in-Ok.ensures.found.keeps
+        loses = found_lost_since (wide_found c.args.self.now c.args.found.now) c.law.ensures read.reads
+            c.in-Ok.ensures.found.keeps
             back.given.loses;
       };
       few = omega (arith, few, used, more);
@@ -128,13 +130,15 @@ returns-then-is_err-clause-back g c =
     let t = c.tell_found.ensures in
     let asks = asks_then {c = c.args.self.now} c.args.found.now.present read.call read.used read.reads t.call t.used
     t.keeps in
-    let lost = if_failed c.tell_found.result (sym c.is_err.ensures.value ∙ c.if-is_err.true) t.lost in
+    let lost = simp read.call.at.slots at
+    (if_failed c.tell_found.result (sym c.is_err.ensures.value ∙ c.if-is_err.true) t.lost) in
     let few = asks.few in
     record {
       given = record {
         quiet = quiet_on read.reads.quiet lost.quiet;
         hand = hand_kept c.args.hand asks.hand c.requires.has.hand;
-        loses = found_lost_since c.args.found.now c.law.ensures read.reads c.in-Ok.ensures.found.keeps lost.loses;
+        loses = found_lost_since (wide_found c.args.self.now c.args.found.now) c.law.ensures read.reads
+            c.in-Ok.ensures.found.keeps lost.loses;
       };
       few = omega (arith, few);
     }

@@ -2,6 +2,8 @@ use Rattle.vbr_list.proofs.Names.{rules, refl, false, Some}
 use Rattle.vbr_list.proofs.Disturbing.{loses_link}
 use Rattle.vbr_list.proofs.Going.{settles_step}
 use Rattle.vbr_list.proofs.Sights.{answers_bare}
+use Rattle.vbr_at_table.specs.Held.{said_rollback}
+use Rattle.vbr_list.specs.Words.{wide_held}
 use Rattle.vbr_list.proofs.call.PendingCall.show_node.Goals as goal
 
 pub confirm_present-outcome-requires-clause-node : goal.confirm_present-outcome-requires-clause-node
@@ -35,4 +37,9 @@ returns-in-Ok-clause-answers g c =
 pub returns-in-Err-clause-rolls : goal.returns-in-Err-clause-rolls
 returns-in-Err-clause-rolls g c =
     let lost = c.in-Err.ensures.lost in
-    record { quiet = lost.quiet; adds_none = lost.adds_none; loses = loses_link c.args.node.now _ lost.lost }
+    record {
+      quiet = lost.quiet;
+      adds_none = lost.adds_none;
+      loses = loses_link (wide_held c.args.self.now c.args.node.now)
+          (said_rollback c.args.self.now.at.slots.now c.in-Err.rollback) lost.lost;
+    }

@@ -1,4 +1,5 @@
 use Rattle.vbr_list.proofs.Names.{rules, arith}
+use Rattle.vbr_list.specs.Words.{wide_held}
 use Rattle.vbr_list.proofs.Going.{goes_read, ok_as}
 use Rattle.vbr_list.proofs.Observing.{reads_observe}
 use Rattle.vbr_list.proofs.Reaching.{come_to, head_before}
@@ -17,5 +18,7 @@ returns-clause-observes g c = reads_observe c.start_at-head.ensures.reads
 pub returns-clause-come : goal.returns-clause-come
 returns-clause-come g c =
     ok_as c.start_at-head.result
-    (λ head x. come_to c.args.self.now.bucket c.args.self.now.key head c.start_at-head.ensures.reads.quiet.same
-    c.args.self.now.of_key (head_before c.args.self.now.bucket c.args.self.now.key head x)) c.start_at-head.ensures.head
+    (λ head x. come_to c.args.self.now.bucket c.args.self.now.key (wide_held c.args.self.now head)
+    c.start_at-head.ensures.reads.quiet.same
+    c.args.self.now.of_key (head_before c.args.self.now.bucket c.args.self.now.key (wide_held c.args.self.now head) x))
+    c.start_at-head.ensures.head

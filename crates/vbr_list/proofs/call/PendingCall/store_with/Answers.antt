@@ -8,10 +8,13 @@ use Rattle.vbr_list.proofs.Preparing.{within_same}
 use Rattle.vbr_list.proofs.Settled.{answers_since}
 use Rattle.vbr_list.proofs.SettledSoon.{answers_then, searches_with, takes_settled}
 use Rattle.vbr_list.proofs.Stores.{had_since, hand_kept, has_made}
+use Rattle.vbr_list.specs.Words.{wide_found}
 use Rattle.vbr_list.proofs.call.PendingCall.store_with.Goals as goal
 
 pub settle_store-requires-clause-found : goal.settle_store-requires-clause-found
-settle_store-requires-clause-found g c = located c.reach.ensures.goes c.in-Some.found c.in-Some.ensures.found
+settle_store-requires-clause-found g c =
+    simp c.reach.ensures.goes.call.at.slots
+    (located c.reach.ensures.goes (wide_found c.loop-found.self c.in-Some.found) c.in-Some.ensures.found)
 
 pub settle_store-requires-clause-has : goal.settle_store-requires-clause-has
 settle_store-requires-clause-has g c =
@@ -24,11 +27,12 @@ settle_store-requires-clause-has g c =
 
 pub loop-found-preserved : goal.loop-found-preserved
 loop-found-preserved g c =
-    let back = c.in-Err.ensures.back in
+    let back = simp c.reach.ensures.goes.call.at.slots at c.in-Err.ensures.back in
     let few = back.few in
     lost_then 8 {b = c.args.self.now} c.law.ensures c.loop-found.invariant c.reach.ensures.goes
     (takes_settled c.settle_store.ensures.settles) (omega (arith, few)) back.given.quiet back.given.hand
-    (rw c.in-Err.is at c.settle_store.ensures.had) c.in-Some.found c.in-Some.ensures.found back.given.loses
+    (rw c.in-Err.is at c.settle_store.ensures.had) (wide_found c.loop-found.self c.in-Some.found)
+    c.in-Some.ensures.found back.given.loses
 
 pub returns-in-Ok-clause-links : goal.returns-in-Ok-clause-links
 returns-in-Ok-clause-links g c =
@@ -55,7 +59,8 @@ returns-in-Ok-clause-paid g c =
     (stored_calls d.at.stepper.now.trace.who d.key c.args.value c.args.wanted c.in-Ok.there)
     c.in-Ok.ensures.answers.made in
     answers_then c.args.self.now c.loop-found.self d e c.law.ensures c.loop-found.invariant c.reach.ensures.goes
-    c.in-Some.found c.in-Some.ensures.found made (replaced c.args.wanted c.in-Ok.there) c.in-Ok.ensures.paid
+    (wide_found c.loop-found.self c.in-Some.found) c.in-Some.ensures.found made (replaced c.args.wanted c.in-Ok.there)
+    (simp c.reach.ensures.goes.call.at.slots at c.in-Ok.ensures.paid)
 
 pub returns-in_default-clause-links : goal.returns-in_default-clause-links
 returns-in_default-clause-links g c =

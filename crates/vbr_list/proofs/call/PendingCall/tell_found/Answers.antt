@@ -6,11 +6,14 @@ use Rattle.vbr_list.proofs.Moments.{key_found}
 use Rattle.vbr_list.proofs.Passing.{before_named}
 use Rattle.vbr_list.proofs.Sufficing.{each_error, on_ok}
 use Rattle.vbr_list.proofs.FoundValues.{none_there, there_absent, there_value}
+use Rattle.vbr_at_table.specs.Held.{said_rollback}
+use Rattle.vbr_list.proofs.WideWords.{wide_is}
+use Rattle.vbr_list.specs.Words.{wide_found, wide_held}
 use Rattle.vbr_list.proofs.call.PendingCall.tell_found.Goals as goal
 
 pub confirm_absent-requires-clause-gap : goal.confirm_absent-requires-clause-gap
 confirm_absent-requires-clause-gap g c =
-    let f = c.args.found.now in
+    let f = wide_found c.args.self.now c.args.found.now in
     let know = knows c.args.self.now.at.stepper.now.trace in
     let x = c.requires.knows.locates in
     let absent = there_absent know f c.args.there (rw c.if-is_none.true at c.is_none.ensures) c.requires.knows.is in
@@ -26,10 +29,16 @@ confirm_absent-requires-clause-op g c = record { other = λ e. absurd (cc); aske
 
 pub confirm_present-requires-clause-asked : goal.confirm_present-requires-clause-asked
 confirm_present-requires-clause-asked g c = λ get.
-    let f = c.args.found.now in
+    let f = wide_found c.args.self.now c.args.found.now in
     let value = there_value (knows c.args.self.now.at.stepper.now.trace) f c.args.there
-    (rw c.if-is_none.false at c.is_none.ensures) c.requires.knows.is in
-    (c.requires.knows.values, (value.0, value.2.known c.in-Some.cur c.in-Some.is))
+    (rw c.if-is_none.false at c.is_none.ensures) c.requires.knows.is in (
+      c.requires.knows.values,
+      (
+        value.0,
+        value.2.known (wide_held c.args.self.now c.in-Some.cur)
+            (wide_is c.args.self.now c.in-Some.is),
+      ),
+    )
 
 pub returns-then-is_none-clause-told : goal.returns-then-is_none-clause-told
 returns-then-is_none-clause-told g c =
@@ -42,26 +51,33 @@ returns-then-is_none-clause-told g c =
 
 pub returns-clause-told : goal.returns-clause-told
 returns-clause-told g c =
-    let f = c.args.found.now in
+    let f = wide_found c.args.self.now c.args.found.now in
     let p = c.args.self.now.at.stepper.now.trace in
     let value = there_value (knows p) f c.args.there (rw c.if-is_none.false at c.is_none.ensures) c.requires.knows.is in
-    let key = key_found c.requires.knows.locates c.in-Some.is value.2.present in
+    let key = key_found c.requires.knows.locates (wide_is c.args.self.now c.in-Some.is) value.2.present in
     let P : Option ℕ → Type 0 =
     λ there. IfOk c.confirm_present.result
     (λ _. Made (given_call p.who Get c.args.self.now.key there) p c.confirm_present.new.at.stepper.now.trace) in
     subst P value.1
     (on_ok c.confirm_present.result
     (λ answers. (answers.answers c.args.self.now.key value.0 key
-    (λ get. value.2.known c.in-Some.cur c.in-Some.is)).made) c.confirm_present.ensures.answers)
+    (λ get. value.2.known (wide_held c.args.self.now c.in-Some.cur) (wide_is c.args.self.now c.in-Some.is))).made)
+    c.confirm_present.ensures.answers)
 
 pub returns-then-is_none-clause-lost : goal.returns-then-is_none-clause-lost
 returns-then-is_none-clause-lost g c =
-    each_error (FindsAnother c.args.self.now.at.stepper.now.trace c.confirm_absent.new.at.stepper.now.trace
-    c.args.found.now.pred) _ c.confirm_absent.result (unanswered_by_pred c.law.ensures c.args.found.now)
+    each_error (λ why. FindsAnother c.args.self.now.at.stepper.now.trace c.confirm_absent.new.at.stepper.now.trace
+    (wide_held c.args.self.now c.args.found.now.pred) (said_rollback c.args.self.now.at.slots.now why)) _
+    c.confirm_absent.result
+    (λ why. unanswered_by_pred c.law.ensures (wide_found c.args.self.now c.args.found.now)
+    (said_rollback c.args.self.now.at.slots.now why))
     c.confirm_absent.ensures.lost
 
 pub returns-clause-lost : goal.returns-clause-lost
 returns-clause-lost g c =
-    each_error (FindsAnother c.args.self.now.at.stepper.now.trace c.confirm_present.new.at.stepper.now.trace
-    c.in-Some.cur) _ c.confirm_present.result
-    (unanswered_by_cur c.law.ensures c.args.found.now c.in-Some.cur c.in-Some.is) c.confirm_present.ensures.lost
+    each_error (λ why. FindsAnother c.args.self.now.at.stepper.now.trace c.confirm_present.new.at.stepper.now.trace
+    (wide_held c.args.self.now c.in-Some.cur) (said_rollback c.args.self.now.at.slots.now why)) _
+    c.confirm_present.result
+    (λ why. unanswered_by_cur c.law.ensures (wide_found c.args.self.now c.args.found.now)
+    (wide_held c.args.self.now c.in-Some.cur) (wide_is c.args.self.now c.in-Some.is)
+    (said_rollback c.args.self.now.at.slots.now why)) c.confirm_present.ensures.lost

@@ -1,6 +1,7 @@
 use Rattle.vbr_list.proofs.Names.{rules, ◌≡◌, ◌+◌, ◌≤◌, true, false, sym, ap, ◌∙◌, refl, subst, arith, ◌==◌, is_some}
 use Rattle.vbr_list.proofs.Names.{bucket_of, held_of, HeldIn, knows, Link, link_of, PIECE, quiet_on, Start}
 use Rattle.vbr_list.specs.Walking.{Walks}
+use Rattle.vbr_list.specs.Words.{wide_held, wide_marked}
 use Rattle.vbr_list.proofs.Disturbing.{loses_place_disturb, moves_on, moves_on_disturb, run_at}
 use Rattle.vbr_list.proofs.Going.{call_on, goes_further, goes_on, tries_on, within_call}
 use Rattle.vbr_list.proofs.Moments.{cur_found}
@@ -8,12 +9,19 @@ use Rattle.vbr_list.proofs.Reaching.{node_found, node_reached, pred_inside, pred
 use Rattle.vbr_list.proofs.Visits.{knows_now, met_knows, met_open, met_paid, met_past, met_to, paid_so_far}
 use Rattle.vbr_list.proofs.Visits.{stands_still_on, start_stops, starts_walk, visit_changes_none, visit_paid}
 use Rattle.vbr_list.proofs.Visits.{visited_run, walk_helped}
+use Rattle.vbr_list.proofs.WideWords.{layout_at}
 use Rattle.vbr_list.proofs.call.PendingCall.traverse.Goals as goal
 
 pub help-requires-clause-pred : goal.help-requires-clause-pred
 help-requires-clause-pred g c =
-    rw (c.visit.ensures.goes.call.key, c.loop-pred.invariant.0.key)
-    (pred_on c.args.self.now.key c.loop-pred.pred c.visit.ensures.goes.goes.quiet.same c.in-Ok-Marked.ensures.met.keeps
+    rw (
+      c.visit.ensures.goes.call.at.slots,
+      c.loop-pred.invariant.0.at.slots,
+      c.visit.ensures.goes.call.key,
+      c.loop-pred.invariant.0.key,
+    )
+    (pred_on c.args.self.now.key (wide_held c.args.self.now c.loop-pred.pred) c.visit.ensures.goes.goes.quiet.same
+    c.in-Ok-Marked.ensures.met.keeps
     c.loop-pred.invariant.1.reached.is)
 
 pub loop-pred-init : goal.loop-pred-init
@@ -26,7 +34,8 @@ loop-pred-init g c =
         some = omega (arith, used);
         reached = c.in-Ok.ensures.come;
         walks = starts_walk c.law.ensures c.args.self.now.bucket c.start.ensures.goes.goes.quiet
-            c.start.ensures.observes 9 c.args.self.now.used c.start.new.self.used c.in-Ok.pred used
+            c.start.ensures.observes 9 c.args.self.now.used c.start.new.self.used
+            (wide_held c.args.self.now c.in-Ok.pred) used
             c.in-Ok.ensures.head;
       },
     )
@@ -34,12 +43,13 @@ loop-pred-init g c =
 pub loop-pred-preserved : goal.loop-pred-preserved
 loop-pred-preserved g c =
     let v = c.visit.ensures.goes in
-    let met = rw c.in-Ok-Smaller.field-0-is at c.in-Ok-Smaller.ensures.met in
+    let met = rw c.loop-pred.invariant.0.at.slots at (rw c.in-Ok-Smaller.field-0-is at c.in-Ok-Smaller.ensures.met) in
     let count = met.count in
     let i = c.loop-pred.invariant.1 in
     let same = c.loop-pred.invariant.0.key in
     let low = met.visits.low in
-    let come = node_reached c.args.self.now.key met.visits.key c.loop-pred.pred c.in-Ok-Smaller.node v.goes.quiet.same
+    let come = node_reached c.args.self.now.key met.visits.key (wide_held c.args.self.now c.loop-pred.pred)
+    (wide_held c.args.self.now c.in-Ok-Smaller.node) v.goes.quiet.same
     (pred_inside i.reached.is) met.keeps met.reads met.visits.has (omega (arith, low, same)) in
     let y = c.affords-in-loop-pred.ensures.0 c.if-not-affords-2.false in
     let b = c.loop-pred.invariant.0.budget in (
@@ -54,10 +64,12 @@ loop-pred-preserved-in-Ok-help g c =
     let v = c.visit.ensures.goes in
     let h = c.help.ensures.goes in
     let i = c.loop-pred.invariant.1 in
-    let met = rw c.in-Ok-Marked.field-0-is at c.in-Ok-Marked.ensures.met in
-    let helped = c.in-Ok-help.ensures.helps in
+    let met = rw c.loop-pred.invariant.0.at.slots at (rw c.in-Ok-Marked.field-0-is at c.in-Ok-Marked.ensures.met) in
+    let helped = rw (c.visit.ensures.goes.call.at.slots ∙ c.loop-pred.invariant.0.at.slots) at
+    c.in-Ok-help.ensures.helps in
     let before =
-    pred_on c.args.self.now.key c.loop-pred.pred v.goes.quiet.same c.in-Ok-Marked.ensures.met.keeps i.reached.is in
+    pred_on c.args.self.now.key (wide_held c.args.self.now c.loop-pred.pred) v.goes.quiet.same
+    c.in-Ok-Marked.ensures.met.keeps i.reached.is in
     let s = helped.come c.args.self.now.key before in
     let x = c.visit.ensures.used in
     let y = h.more in
@@ -79,8 +91,9 @@ loop-pred-preserved-in-Ok-help g c =
     (ap (λ (start : Start). bucket_of start.shape c.args.self.now.key) whole.same.start ∙ sym c.args.self.now.of_key)
     before.inside in
     let count = met.count in
-    let past : Walks 9 p r bucket c.args.self.now.used c.help.new.self.used c.loop-pred.pred
-    (held_of c.in-Ok-Marked.marked) =
+    let past : Walks 9 p r bucket c.args.self.now.used c.help.new.self.used
+    (wide_held c.args.self.now c.loop-pred.pred)
+    (held_of (wide_marked c.args.self.now c.in-Ok-Marked.marked)) =
     met_past c.law.ensures c.args.self.now.bucket c.loop-pred.invariant.1.tries.goes.quiet
     c.visit.ensures.goes.goes.quiet c.visit.ensures.observes i.walks met (omega (arith, count, few)) in (
       call_on c.loop-pred.invariant.0 (call_on v.call h.call),
@@ -90,7 +103,8 @@ loop-pred-preserved-in-Ok-help g c =
     )
 
 pub returns-in-Err-clause-goes : goal.returns-in-Err-clause-goes
-returns-in-Err-clause-goes g c = goes_further c.loop-pred.invariant.0 c.loop-pred.invariant.1.tries c.visit.ensures.goes
+returns-in-Err-clause-goes g c = goes_further c.loop-pred.invariant.0 c.loop-pred.invariant.1.tries
+    c.visit.ensures.goes
 
 pub returns-then-not-affords-3-clause-goes : goal.returns-then-not-affords-3-clause-goes
 returns-then-not-affords-3-clause-goes g c =
@@ -110,16 +124,18 @@ pub returns-in-Ok-Beyond-clause-found : goal.returns-in-Ok-Beyond-clause-found
 returns-in-Ok-Beyond-clause-found g c =
     let v = c.visit.ensures.goes.goes.quiet in
     let i = c.loop-pred.invariant.1 in
-    let met = rw c.in-Ok-Beyond.field-0-is at c.in-Ok-Beyond.ensures.met in
+    let met = rw c.loop-pred.invariant.0.at.slots at (rw c.in-Ok-Beyond.field-0-is at c.in-Ok-Beyond.ensures.met) in
     let count = met.count in
     let same = c.visit.ensures.goes.call.key ∙ c.loop-pred.invariant.0.key in
     let high = met.visits.1 in
     let is = c.loop-pred.invariant.0.key in
     let says = ap (λ k. k == c.in-Ok-Beyond.key) same in
-    let cur = node_found c.args.self.now.key c.in-Ok-Beyond.key _ c.loop-pred.pred c.in-Ok-Beyond.node met.reads
+    let cur = node_found c.args.self.now.key c.in-Ok-Beyond.key _ (wide_held c.args.self.now c.loop-pred.pred)
+    (wide_held c.args.self.now c.in-Ok-Beyond.node) met.reads
     met.visits.0 (omega (arith, high, is)) says in
     record {
-      found = cur_found c.args.self.now.key c.visit.new.self.used c.loop-pred.pred c.in-Ok-Beyond.node
+      found = cur_found c.args.self.now.key c.visit.new.self.used (wide_held c.args.self.now c.loop-pred.pred)
+          (wide_held c.args.self.now c.in-Ok-Beyond.node)
           (c.visit.new.self.key == c.in-Ok-Beyond.key) i.reached i.tries.goes.quiet v met.keeps cur met.reads.stood;
       used = refl;
       knew = met_knows c.law.ensures c.args.self.now.bucket c.loop-pred.invariant.1.tries.goes.quiet
@@ -163,8 +179,10 @@ returns-in-Err-clause-stopped g c =
     let r = c.visit.new.self.at.stepper.now.trace in
     let first = i.tries.goes.quiet in
     let few = c.visit.ensures.used.1 in
-    let some : is_some (link_of c.loop-pred.pred.word).slot ≡ true =
-    ap (λ (l : Link). is_some l.slot) (sym c.decode.ensures.link) ∙ sym c.is_some.ensures ∙ c.loop-pred-test.true in
+    let some : is_some (link_of (wide_held c.args.self.now c.loop-pred.pred).word).slot ≡ true =
+    ap (λ (l : Link). is_some l.slot)
+    (sym (rw (layout_at c.layout.ensures.layout c.loop-pred.invariant.0.at) at c.decode.ensures.link)) ∙ sym
+    c.is_some.ensures ∙ c.loop-pred-test.true in
     let steps = c.visit.ensures.goes.goes.hand.takes_no_slot.count ∙ i.tries.goes.hand.takes_no_slot.count in (
       omega arith,
       visit_paid c.law.ensures c.args.self.now.bucket c.loop-pred.invariant.1.tries.goes.quiet
@@ -182,7 +200,7 @@ returns-then-not-affords-3-clause-stopped g c =
     let z = c.affords-in-Ok-Marked.ensures.1 h in
     let w : false ≡ true = sym f ∙ z in
     cc) in
-    let met = rw c.in-Ok-Marked.field-0-is at c.in-Ok-Marked.ensures.met in
+    let met = rw c.loop-pred.invariant.0.at.slots at (rw c.in-Ok-Marked.field-0-is at c.in-Ok-Marked.ensures.met) in
     let count = met.count in (
       omega (arith, short, b),
       met_paid c.law.ensures c.args.self.now.bucket c.loop-pred.invariant.1.tries.goes.quiet
@@ -195,7 +213,7 @@ returns-in-Err-help-clause-stopped g c =
     let i = c.loop-pred.invariant.1 in
     let v = c.visit.ensures.goes.goes in
     let h = c.help.ensures.goes.goes in
-    let met = rw c.in-Ok-Marked.field-0-is at c.in-Ok-Marked.ensures.met in
+    let met = rw c.loop-pred.invariant.0.at.slots at (rw c.in-Ok-Marked.field-0-is at c.in-Ok-Marked.ensures.met) in
     let few = c.help.ensures.few in
     let p = c.args.self.now.at.stepper.now.trace in
     let q = c.loop-pred.self.at.stepper.now.trace in
@@ -214,7 +232,8 @@ returns-in-Err-help-clause-stopped g c =
       omega arith,
       visit_paid c.law.ensures bucket first later i.walks (let count = met.count in omega (arith, count, few))
           (ap is_some met.reads.named),
-      loses_place_disturb p t is ok_t bucket all.same steps r c.loop-pred.pred whole.same h.quiet.seen
+      loses_place_disturb p t is ok_t bucket all.same steps r (wide_held c.args.self.now c.loop-pred.pred) whole.same
+          h.quiet.seen
           (knows_now p r whole.same whole.seen met.fresh) (stands_still_on v.quiet.seen none i.walks.stands)
-          c.in-Err-help.ensures.lost,
+          (rw (c.visit.ensures.goes.call.at.slots ∙ c.loop-pred.invariant.0.at.slots) at c.in-Err-help.ensures.lost),
     )

@@ -1,10 +1,39 @@
-use Rattle.std.proofs.Common.{refl, rules}
+use Rattle.std.proofs.Common.{ℕ, ◌≢◌, refl, rules, subst, sym}
+use Rattle.vbr_slots.specs.WideWords.{wide_in}
+use Rattle.vbr_slots.specs.Views.{Did, PassView}
+use Rattle.vbr_slots.proofs.WideReads.{finds_other, named_as, wide_other}
+use Rattle.vbr_machine.specs.declared.event.Step.TheVariants.{Publish}
 use Rattle.vbr_slots.proofs.Steppers.{well_after}
 use Rattle.vbr_slots.proofs.at_table.AtTable.publish.Goals as goal
 
 pub invariant_of-stepper : goal.invariant_of-stepper
-invariant_of-stepper g c = well_after c.stepper.inside c.exchange-found.ensures refl (search rules) c.stepper.invariant
+invariant_of-stepper g c = well_after c.stepper.inside c.exchange_at-found.ensures refl (search rules)
+    c.stepper.invariant
 
 pub invariant_of-stepper-2 : goal.invariant_of-stepper-2
 invariant_of-stepper-2 g c =
-    well_after c.stepper.inside c.exchange-found.ensures refl (search rules) c.stepper.invariant
+    let table = c.args.self.now.slots.now in
+    let wide = named_as table c.layout.result c.args.expected c.wide.result c.layout.ensures.layout
+    c.wide.ensures.word in
+    let other : wide_in table c.exchange_at-found.result ≢ c.wide.result =
+    subst (λ (word : ℕ). wide_in table c.exchange_at-found.result ≢ word) (sym wide)
+    (wide_other table c.layout.result c.exchange_at-found.result c.args.expected c.layout.ensures.layout
+    c.layout.ensures.few c.if-found-expected.false) in
+    well_after c.stepper.inside c.exchange_at-found.ensures refl (search (rules, other)) c.stepper.invariant
+
+pub returns-clause-other : goal.returns-clause-other
+returns-clause-other g c =
+    let table = c.args.self.now.slots.now in
+    let found : ℕ = c.exchange_at-found.result in
+    let named = named_as table c.layout.result c.args.expected c.wide.result c.layout.ensures.layout
+    c.wide.ensures.word in
+    finds_other table c.layout.result c.args.expected found
+    (Publish c.args.pred (wide_in table c.args.expected) c.args.slot) c.layout.ensures.layout c.layout.ensures.few
+    c.if-found-expected.false
+    (subst (λ (word : ℕ). Did (Publish c.args.pred word c.args.slot) c.args.self.now.stepper.now.trace
+    c.exchange_at-found.new.runner
+    (wide_in table found)) named
+    (subst (λ (v : PassView). Did (Publish c.args.pred c.wide.result c.args.slot) v.trace c.exchange_at-found.new.runner
+    (wide_in table found))
+    c.stepper.view_is c.exchange_at-found.ensures))
+    (search rules)

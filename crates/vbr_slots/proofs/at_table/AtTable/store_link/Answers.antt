@@ -2,4 +2,4 @@ use Rattle.vbr_slots.proofs.Steppers.{stays_well}
 use Rattle.vbr_slots.proofs.at_table.AtTable.store_link.Goals as goal
 
 pub invariant_of-stepper : goal.invariant_of-stepper
-invariant_of-stepper g c = stays_well c.stepper.inside c.store.ensures tt c.stepper.invariant
+invariant_of-stepper g c = stays_well c.stepper.inside c.store_at.ensures tt c.stepper.invariant

@@ -1,20 +1,32 @@
-use Rattle.std.proofs.Common.{sym, ap, ◌∙◌, rules}
+use Rattle.std.proofs.Common.{ℕ, sym, ap, ◌∙◌}
+use Rattle.vbr_words.specs.Packing.{slot_bits, unpacked}
 use Rattle.vbr_words.specs.Places as places
 use Rattle.vbr_machine.specs.Machine.{word_made}
-use Rattle.vbr_slots.proofs.Learning.{shows_itself}
+use Rattle.vbr_slots.specs.Words.{kept_at}
 use Rattle.vbr_slots.proofs.LinkIndices.{link_is}
-use Rattle.vbr_slots.proofs.Steps.{asks_alone, steps_did, steps_sound}
+use Rattle.vbr_slots.proofs.Packed.{tells_link}
+use Rattle.vbr_slots.proofs.Steps.{asks_alone, link_epoch, named_bits, shown_link, steps_did, steps_sound}
 use Rattle.vbr_slots.proofs.slots.Slots.load_at_as.Goals as goal
 
-pub load-found-requires : goal.load-found-requires
-load-found-requires g c =
+pub load-requires : goal.load-requires
+load-requires g c =
+    let shape = c.self.inside.opening.shape in
+    let keeps : ℕ → ℕ = kept_at shape (places.place_of c.args.holder) in
     asks_alone c.self.invariant c.self.view_is c.runner.invariant c.runner.view_is c.requires.own c.requires.named _
-    (places.place_of c.args.holder) _ (λ n. n) (λ n. n)
-    (c.link_index_in-word.ensures ∙ link_is c.self.inside.opening.shape c.args.holder) c.requires.place
-    (λ n. sym (ap (λ a. word_made a n) c.requires.access)) (shows_itself c.args.step) c.requires.accepted
+    (places.place_of c.args.holder) _ (λ n. n) (unpacked (slot_bits g.E.Naming.opening.start.shape.slots))
+    (c.link_index_in-word.ensures ∙ link_is shape c.args.holder) c.requires.place
+    (λ n room. ap keeps (sym (ap (λ a. word_made a n) c.requires.access)))
+    (tells_link shape c.args.holder c.args.step _ (named_bits c.self.inside c.self.view_is c.requires.named))
+    c.requires.accepted
 
 pub invariant_of-runner : goal.invariant_of-runner
-invariant_of-runner g c = search (rules, steps_sound)
+invariant_of-runner g c =
+    steps_sound c.runner.inside _ _ c.args.step _ _ _ c.load.new.seat c.runner.inside.epoch c.runner.invariant
+    c.runner.view_is c.requires.own c.requires.named c.load.ensures.2 c.load.ensures.0
+    (link_epoch c.args.holder c.args.step _ _ c.requires.place)
 
 pub returns : goal.returns
-returns g c = search (rules, steps_did)
+returns g c = shown_link _ c.requires.named
+    (steps_did c.runner.inside _ _ c.args.step _ _ _ c.load.new.seat c.runner.inside.epoch c.runner.invariant
+    c.runner.view_is c.requires.own c.requires.named c.load.ensures.2 c.load.ensures.0
+    (link_epoch c.args.holder c.args.step _ _ c.requires.place))

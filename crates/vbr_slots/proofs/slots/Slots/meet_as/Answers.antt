@@ -6,6 +6,8 @@ use Rattle.vbr_slots.specs.Rule.{witness, opened_of}
 use Rattle.vbr_slots.specs.Views.{Trace}
 use Rattle.vbr_slots.proofs.Learning.{shows_itself}
 use Rattle.vbr_slots.proofs.Seats.{splits_whole, splits_first, joins}
+use Rattle.vbr_machine.specs.Machine.{Load}
+use Rattle.vbr_slots.proofs.Packed.{tells_plain, writes_plain}
 use Rattle.vbr_slots.proofs.Steps.{asks, known, low_of, done, stays_sound, did, seen_in, together, left_alone}
 use Rattle.vbr_slots.proofs.Steps.{right_rest, same_again, wide}
 use Rattle.vbr_slots.proofs.slots.Slots.meet_as.Goals as goal
@@ -39,8 +41,10 @@ load-found-requires g c =
     asks c.self.inside c.args.self.now c.self.invariant c.self.view_is w low c.requires.own _
     (c.join_seat.ensures.0 ∙ ap (λ (v : Trace). v.table) c.runner.view_is) _ c.join_seat.new.seat.me
     (witness (opened_of o.start) o.who o.seen ∷ [])
-    both ReadEpoch _ _ c.requires.named Epoch _ (λ n. n) (λ n. n) c.place_index_in-word.ensures.index refl (λ n. refl)
-    (shows_itself ReadEpoch) (record { in_shape = tt; owned = tt; held = tt; in_range = tt; below_last = tt })
+    both ReadEpoch _ _ c.requires.named Epoch _ (λ n. n) (λ n. n) c.place_index_in-word.ensures.index refl
+    (writes_plain c.self.inside.opening.shape Epoch Load (λ n. n) tt (λ n. refl))
+    (tells_plain c.self.inside.opening.shape Epoch ReadEpoch (λ n. n) tt (shows_itself ReadEpoch))
+    (record { in_shape = tt; owned = tt; held = tt; in_range = tt; below_last = tt })
 
 pub split_seat-requires : goal.split_seat-requires
 split_seat-requires g c =

@@ -3,6 +3,8 @@ use Rattle.vbr_machine.specs.declared.event.Step.TheVariants.{ReadEpoch}
 use Rattle.vbr_words.specs.declared.place.Place.TheVariants.{Epoch}
 use Rattle.vbr_slots.proofs.Learning.{shows_itself}
 use Rattle.vbr_slots.specs.Views.{Trace, knows}
+use Rattle.vbr_machine.specs.Machine.{Load}
+use Rattle.vbr_slots.proofs.Packed.{tells_plain, writes_plain}
 use Rattle.vbr_slots.proofs.Steps.{asks_alone, steps_did, steps_sound}
 use Rattle.vbr_slots.proofs.slots.Slots.read_epoch_as.Goals as goal
 
@@ -10,7 +12,8 @@ pub load-found-requires : goal.load-found-requires
 load-found-requires g c =
     asks_alone c.self.invariant c.self.view_is c.runner.invariant c.runner.view_is c.requires.own c.requires.named _
     Epoch _ (λ n. n) (λ n. n) c.place_index_in-word.ensures.index refl
-    (λ n. refl) (shows_itself ReadEpoch) c.requires.accepted
+    (writes_plain c.self.inside.opening.shape Epoch Load (λ n. n) tt (λ n. refl))
+    (tells_plain c.self.inside.opening.shape Epoch ReadEpoch (λ n. n) tt (shows_itself ReadEpoch)) c.requires.accepted
 
 pub keep_epoch_found-requires : goal.keep_epoch_found-requires
 keep_epoch_found-requires g c =

@@ -4,4 +4,4 @@ use Rattle.vbr_slots.proofs.slots.Slots.unlink.Goals as goal
 pub invariant_of-pass : goal.invariant_of-pass
 invariant_of-pass g c =
     exact c.at.ensures.pass c.pass.invariant.steps c.steps_after-pass-inside.ensures
-    (expects_took _ _ _ _ c.unlink.result c.unlink.ensures.found c.unlink.ensures.other)
+    (expects_took _ _ _ _ _ c.unlink.result c.unlink.ensures.found c.unlink.ensures.other)

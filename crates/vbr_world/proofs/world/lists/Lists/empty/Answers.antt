@@ -1,15 +1,28 @@
 -- The new lists stand for the world at opening.
-use Rattle.std.proofs.Common.{◌≡◌, rules, refl, replicate, arith}
+use Rattle.std.proofs.Common.{◌≡◌, ◌∙◌, ap, None, rules, refl, replicate, arith}
+use Rattle.vbr_words.specs.Words.{word_of}
+use Rattle.vbr_machine.specs.Links.{link_to, opening_link}
 use Rattle.vbr_words.specs.declared.link.TheConstants.{MARK}
 use Rattle.vbr_machine.specs.declared.knowledge.SlotPlace.TheVariants.{Shared}
 use Rattle.vbr_world.proofs.KeptWorlds.{opened, births_fit, slots_known}
 use Rattle.vbr_world.proofs.world.lists.Lists.empty.Goals as goal
 
+-- the words of the links at opening
+no_link : word_of (link_to None 0 0) ≡ 0
+unfolding word_of
+no_link = refl
+
+blank_link : word_of opening_link ≡ MARK
+unfolding word_of
+blank_link = refl
+
 pub returns : goal.returns
 returns c =
     let slots = c.slots-slots.result in
-    let heads : c.in_ok-heads.heads.items ≡ replicate c.buckets-buckets.result 0 = search rules in
-    let links : c.in_ok-links.links.items ≡ replicate slots MARK = search rules in
+    let none : c.of-none.result ≡ 0 = c.of-none.ensures ∙ ap word_of c.link_to.ensures.link ∙ no_link in
+    let blank : c.of-blank.result ≡ MARK = c.of-blank.ensures ∙ ap word_of c.opening_link.ensures.link ∙ blank_link in
+    let heads : c.in_ok-heads.heads.items ≡ replicate c.buckets-buckets.result c.of-none.result = search rules in
+    let links : c.in_ok-links.links.items ≡ replicate slots c.of-blank.result = search rules in
     let birth : c.in_ok-birth.birth.items ≡ replicate slots 0 = search rules in
     let stamps : c.in_ok-stamps.stamps.items ≡ replicate slots 0 = search rules in
     let keys : c.in_ok-keys.keys.items ≡ replicate slots 0 = search rules in
@@ -30,7 +43,8 @@ returns c =
       births = 0;
       calls = c.new.result.items;
     })
-    c.buckets-buckets.result slots c.slots.result refl heads links birth stamps keys values places
+    c.buckets-buckets.result slots c.slots.result refl (heads ∙ ap (replicate c.buckets-buckets.result) none)
+    (links ∙ ap (replicate slots) blank) birth stamps keys values places
     c.in_ok-passes.ensures.new refl c.new.ensures.items in
     record { world = world; start = search rules; passes = search rules }
 

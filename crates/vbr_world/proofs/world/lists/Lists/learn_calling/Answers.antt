@@ -6,7 +6,7 @@ use Rattle.vbr_world.proofs.world.lists.Lists.learn_calling.Goals as goal
 pub returns-in_ok-learn_at-in-None-clause-learned : goal.returns-in_ok-learn_at-in-None-clause-learned
 returns-in_ok-learn_at-in-None-clause-learned c =
     rw (← c.self.view_is)
-    (learned_calling _ c.learn_at.new.passes.items c.args.event.pass c.args.event.step c.args.found c.args.stamp
+    (learned_calling _ c.learn_at.new.passes.items c.args.event.now.pass c.args.event.now.step c.args.found c.args.stamp
     c.self.invariant (rw (← c.self.view_is) at c.requires.step.found) (rw (← c.self.view_is) at c.requires.step.shown)
     c.in_ok-learn_at-in-None.ensures.learned.knows c.args.call c.push_reserved.new.self.items
     (rw (← c.self.view_is) at c.requires.ahead ∙ c.in-None.is) (rw (← c.self.view_is) at c.requires.call)
@@ -15,7 +15,8 @@ returns-in_ok-learn_at-in-None-clause-learned c =
 pub returns-in_ok-learn_at-in-Some-clause-learned : goal.returns-in_ok-learn_at-in-Some-clause-learned
 returns-in_ok-learn_at-in-Some-clause-learned c =
     rw (← c.self.view_is)
-    (learned_twice _ c.learn_at-in-Some.new.passes.items c.args.event.pass c.args.event.step c.args.found c.args.stamp
+    (learned_twice _ c.learn_at-in-Some.new.passes.items c.args.event.now.pass c.args.event.now.step c.args.found
+    c.args.stamp
     c.self.invariant (rw (← c.self.view_is) at c.requires.step.found) (rw (← c.self.view_is) at c.requires.step.shown)
     c.in_ok-learn_at-in-Some.ensures.learned.knows c.in-Some.first c.args.call c.push_reserved-in-Some-2.new.self.items
     (rw (← c.self.view_is) at c.requires.ahead ∙ c.in-Some.is) (rw (← c.self.view_is) at c.requires.call)

@@ -1,0 +1,26 @@
+-- What a word says that a table keeps, by how many bits its slot has.
+use Rattle.std.proofs.Common.{ℕ, ◌≡◌, sym, ap, ◌∙◌, Option, subst}
+use Rattle.vbr_words.specs.Packing.{unpacked}
+use Rattle.vbr_words.specs.Words.{link_of}
+use Rattle.vbr_words.specs.declared.link.Link.{Link}
+use Rattle.vbr_machine.specs.Links.{marked}
+
+-- the slot that a decoded word names
+pub said_names : (layout bits word : ℕ) (link : Link) (named : Option ℕ) → layout ≡ bits → link ≡ link_of
+    (unpacked layout word) →
+    link.slot ≡ named → (link_of (unpacked bits word)).slot ≡ named
+said_names layout bits word link named same decoded is =
+    ap (λ (b : ℕ). (link_of (unpacked b word)).slot) (sym same) ∙ ap (λ (l : Link). l.slot) (sym decoded) ∙ is
+
+-- the link of a marked word
+pub said_marks : (layout bits word result : ℕ) → layout ≡ bits →
+    link_of (unpacked layout result) ≡ marked (link_of (unpacked layout word)) →
+    link_of (unpacked bits result) ≡ marked (link_of (unpacked bits word))
+said_marks layout bits word result same marks =
+    let P : ℕ → Type 0 = λ b. link_of (unpacked b result) ≡ marked (link_of (unpacked b word)) in
+    subst P same marks
+
+-- the link of a decoded word
+pub said_link : (layout bits word : ℕ) (link : Link) → layout ≡ bits → link ≡ link_of (unpacked layout word) →
+    link ≡ link_of (unpacked bits word)
+said_link layout bits word link same decoded = decoded ∙ ap (λ (b : ℕ). link_of (unpacked b word)) same
