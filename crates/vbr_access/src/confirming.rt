@@ -1,14 +1,14 @@
 //! Answers by one more load of a link word.
 ghost use Rattle.std.specs.Prelude.{◌≡◌, ◌≢◌, OnOk, IfErr};
 ghost use Rattle.vbr_machine.specs.declared.history.Op.TheVariants.{Insert, Remove};
-ghost use Rattle.vbr_slots.specs.Views.{IsOf, knows};
-ghost use Rattle.vbr_at_table.specs.Answering.{AnswersAbsent, AnswersLookUp, AnswersPresent};
-ghost use Rattle.vbr_at_table.specs.Answering.{FindsAnother, IsAbsent, IsOther, IsPresent};
-ghost use Rattle.vbr_at_table.specs.Answering.{KeepsByLoad};
-ghost use Rattle.vbr_at_table.specs.Exchanges.{IsUnmarked};
-ghost use Rattle.vbr_at_table.specs.Held.{said, said_rollback};
-ghost use Rattle.vbr_at_table.specs.DecidedKeys.{TellsKey};
-ghost use Rattle.vbr_at_table.specs.Values.{AnswersEntry, IsAsked, IsOtherIn};
+ghost use Rattle.vbr_slots.specs.views.Views.{IsOf, knows};
+ghost use Rattle.vbr_at_table.specs.answers.Answering.{AnswersAbsent, AnswersLookUp, AnswersPresent};
+ghost use Rattle.vbr_at_table.specs.answers.Answering.{FindsAnother, IsAbsent, IsOther, IsPresent};
+ghost use Rattle.vbr_at_table.specs.answers.Answering.{KeepsByLoad};
+ghost use Rattle.vbr_at_table.specs.answers.Exchanges.{IsUnmarked};
+ghost use Rattle.vbr_at_table.specs.reads.Held.{said, said_rollback};
+ghost use Rattle.vbr_at_table.specs.reads.DecidedKeys.{TellsKey};
+ghost use Rattle.vbr_at_table.specs.answers.Values.{AnswersEntry, IsAsked, IsOtherIn};
 
 use vbr_at_table::{Held, Rollback};
 use vbr_machine::Op;

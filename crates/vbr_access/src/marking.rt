@@ -1,10 +1,10 @@
 //! Marking a node: a remove.
 ghost use Rattle.std.specs.Prelude.{IfOk, IfErr};
-ghost use Rattle.vbr_slots.specs.Views.{IsOf, knows};
-ghost use Rattle.vbr_at_table.specs.Answering.{KeepsIn, IsPresent};
-ghost use Rattle.vbr_at_table.specs.Exchanges.{LosesExchange};
-ghost use Rattle.vbr_at_table.specs.Held.{said, said_marked, said_rollback};
-ghost use Rattle.vbr_at_table.specs.Values.{IsValued, MarksEntry, RemovesKey};
+ghost use Rattle.vbr_slots.specs.views.Views.{IsOf, knows};
+ghost use Rattle.vbr_at_table.specs.answers.Answering.{KeepsIn, IsPresent};
+ghost use Rattle.vbr_at_table.specs.answers.Exchanges.{LosesExchange};
+ghost use Rattle.vbr_at_table.specs.reads.Held.{said, said_marked, said_rollback};
+ghost use Rattle.vbr_at_table.specs.answers.Values.{IsValued, MarksEntry, RemovesKey};
 
 use vbr_at_table::{Held, Marked, Rollback};
 use vbr_slots::{AtTable, Pass, Slots};

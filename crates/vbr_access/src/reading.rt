@@ -1,10 +1,10 @@
 //! Checkpoints and checked reads.
 ghost use Rattle.std.specs.Prelude.{◌≡◌, ◌<◌, true, IfOk, IfErr};
-ghost use Rattle.vbr_slots.specs.Views.{IsOf, knows};
-ghost use Rattle.vbr_at_table.specs.Held.{IsHeld, IsSlot, said, said_if, said_in};
-ghost use Rattle.vbr_at_table.specs.Reading.{IsCheckpoint, IsHeadRead, IsKeyRead, IsNextRead};
-ghost use Rattle.vbr_at_table.specs.Reading.{ReadsIn, RollsBack, steps_to_next};
-ghost use Rattle.vbr_at_table.specs.Values.{IsValueRead};
+ghost use Rattle.vbr_slots.specs.views.Views.{IsOf, knows};
+ghost use Rattle.vbr_at_table.specs.reads.Held.{IsHeld, IsSlot, said, said_if, said_in};
+ghost use Rattle.vbr_at_table.specs.reads.Reading.{IsCheckpoint, IsHeadRead, IsKeyRead, IsNextRead};
+ghost use Rattle.vbr_at_table.specs.reads.Reading.{ReadsIn, RollsBack, steps_to_next};
+ghost use Rattle.vbr_at_table.specs.answers.Values.{IsValueRead};
 
 use vbr_at_table::{Checkpoint, Held, Rollback};
 use vbr_slots::{AtTable, Pass, Slots};

@@ -1,9 +1,9 @@
 //! Unlinking a marked node.
 ghost use Rattle.std.specs.Prelude.{IfOk, IfErr};
-ghost use Rattle.vbr_slots.specs.Views.{IsOf, knows};
-ghost use Rattle.vbr_at_table.specs.Exchanges.{StaysIn, UnlinksNode, UnlinksNone, IsUnmarked};
-ghost use Rattle.vbr_at_table.specs.Held.{HoldsMarked, Names, said, said_marked, said_rollback};
-ghost use Rattle.vbr_at_table.specs.StepCosts.{steps_to_unlink};
+ghost use Rattle.vbr_slots.specs.views.Views.{IsOf, knows};
+ghost use Rattle.vbr_at_table.specs.answers.Exchanges.{StaysIn, UnlinksNode, UnlinksNone, IsUnmarked};
+ghost use Rattle.vbr_at_table.specs.reads.Held.{HoldsMarked, Names, said, said_marked, said_rollback};
+ghost use Rattle.vbr_at_table.specs.costs.StepCosts.{steps_to_unlink};
 
 use vbr_at_table::{Held, Marked, Rollback, Unlinked};
 use vbr_slots::{AtTable, Pass, Slots};
@@ -32,7 +32,8 @@ pub fn unlink<N: Nodes>(
         |stepper|
             requires own { IsOf stepper.old.trace slots.now }
             requires pred { IsUnmarked (knows stepper.old.trace) (said slots.now pred.now) }
-            requires marked { HoldsMarked (knows stepper.old.trace) (said_marked slots.now marked) }
+            requires marked { HoldsMarked (knows stepper.old.trace)
+                (said_marked slots.now marked) }
             requires names { Names (said slots.now pred.now) marked.slot }
         {
             let outcome = vbr_at_table::unlink(&mut AtTable { slots, stepper }, pred, marked);

@@ -1,12 +1,12 @@
 //! Linking a new node: an insert.
 ghost use Rattle.std.specs.Prelude.{◌≡◌, IfOk, IfErr};
-ghost use Rattle.vbr_slots.specs.Calls.{Took};
-ghost use Rattle.vbr_slots.specs.AtTables.{IsSameTable, pass_of, trace_of};
-ghost use Rattle.vbr_slots.specs.Views.{IsOf, knows};
-ghost use Rattle.vbr_at_table.specs.Hands.{IsHandOf};
-ghost use Rattle.vbr_at_table.specs.Exchanges.{StoresIn, IsGap, GivesBack, InsertsKey};
-ghost use Rattle.vbr_at_table.specs.Held.{IsSucc, said, said_rollback, said_succ};
-ghost use Rattle.vbr_at_table.specs.Values.{LinksEntry, steps_to_update};
+ghost use Rattle.vbr_slots.specs.steps.Calls.{Took};
+ghost use Rattle.vbr_slots.specs.steps.AtTables.{IsSameTable, pass_of, trace_of};
+ghost use Rattle.vbr_slots.specs.views.Views.{IsOf, knows};
+ghost use Rattle.vbr_at_table.specs.hands.Hands.{IsHandOf};
+ghost use Rattle.vbr_at_table.specs.answers.Exchanges.{StoresIn, IsGap, GivesBack, InsertsKey};
+ghost use Rattle.vbr_at_table.specs.reads.Held.{IsSucc, said, said_rollback, said_succ};
+ghost use Rattle.vbr_at_table.specs.answers.Values.{LinksEntry, steps_to_update};
 
 use vbr_at_table::{Hand, Held, Rollback};
 use vbr_slots::{AtTable, Pass, Slots, Stepper};

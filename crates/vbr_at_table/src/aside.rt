@@ -1,7 +1,7 @@
 //! A slot that a pass has put aside.
 ghost use Rattle.std.specs.Prelude.{◌≡◌, None};
-ghost use Rattle.vbr_at_table.specs.Aside.{EmptiesHand, IsPutAside, KeepsAllButHand};
-ghost use Rattle.vbr_at_table.specs.Hands.{IsHandOf};
+ghost use Rattle.vbr_at_table.specs.hands.Aside.{EmptiesHand, IsPutAside, KeepsAllButHand};
+ghost use Rattle.vbr_at_table.specs.hands.Hands.{IsHandOf};
 
 use crate::hand::Hand;
 use vbr_slots::Pass;

@@ -1,16 +1,16 @@
 //! Answers by one more load of a link word.
 ghost use Rattle.std.specs.Prelude.{◌≢◌, OnOk, IfErr};
 ghost use Rattle.vbr_machine.specs.declared.history.Op.TheVariants.{Insert, Remove};
-ghost use Rattle.vbr_slots.specs.AtTables.{IsSameTable, trace_of, pass_of};
-ghost use Rattle.vbr_slots.specs.Views.{knows};
-ghost use Rattle.vbr_at_table.specs.Answering.{AnswersAbsent, AnswersLookUp};
-ghost use Rattle.vbr_at_table.specs.Answering.{FindsAnother, IsAbsent, IsPresent};
-ghost use Rattle.vbr_at_table.specs.Answering.{KeepsByLoad};
-ghost use Rattle.vbr_at_table.specs.Exchanges.{IsUnmarked};
-ghost use Rattle.vbr_at_table.specs.Held.{said, said_rollback};
-ghost use Rattle.vbr_at_table.specs.DecidedKeys.{TellsKey};
-ghost use Rattle.vbr_at_table.specs.Records.{ShowsEntry};
-ghost use Rattle.vbr_at_table.specs.Values.{AnswersEntry, IsAsked, IsOtherIn};
+ghost use Rattle.vbr_slots.specs.steps.AtTables.{IsSameTable, trace_of, pass_of};
+ghost use Rattle.vbr_slots.specs.views.Views.{knows};
+ghost use Rattle.vbr_at_table.specs.answers.Answering.{AnswersAbsent, AnswersLookUp};
+ghost use Rattle.vbr_at_table.specs.answers.Answering.{FindsAnother, IsAbsent, IsPresent};
+ghost use Rattle.vbr_at_table.specs.answers.Answering.{KeepsByLoad};
+ghost use Rattle.vbr_at_table.specs.answers.Exchanges.{IsUnmarked};
+ghost use Rattle.vbr_at_table.specs.reads.Held.{said, said_rollback};
+ghost use Rattle.vbr_at_table.specs.reads.DecidedKeys.{TellsKey};
+ghost use Rattle.vbr_at_table.specs.answers.Records.{ShowsEntry};
+ghost use Rattle.vbr_at_table.specs.answers.Values.{AnswersEntry, IsAsked, IsOtherIn};
 
 use crate::held::Held;
 use crate::rollback::Rollback;

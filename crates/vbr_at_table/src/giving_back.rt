@@ -1,9 +1,9 @@
 //! Giving back a slot in hand.
 ghost use Rattle.std.specs.Prelude.{◌<◌, length};
 ghost use Rattle.vbr_slots.specs.declared.pass.TheConstants.{POOL};
-ghost use Rattle.vbr_slots.specs.AtTables.{IsSameTable, pass_of};
-ghost use Rattle.vbr_at_table.specs.GivingBack.{PutsBack};
-ghost use Rattle.vbr_at_table.specs.Hands.{IsHandOf};
+ghost use Rattle.vbr_slots.specs.steps.AtTables.{IsSameTable, pass_of};
+ghost use Rattle.vbr_at_table.specs.pools.GivingBack.{PutsBack};
+ghost use Rattle.vbr_at_table.specs.hands.Hands.{IsHandOf};
 
 use crate::hand::Hand;
 use vbr_slots::AtTable;

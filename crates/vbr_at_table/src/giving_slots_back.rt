@@ -1,6 +1,6 @@
 //! Giving the slots of the own pool back, so that every pass may take them.
-ghost use Rattle.vbr_slots.specs.AtTables.{IsSameTable, pass_of};
-ghost use Rattle.vbr_at_table.specs.GivingSlotsBack.{GivesSlotsBack};
+ghost use Rattle.vbr_slots.specs.steps.AtTables.{IsSameTable, pass_of};
+ghost use Rattle.vbr_at_table.specs.pools.GivingSlotsBack.{GivesSlotsBack};
 
 use vbr_slots::AtTable;
 use vbr_words::Nodes;

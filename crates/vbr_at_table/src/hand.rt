@@ -1,9 +1,9 @@
 //! A slot in the hand of a pass.
 ghost use Rattle.std.specs.Prelude.{◌≡◌, ◌≢◌, ◌<◌, Some, length};
 ghost use Rattle.vbr_slots.specs.declared.pass.TheConstants.{POOL};
-ghost use Rattle.vbr_slots.specs.AtTables.{pass_of};
-ghost use Rattle.vbr_at_table.specs.GivingBack.{PutsBack};
-ghost use Rattle.vbr_at_table.specs.Hands.{IsHandOf};
+ghost use Rattle.vbr_slots.specs.steps.AtTables.{pass_of};
+ghost use Rattle.vbr_at_table.specs.pools.GivingBack.{PutsBack};
+ghost use Rattle.vbr_at_table.specs.hands.Hands.{IsHandOf};
 
 use std::marker::Model;
 use vbr_slots::{AtTable, Pass};
@@ -17,11 +17,11 @@ pub struct Hand {
 }
 
 impl Model for Hand {
-    ghost use Rattle.vbr_at_table.specs.Hands.{HandView};
+    ghost use Rattle.vbr_at_table.specs.hands.Hands.{HandView};
 
     ghost Value = { HandView };
 
-    ghost use Rattle.vbr_at_table.specs.HandView.{hand_of};
+    ghost use Rattle.vbr_at_table.specs.hands.HandView.{hand_of};
 
     ghost view = { hand_of };
 }

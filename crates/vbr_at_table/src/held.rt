@@ -1,7 +1,7 @@
 //! What a caller holds between calls.
 ghost use Rattle.std.specs.Prelude.{◌≡◌, true, MatchOption};
 ghost use Rattle.vbr_words.specs.Words.{link_of};
-ghost use Rattle.vbr_at_table.specs.Held.{IsUnmarkedOrHead, held_of, said_in, said_marked_in};
+ghost use Rattle.vbr_at_table.specs.reads.Held.{IsUnmarkedOrHead, held_of, said_in, said_marked_in};
 
 use vbr_words::{At, Layout, decode};
 

@@ -1,12 +1,12 @@
 //! Marking a node: a remove.
 ghost use Rattle.std.specs.Prelude.{IfOk, IfErr};
-ghost use Rattle.vbr_slots.specs.AtTables.{IsSameTable, trace_of, pass_of};
-ghost use Rattle.vbr_slots.specs.Views.{knows};
-ghost use Rattle.vbr_at_table.specs.Answering.{KeepsIn, IsPresent};
-ghost use Rattle.vbr_at_table.specs.Exchanges.{LosesExchange};
-ghost use Rattle.vbr_at_table.specs.Held.{said, said_marked, said_rollback};
-ghost use Rattle.vbr_at_table.specs.Records.{MarksHeld};
-ghost use Rattle.vbr_at_table.specs.Values.{IsValued, MarksEntry};
+ghost use Rattle.vbr_slots.specs.steps.AtTables.{IsSameTable, trace_of, pass_of};
+ghost use Rattle.vbr_slots.specs.views.Views.{knows};
+ghost use Rattle.vbr_at_table.specs.answers.Answering.{KeepsIn, IsPresent};
+ghost use Rattle.vbr_at_table.specs.answers.Exchanges.{LosesExchange};
+ghost use Rattle.vbr_at_table.specs.reads.Held.{said, said_marked, said_rollback};
+ghost use Rattle.vbr_at_table.specs.answers.Records.{MarksHeld};
+ghost use Rattle.vbr_at_table.specs.answers.Values.{IsValued, MarksEntry};
 
 use crate::held::{Held, Marked};
 use crate::rollback::Rollback;

@@ -1,13 +1,13 @@
 //! Checkpoints and checked reads.
 ghost use Rattle.std.specs.Prelude.{◌≡◌, ◌<◌, true, IfOk, IfErr};
-ghost use Rattle.vbr_slots.specs.AtTables.{IsSameTable, pass_of, trace_of};
-ghost use Rattle.vbr_slots.specs.Views.{knows};
-ghost use Rattle.vbr_at_table.specs.StepCosts.{steps_to_birth};
-ghost use Rattle.vbr_at_table.specs.Held.{IsHeld, IsSlot, said, said_if};
-ghost use Rattle.vbr_at_table.specs.Moments.{ShowsBirth};
-ghost use Rattle.vbr_at_table.specs.Reading.{IsCheckpoint, IsHeadRead, IsKeyRead, IsNextRead};
-ghost use Rattle.vbr_at_table.specs.Reading.{BirthMoved, IsBirthRead, ReadsIn, RollsBack, steps_to_next};
-ghost use Rattle.vbr_at_table.specs.Values.{IsValueRead};
+ghost use Rattle.vbr_slots.specs.steps.AtTables.{IsSameTable, pass_of, trace_of};
+ghost use Rattle.vbr_slots.specs.views.Views.{knows};
+ghost use Rattle.vbr_at_table.specs.costs.StepCosts.{steps_to_birth};
+ghost use Rattle.vbr_at_table.specs.reads.Held.{IsHeld, IsSlot, said, said_if};
+ghost use Rattle.vbr_at_table.specs.reads.Moments.{ShowsBirth};
+ghost use Rattle.vbr_at_table.specs.reads.Reading.{IsCheckpoint, IsHeadRead, IsKeyRead, IsNextRead};
+ghost use Rattle.vbr_at_table.specs.reads.Reading.{BirthMoved, IsBirthRead, ReadsIn, RollsBack, steps_to_next};
+ghost use Rattle.vbr_at_table.specs.answers.Values.{IsValueRead};
 
 use crate::held::{Checkpoint, Held};
 use crate::rollback::Rollback;

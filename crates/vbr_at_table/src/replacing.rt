@@ -1,13 +1,13 @@
 //! Replacing a node: its key gets another value.
 ghost use Rattle.std.specs.Prelude.{IfOk, IfErr};
-ghost use Rattle.vbr_slots.specs.AtTables.{IsSameTable, trace_of, pass_of};
-ghost use Rattle.vbr_slots.specs.Views.{knows};
-ghost use Rattle.vbr_at_table.specs.Exchanges.{StoresIn, GivesBack};
-ghost use Rattle.vbr_at_table.specs.Hands.{IsHandOf};
-ghost use Rattle.vbr_at_table.specs.Held.{said, said_marked, said_rollback};
-ghost use Rattle.vbr_at_table.specs.Records.{PublishesSlot};
-ghost use Rattle.vbr_at_table.specs.Replacing.{IsReplaceable, ReplacesHeld};
-ghost use Rattle.vbr_at_table.specs.Values.{steps_to_update};
+ghost use Rattle.vbr_slots.specs.steps.AtTables.{IsSameTable, trace_of, pass_of};
+ghost use Rattle.vbr_slots.specs.views.Views.{knows};
+ghost use Rattle.vbr_at_table.specs.answers.Exchanges.{StoresIn, GivesBack};
+ghost use Rattle.vbr_at_table.specs.hands.Hands.{IsHandOf};
+ghost use Rattle.vbr_at_table.specs.reads.Held.{said, said_marked, said_rollback};
+ghost use Rattle.vbr_at_table.specs.answers.Records.{PublishesSlot};
+ghost use Rattle.vbr_at_table.specs.answers.Replacing.{IsReplaceable, ReplacesHeld};
+ghost use Rattle.vbr_at_table.specs.answers.Values.{steps_to_update};
 
 use crate::hand::Hand;
 use crate::held::{Held, Marked};

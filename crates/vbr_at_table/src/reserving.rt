@@ -1,8 +1,8 @@
 //! Taking slots into the own pool ahead of the calls that need them.
 ghost use Rattle.std.specs.Prelude.{◌≡◌, ◌<◌, ◌≤◌};
-ghost use Rattle.vbr_slots.specs.AtTables.{IsSameTable, pass_of};
+ghost use Rattle.vbr_slots.specs.steps.AtTables.{IsSameTable, pass_of};
 ghost use Rattle.vbr_words.specs.declared.link.TheConstants.{MAX_SLOTS};
-ghost use Rattle.vbr_at_table.specs.Reserving.{IsNextToTry, Reserves, ReservesFrom, TopsUp, most_kept};
+ghost use Rattle.vbr_at_table.specs.pools.Reserving.{IsNextToTry, Reserves, ReservesFrom, TopsUp, most_kept};
 
 use vbr_slots::AtTable;
 use vbr_slots::pass::POOL;

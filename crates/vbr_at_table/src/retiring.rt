@@ -1,8 +1,8 @@
 //! Retiring an unlinked slot.
 ghost use Rattle.vbr_machine.specs.Acceptance.{IsUnlinked};
-ghost use Rattle.vbr_slots.specs.AtTables.{IsSameTable, pass_of, trace_of};
-ghost use Rattle.vbr_slots.specs.Views.{knows};
-ghost use Rattle.vbr_at_table.specs.Retiring.{Retires};
+ghost use Rattle.vbr_slots.specs.steps.AtTables.{IsSameTable, pass_of, trace_of};
+ghost use Rattle.vbr_slots.specs.views.Views.{knows};
+ghost use Rattle.vbr_at_table.specs.pools.Retiring.{Retires};
 
 use crate::unlinked::Unlinked;
 use vbr_slots::AtTable;

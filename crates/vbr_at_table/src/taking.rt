@@ -1,15 +1,15 @@
 //! Taking a slot for a new incarnation.
 ghost use Rattle.std.specs.Prelude.{◌≡◌, ◌≢◌, ◌≤◌, [], IfOk, IfErr, Some, None};
-ghost use Rattle.vbr_slots.specs.AtTables.{IsSameTable, pass_of, trace_of};
-ghost use Rattle.vbr_slots.specs.Calls.{Took};
-ghost use Rattle.vbr_slots.specs.Views.{knows};
-ghost use Rattle.vbr_at_table.specs.Pieces.{told_steps};
-ghost use Rattle.vbr_at_table.specs.Pieces.{HasSlots, LooksForSlot, WinsNone};
-ghost use Rattle.vbr_at_table.specs.Pieces.{Chooses, ChoosesNone, IsChosen};
-ghost use Rattle.vbr_at_table.specs.Pieces.{IsScanned, IsStampedBelow, Scans, ScansPart};
-ghost use Rattle.vbr_at_table.specs.Pieces.{BearsNone, IsBorn};
-ghost use Rattle.vbr_at_table.specs.Refusals.{RefusesTake};
-ghost use Rattle.vbr_at_table.specs.Taking.{IsTaken, Takes};
+ghost use Rattle.vbr_slots.specs.steps.AtTables.{IsSameTable, pass_of, trace_of};
+ghost use Rattle.vbr_slots.specs.steps.Calls.{Took};
+ghost use Rattle.vbr_slots.specs.views.Views.{knows};
+ghost use Rattle.vbr_at_table.specs.pools.Pieces.{told_steps};
+ghost use Rattle.vbr_at_table.specs.pools.Pieces.{HasSlots, LooksForSlot, WinsNone};
+ghost use Rattle.vbr_at_table.specs.pools.Pieces.{Chooses, ChoosesNone, IsChosen};
+ghost use Rattle.vbr_at_table.specs.pools.Pieces.{IsScanned, IsStampedBelow, Scans, ScansPart};
+ghost use Rattle.vbr_at_table.specs.pools.Pieces.{BearsNone, IsBorn};
+ghost use Rattle.vbr_at_table.specs.pools.Refusals.{RefusesTake};
+ghost use Rattle.vbr_at_table.specs.pools.Taking.{IsTaken, Takes};
 
 use crate::budget::affords;
 use crate::hand::Hand;

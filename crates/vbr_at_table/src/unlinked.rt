@@ -1,8 +1,8 @@
 //! A slot that its pass unlinked.
 ghost use Rattle.std.specs.Prelude.{◌≡◌};
 ghost use Rattle.vbr_machine.specs.Acceptance.{IsUnlinked};
-ghost use Rattle.vbr_slots.specs.AtTables.{trace_of};
-ghost use Rattle.vbr_slots.specs.Views.{knows};
+ghost use Rattle.vbr_slots.specs.steps.AtTables.{trace_of};
+ghost use Rattle.vbr_slots.specs.views.Views.{knows};
 
 use std::marker::Model;
 use vbr_slots::{AtTable, Pass};
@@ -14,11 +14,11 @@ pub struct Unlinked {
 }
 
 impl Model for Unlinked {
-    ghost use Rattle.vbr_at_table.specs.Hands.{UnlinkedView};
+    ghost use Rattle.vbr_at_table.specs.hands.Hands.{UnlinkedView};
 
     ghost Value = { UnlinkedView };
 
-    ghost use Rattle.vbr_at_table.specs.UnlinkedView.{unlinked_of};
+    ghost use Rattle.vbr_at_table.specs.hands.UnlinkedView.{unlinked_of};
 
     ghost view = { unlinked_of };
 }

@@ -1,11 +1,11 @@
 //! Unlinking a marked node.
 ghost use Rattle.std.specs.Prelude.{◌≡◌, ◌≤◌, IfOk, IfErr};
-ghost use Rattle.vbr_slots.specs.AtTables.{IsSameTable, trace_of, pass_of};
-ghost use Rattle.vbr_slots.specs.Views.{knows};
-ghost use Rattle.vbr_at_table.specs.Exchanges.{StaysIn, UnlinksNode, UnlinksNone, IsUnmarked};
-ghost use Rattle.vbr_at_table.specs.Held.{HoldsMarked, Names, said, said_marked, said_rollback};
+ghost use Rattle.vbr_slots.specs.steps.AtTables.{IsSameTable, trace_of, pass_of};
+ghost use Rattle.vbr_slots.specs.views.Views.{knows};
+ghost use Rattle.vbr_at_table.specs.answers.Exchanges.{StaysIn, UnlinksNode, UnlinksNone, IsUnmarked};
+ghost use Rattle.vbr_at_table.specs.reads.Held.{HoldsMarked, Names, said, said_marked, said_rollback};
 ghost use Rattle.vbr_words.specs.Packing.{unpacked};
-ghost use Rattle.vbr_at_table.specs.StepCosts.{steps_to_unlink};
+ghost use Rattle.vbr_at_table.specs.costs.StepCosts.{steps_to_unlink};
 
 use crate::held::{Held, Marked};
 use crate::links::link_to_same;

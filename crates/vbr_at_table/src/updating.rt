@@ -2,14 +2,14 @@
 ghost use Rattle.std.specs.Prelude.{◌≡◌, ◌+◌, Some, IfOk, IfErr};
 ghost use Rattle.vbr_words.specs.Words.{link_of};
 ghost use Rattle.vbr_machine.specs.Membership.{BirthNamed};
-ghost use Rattle.vbr_slots.specs.AtTables.{IsSameTable, trace_of, pass_of};
-ghost use Rattle.vbr_slots.specs.Views.{knows};
-ghost use Rattle.vbr_at_table.specs.Hands.{IsHandOf};
-ghost use Rattle.vbr_at_table.specs.Exchanges.{StoresIn, IsGap, GivesBack};
-ghost use Rattle.vbr_at_table.specs.Held.{IsHeld, IsSucc, said, said_rollback, said_succ};
-ghost use Rattle.vbr_at_table.specs.Records.{PublishesSlot};
-ghost use Rattle.vbr_at_table.specs.Values.{FillsEntry, LinksEntry, PutsValue};
-ghost use Rattle.vbr_at_table.specs.Values.{steps_to_update, steps_to_value};
+ghost use Rattle.vbr_slots.specs.steps.AtTables.{IsSameTable, trace_of, pass_of};
+ghost use Rattle.vbr_slots.specs.views.Views.{knows};
+ghost use Rattle.vbr_at_table.specs.hands.Hands.{IsHandOf};
+ghost use Rattle.vbr_at_table.specs.answers.Exchanges.{StoresIn, IsGap, GivesBack};
+ghost use Rattle.vbr_at_table.specs.reads.Held.{IsHeld, IsSucc, said, said_rollback, said_succ};
+ghost use Rattle.vbr_at_table.specs.answers.Records.{PublishesSlot};
+ghost use Rattle.vbr_at_table.specs.answers.Values.{FillsEntry, LinksEntry, PutsValue};
+ghost use Rattle.vbr_at_table.specs.answers.Values.{steps_to_update, steps_to_value};
 
 use crate::hand::Hand;
 use crate::held::Held;

@@ -5,7 +5,7 @@ ghost use Rattle.std.specs.Prelude.{◌≡◌, None, length};
 ghost use Rattle.vbr_machine.specs.declared.history.Op.TheVariants.{Has};
 ghost use Rattle.vbr_handles.specs.Batches.{TellsGetAll, TellsHasAll};
 ghost use Rattle.vbr_handles.specs.Calls.{TellsCall, TellsInsertEntry};
-ghost use Rattle.vbr_handles.specs.GivingBack.{ClosesMapHandle};
+ghost use Rattle.vbr_handles.specs.GivingSlotsBack.{ClosesMapHandle};
 ghost use Rattle.vbr_handles.specs.Iterating.{TellsNextEntry};
 ghost use Rattle.vbr_handles.specs.ValueCalls.{TellsExchange, TellsGetEntry, TellsGetOrInsert, TellsPut, TellsRemoveEntry, TellsRemoveIf, TellsReplace};
 ghost use Rattle.vbr_handles.specs.Opening.{AreEmpty, entries_start};
@@ -13,12 +13,12 @@ ghost use Rattle.vbr_handles.specs.OpeningCodes.{TellsMapOpeningMany, TellsMapOp
 ghost use Rattle.vbr_handles.specs.AllHandles.{KeepMapSteps, map_members_in};
 ghost use Rattle.vbr_handles.specs.Renewals.{TellsMapRenewal};
 ghost use Rattle.vbr_handles.specs.Reports.{TellsMapCloseAll, TellsMapReport, TellsMapReportSlots};
-ghost use Rattle.vbr_set.specs.AllMembers.{AreOfOneSet};
+ghost use Rattle.vbr_set.specs.members.AllMembers.{AreOfOneSet};
 ghost use Rattle.vbr_handles.specs.Shown.{IsSeedOf, balance_shown, buckets_of, epoch_of_handle, last_epoch_of, slots_of};
 
 use std::alloc::Global;
-use vbr_handles::numbers::{batches, entries, giving_back, iterating};
-use vbr_handles::{Entry, Found, MapHandle, ReportNumbers, ShapeNumbers, numbers, shown};
+use vbr_handles::coded_calls::{batches, entries, giving_slots_back, iterating};
+use vbr_handles::{Entry, Found, MapHandle, ReportNumbers, ShapeNumbers, accessors, coded_calls};
 use vbr_set::Cursor;
 use vbr_words::Entries;
 
@@ -49,7 +49,7 @@ pub extern "C" fn vbr_map_open_seeded(
         last_epoch,
         seed,
     };
-    numbers::open_with::<Entries, Entry, MapHandle>(alloc, handles, numbers, entries)
+    coded_calls::open_with::<Entries, Entry, MapHandle>(alloc, handles, numbers, entries)
 }
 
 /// Opens a map of these entries, as [`vbr_map_open_seeded`] does, for many handles, as
@@ -80,7 +80,7 @@ pub extern "C" fn vbr_map_open_many_seeded(
         last_epoch,
         seed,
     };
-    numbers::open_many::<Entries, Entry, MapHandle>(alloc, handles, numbers, entries)
+    coded_calls::open_many::<Entries, Entry, MapHandle>(alloc, handles, numbers, entries)
 }
 
 /// Adds a key with its value, as [`crate::set::vbr_insert_within`] adds a key: 1 if the key was absent, 0 if it
@@ -280,7 +280,7 @@ pub extern "C" fn vbr_map_has_within(handle: &mut MapHandle, key: u64, budget: u
         key budget result }
     ensures steps { handle.new.steps ≡ handle.old.steps }
 {
-    numbers::has(handle.owned.owner_mut(), key, budget)
+    coded_calls::has(handle.owned.owner_mut(), key, budget)
 }
 
 /// Looks keys up in their order, as [`crate::set::vbr_has_all_within`] does.
@@ -335,7 +335,7 @@ pub extern "C" fn vbr_map_epoch(handle: &mut MapHandle) -> u64
     ensures epoch { result ≡ epoch_of_handle handle.old.owned.member }
     ensures steps { handle.new.steps ≡ handle.old.steps }
 {
-    shown::epoch(handle.owned.owner_mut())
+    accessors::epoch(handle.owned.owner_mut())
 }
 
 /// The last epoch of the map of the handle, as it was opened; 0 where the handle is empty.
@@ -345,7 +345,7 @@ pub extern "C" fn vbr_map_last_epoch(handle: &mut MapHandle) -> u64
     ensures last { result ≡ last_epoch_of handle.old.owned.member }
     ensures steps { handle.new.steps ≡ handle.old.steps }
 {
-    shown::last_epoch(handle.owned.owner_mut())
+    accessors::last_epoch(handle.owned.owner_mut())
 }
 
 /// How many slots the map of the handle has, as it was opened; 0 where the handle is empty.
@@ -355,7 +355,7 @@ pub extern "C" fn vbr_map_slots(handle: &mut MapHandle) -> u32
     ensures slots { result ≡ slots_of handle.old.owned.member }
     ensures steps { handle.new.steps ≡ handle.old.steps }
 {
-    shown::slots(handle.owned.owner_mut())
+    accessors::slots(handle.owned.owner_mut())
 }
 
 /// How many buckets the map of the handle has, as it was opened; 0 where the handle is empty.
@@ -365,7 +365,7 @@ pub extern "C" fn vbr_map_buckets(handle: &mut MapHandle) -> u32
     ensures buckets { result ≡ buckets_of handle.old.owned.member }
     ensures steps { handle.new.steps ≡ handle.old.steps }
 {
-    shown::buckets(handle.owned.owner_mut())
+    accessors::buckets(handle.owned.owner_mut())
 }
 
 /// A seed that spreads keys as those of the map of the handle are spread, as [`crate::set::vbr_seed`] tells
@@ -376,7 +376,7 @@ pub extern "C" fn vbr_map_seed(handle: &mut MapHandle) -> u64
     ensures seed { IsSeedOf handle.old.owned.member result }
     ensures steps { handle.new.steps ≡ handle.old.steps }
 {
-    shown::seed(handle.owned.owner_mut())
+    accessors::seed(handle.owned.owner_mut())
 }
 
 /// How many keys the calls of the handle have added, less those that they took out, as
@@ -391,7 +391,7 @@ pub extern "C" fn vbr_map_balance(handle: &mut MapHandle) -> i64
     ensures balance { result ≡ balance_shown handle.old.owned.member }
     ensures steps { handle.new.steps ≡ handle.old.steps }
 {
-    shown::balance(handle.owned.owner_mut())
+    accessors::balance(handle.owned.owner_mut())
 }
 
 /// Gives a pass back, as [`crate::set::vbr_close`] does. The last handle ends the map: 1, and it writes
@@ -411,7 +411,7 @@ pub extern "C" fn vbr_map_close(
         entries.old entries.new report.old report.new result }
     ensures steps { handle.new.steps ≡ handle.old.steps }
 {
-    giving_back::close::<Entries, Entry>(alloc, handle.owned.owner_mut(), entries, report)
+    giving_slots_back::close::<Entries, Entry>(alloc, handle.owned.owner_mut(), entries, report)
 }
 
 /// Closes a map by all its handles at once, as [`crate::set::vbr_close_all`] closes a set: 1, and it writes
@@ -432,7 +432,7 @@ pub extern "C" fn vbr_map_close_all(
         report.old report.new result }
     ensures steps { KeepMapSteps handles.old handles.new }
 {
-    numbers::close_all::<Entries, Entry, MapHandle>(alloc, handles, entries, report)
+    coded_calls::close_all::<Entries, Entry, MapHandle>(alloc, handles, entries, report)
 }
 
 /// Tells what is in a map by all its handles at once, as [`crate::set::vbr_report_all`] tells it of a set: 1,
@@ -453,7 +453,7 @@ pub extern "C" fn vbr_map_report_all(
         report.old report.new result }
     ensures steps { KeepMapSteps handles.old handles.new }
 {
-    numbers::report_all::<Entries, Entry, MapHandle>(alloc, handles, entries, report)
+    coded_calls::report_all::<Entries, Entry, MapHandle>(alloc, handles, entries, report)
 }
 
 /// Tells what is in a map as [`vbr_map_report_all`] does, and the slot of each entry, as
@@ -476,7 +476,7 @@ pub extern "C" fn vbr_map_report_slots(
         slots.old slots.new report.old report.new result }
     ensures steps { KeepMapSteps handles.old handles.new }
 {
-    numbers::report_all_with_slots::<Entries, Entry, MapHandle>(
+    coded_calls::report_all_with_slots::<Entries, Entry, MapHandle>(
         alloc, handles, entries, slots, report,
     )
 }
@@ -507,7 +507,7 @@ pub extern "C" fn vbr_map_renew_all_seeded(
         last_epoch,
         seed,
     };
-    numbers::renew_all::<Entries, Entry, MapHandle>(alloc, handles, numbers)
+    coded_calls::renew_all::<Entries, Entry, MapHandle>(alloc, handles, numbers)
 }
 
 /// Drops what the handle has, and leaves it empty, as [`crate::set::vbr_drop`] does.

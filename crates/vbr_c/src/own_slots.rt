@@ -1,10 +1,10 @@
 //! The calls on the slots that a handle keeps to itself: of a set, and of a map.
 ghost use Rattle.std.specs.Prelude.{◌≡◌};
 ghost use Rattle.vbr_handles.specs.Forsaking.{HasForsaken};
-ghost use Rattle.vbr_handles.specs.GivingBack.{TellsGivenBack};
+ghost use Rattle.vbr_handles.specs.GivingSlotsBack.{TellsGivenBack};
 ghost use Rattle.vbr_handles.specs.Reserving.{TellsReserve};
 
-use vbr_handles::numbers::{forsaking, giving_back, reserving};
+use vbr_handles::coded_calls::{forsaking, giving_slots_back, reserving};
 use vbr_handles::{Handle, MapHandle};
 
 /// Puts all slots that the handle keeps to itself into the pool that all handles share, one step for each, and
@@ -19,7 +19,7 @@ pub extern "C" fn vbr_spare(handle: &mut Handle) -> u32
     ensures given { TellsGivenBack handle.old.owned.member handle.new.owned.member result }
     ensures steps { handle.new.steps ≡ handle.old.steps }
 {
-    giving_back::give_slots_back(handle.owned.owner_mut())
+    giving_slots_back::give_slots_back(handle.owned.owner_mut())
 }
 
 /// Does the same of the handle of a map.
@@ -28,7 +28,7 @@ pub extern "C" fn vbr_map_spare(handle: &mut MapHandle) -> u32
     ensures given { TellsGivenBack handle.old.owned.member handle.new.owned.member result }
     ensures steps { handle.new.steps ≡ handle.old.steps }
 {
-    giving_back::give_slots_back(handle.owned.owner_mut())
+    giving_slots_back::give_slots_back(handle.owned.owner_mut())
 }
 
 /// Takes slots out of the pool that all handles share until the handle keeps `wanted` to itself, or 63 if that is

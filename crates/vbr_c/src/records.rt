@@ -5,7 +5,7 @@ ghost use Rattle.vbr_handles.specs.HeldSlots.{TellsHold, TellsInsertEntryHeld, T
 ghost use Rattle.vbr_handles.specs.Iterating.{TellsNextNamed, TellsNextNamedKey};
 ghost use Rattle.vbr_handles.specs.Incarnations.{TellsGetNamed, TellsHasNamed, TellsIfStill, TellsRemoveKeyNamed, TellsRemoveNamed, entry_named};
 
-use vbr_handles::numbers::{entry_records, records};
+use vbr_handles::coded_calls::{entry_records, records};
 use vbr_handles::{Handle, Incarnation, MapHandle};
 use vbr_set::Cursor;
 

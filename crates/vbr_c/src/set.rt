@@ -3,19 +3,19 @@ ghost use Rattle.std.specs.Prelude.{◌≡◌, None, length};
 ghost use Rattle.vbr_machine.specs.declared.history.Op.TheVariants.{Remove, Has};
 ghost use Rattle.vbr_handles.specs.Batches.{TellsHasAll};
 ghost use Rattle.vbr_handles.specs.Calls.{TellsCall, TellsInsert};
-ghost use Rattle.vbr_handles.specs.GivingBack.{ClosesHandle};
+ghost use Rattle.vbr_handles.specs.GivingSlotsBack.{ClosesHandle};
 ghost use Rattle.vbr_handles.specs.Iterating.{TellsNext};
 ghost use Rattle.vbr_handles.specs.Opening.{AreEmpty, spread_start};
 ghost use Rattle.vbr_handles.specs.OpeningCodes.{TellsOpeningMany, TellsOpeningWith};
 ghost use Rattle.vbr_handles.specs.AllHandles.{KeepSteps, members_in};
 ghost use Rattle.vbr_handles.specs.Renewals.{TellsRenewal};
 ghost use Rattle.vbr_handles.specs.Reports.{TellsCloseAll, TellsReport, TellsReportSlots};
-ghost use Rattle.vbr_set.specs.AllMembers.{AreOfOneSet};
+ghost use Rattle.vbr_set.specs.members.AllMembers.{AreOfOneSet};
 ghost use Rattle.vbr_handles.specs.Shown.{IsSeedOf, balance_shown, buckets_of, epoch_of_handle, last_epoch_of, slots_of};
 
 use std::alloc::Global;
-use vbr_handles::numbers::{batches, giving_back, iterating};
-use vbr_handles::{Handle, ReportNumbers, ShapeNumbers, numbers, shown};
+use vbr_handles::coded_calls::{batches, giving_slots_back, iterating};
+use vbr_handles::{Handle, ReportNumbers, ShapeNumbers, accessors, coded_calls};
 use vbr_set::Cursor;
 use vbr_words::Keys;
 
@@ -54,7 +54,7 @@ pub extern "C" fn vbr_open_seeded(
         last_epoch,
         seed,
     };
-    numbers::open_with::<Keys, u64, Handle>(alloc, handles, numbers, keys)
+    coded_calls::open_with::<Keys, u64, Handle>(alloc, handles, numbers, keys)
 }
 
 /// Opens a set of these keys, as [`vbr_open_seeded`] does, for many handles, up to 65,536: 0. No call takes a
@@ -87,7 +87,7 @@ pub extern "C" fn vbr_open_many_seeded(
         last_epoch,
         seed,
     };
-    numbers::open_many::<Keys, u64, Handle>(alloc, handles, numbers, keys)
+    coded_calls::open_many::<Keys, u64, Handle>(alloc, handles, numbers, keys)
 }
 
 /// Adds a key: 1 if it was absent, 0 if it was there. It makes at most `budget` steps. While the other
@@ -108,7 +108,7 @@ pub extern "C" fn vbr_insert_within(handle: &mut Handle, key: u64, budget: u32) 
         key budget result }
     ensures steps { handle.new.steps ≡ handle.old.steps }
 {
-    numbers::insert(handle.owned.owner_mut(), key, budget)
+    coded_calls::insert(handle.owned.owner_mut(), key, budget)
 }
 
 /// Takes a key out: 1 if it was there, 0 if it was absent. It makes at most `budget` steps. While the
@@ -126,7 +126,7 @@ pub extern "C" fn vbr_remove_within(handle: &mut Handle, key: u64, budget: u32) 
         key budget result }
     ensures steps { handle.new.steps ≡ handle.old.steps }
 {
-    numbers::remove(handle.owned.owner_mut(), key, budget)
+    coded_calls::remove(handle.owned.owner_mut(), key, budget)
 }
 
 /// Looks a key up: 1 if it is there, 0 if it is absent. It makes at most `budget` steps, all of them
@@ -144,7 +144,7 @@ pub extern "C" fn vbr_has_within(handle: &mut Handle, key: u64, budget: u32) -> 
         key budget result }
     ensures steps { handle.new.steps ≡ handle.old.steps }
 {
-    numbers::has(handle.owned.owner_mut(), key, budget)
+    coded_calls::has(handle.owned.owner_mut(), key, budget)
 }
 
 /// Looks keys up in their order, each in at most `budget` steps, and writes at the place of each what [`vbr_has_within`]
@@ -186,7 +186,7 @@ pub extern "C" fn vbr_epoch(handle: &mut Handle) -> u64
     ensures epoch { result ≡ epoch_of_handle handle.old.owned.member }
     ensures steps { handle.new.steps ≡ handle.old.steps }
 {
-    shown::epoch(handle.owned.owner_mut())
+    accessors::epoch(handle.owned.owner_mut())
 }
 
 /// The last epoch of the set of the handle, as it was opened; 0 where the handle is empty.
@@ -196,7 +196,7 @@ pub extern "C" fn vbr_last_epoch(handle: &mut Handle) -> u64
     ensures last { result ≡ last_epoch_of handle.old.owned.member }
     ensures steps { handle.new.steps ≡ handle.old.steps }
 {
-    shown::last_epoch(handle.owned.owner_mut())
+    accessors::last_epoch(handle.owned.owner_mut())
 }
 
 /// How many slots the set of the handle has, as it was opened; 0 where the handle is empty.
@@ -206,7 +206,7 @@ pub extern "C" fn vbr_slots(handle: &mut Handle) -> u32
     ensures slots { result ≡ slots_of handle.old.owned.member }
     ensures steps { handle.new.steps ≡ handle.old.steps }
 {
-    shown::slots(handle.owned.owner_mut())
+    accessors::slots(handle.owned.owner_mut())
 }
 
 /// How many buckets the set of the handle has, as it was opened; 0 where the handle is empty.
@@ -216,7 +216,7 @@ pub extern "C" fn vbr_buckets(handle: &mut Handle) -> u32
     ensures buckets { result ≡ buckets_of handle.old.owned.member }
     ensures steps { handle.new.steps ≡ handle.old.steps }
 {
-    shown::buckets(handle.owned.owner_mut())
+    accessors::buckets(handle.owned.owner_mut())
 }
 
 /// A seed that spreads keys as those of the set of the handle are spread: the one that it was opened with,
@@ -231,7 +231,7 @@ pub extern "C" fn vbr_seed(handle: &mut Handle) -> u64
     ensures seed { IsSeedOf handle.old.owned.member result }
     ensures steps { handle.new.steps ≡ handle.old.steps }
 {
-    shown::seed(handle.owned.owner_mut())
+    accessors::seed(handle.owned.owner_mut())
 }
 
 /// How many keys the calls of the handle have added, less those that they took out: its inserts that were
@@ -250,7 +250,7 @@ pub extern "C" fn vbr_balance(handle: &mut Handle) -> i64
     ensures balance { result ≡ balance_shown handle.old.owned.member }
     ensures steps { handle.new.steps ≡ handle.old.steps }
 {
-    shown::balance(handle.owned.owner_mut())
+    accessors::balance(handle.owned.owner_mut())
 }
 
 /// Lets go of the slot that the handle holds, gives those that it keeps to itself back, as `vbr_spare` does, and then
@@ -278,7 +278,7 @@ pub extern "C" fn vbr_close(
         report.old report.new result }
     ensures steps { handle.new.steps ≡ handle.old.steps }
 {
-    giving_back::close::<Keys, u64>(alloc, handle.owned.owner_mut(), keys, report)
+    giving_slots_back::close::<Keys, u64>(alloc, handle.owned.owner_mut(), keys, report)
 }
 
 /// Closes a set by all its handles at once, in any order, and leaves them empty: 1, and it writes what the
@@ -306,7 +306,7 @@ pub extern "C" fn vbr_close_all(
         report.old report.new result }
     ensures steps { KeepSteps handles.old handles.new }
 {
-    numbers::close_all::<Keys, u64, Handle>(alloc, handles, keys, report)
+    coded_calls::close_all::<Keys, u64, Handle>(alloc, handles, keys, report)
 }
 
 /// Tells what is in a set by all its handles at once, in any order: 1, and it writes what `vbr_close_all`
@@ -330,7 +330,7 @@ pub extern "C" fn vbr_report_all(
         report.old report.new result }
     ensures steps { KeepSteps handles.old handles.new }
 {
-    numbers::report_all::<Keys, u64, Handle>(alloc, handles, keys, report)
+    coded_calls::report_all::<Keys, u64, Handle>(alloc, handles, keys, report)
 }
 
 /// Tells what is in a set as [`vbr_report_all`] does, and the slot of each key: with 1, `keys[i]` stands in
@@ -357,7 +357,7 @@ pub extern "C" fn vbr_report_slots(
         slots.old slots.new report.old report.new result }
     ensures steps { KeepSteps handles.old handles.new }
 {
-    numbers::report_all_with_slots::<Keys, u64, Handle>(alloc, handles, keys, slots, report)
+    coded_calls::report_all_with_slots::<Keys, u64, Handle>(alloc, handles, keys, slots, report)
 }
 
 /// Lets all handles of a set, in any order, go on over a fresh set of these numbers, with the keys that were
@@ -395,7 +395,7 @@ pub extern "C" fn vbr_renew_all_seeded(
         last_epoch,
         seed,
     };
-    numbers::renew_all::<Keys, u64, Handle>(alloc, handles, numbers)
+    coded_calls::renew_all::<Keys, u64, Handle>(alloc, handles, numbers)
 }
 
 /// Drops what the handle has, and leaves it empty. Its slots and its pass are given back, as by a close, so the

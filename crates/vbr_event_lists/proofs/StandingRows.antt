@@ -10,7 +10,7 @@ use Rattle.vbr_machine.specs.declared.event.Effect.{Effect}
 use Rattle.vbr_machine.specs.declared.event.Step.{Step}
 use Rattle.vbr_event_lists.proofs.RowLists as rows
 use Rattle.vbr_event_lists.specs.Worked.{AreWorked, names_link, others_of, many_epochs}
-use Rattle.vbr_event_lists.specs.declared.standing.TheConstants.{STANDING_WORDS}
+use Rattle.vbr_event_lists.specs.declared.step_kinds.TheConstants.{STANDING_WORDS}
 
 pub standing : AreWorked many_epochs (opening many_epochs) rows.standing_rows STANDING_WORDS
 unfolding bucket_of link_of word_of has_flag first_bits flag_word

@@ -10,12 +10,12 @@ use Rattle.vbr_machine.specs.declared.event.Step.{Step}
 use Rattle.vbr_event_lists.proofs.RowLists as rows
 use Rattle.vbr_event_lists.specs.Worked.{AreWorked, three_slots, one_slot, many_epochs}
 use Rattle.vbr_event_lists.specs.Valued.{valued, with_values}
-use Rattle.vbr_event_lists.specs.declared.lists.TheConstants.{REBORN_SLOT_WORDS}
-use Rattle.vbr_event_lists.specs.declared.lists.TheConstants.{SAME_WORD_WORDS, TWO_HELPERS_WORDS}
-use Rattle.vbr_event_lists.specs.declared.raised.TheConstants.{RAISED_IN_HAND_WORDS}
-use Rattle.vbr_event_lists.specs.declared.replaced.TheConstants.{REPLACED_VALUE_WORDS}
-use Rattle.vbr_event_lists.specs.declared.standing.TheConstants.{STANDING_WORDS}
-use Rattle.vbr_event_lists.specs.declared.valued.TheConstants.{STORED_VALUE_WORDS}
+use Rattle.vbr_event_lists.specs.declared.worked_lists.TheConstants.{REBORN_SLOT_WORDS}
+use Rattle.vbr_event_lists.specs.declared.worked_lists.TheConstants.{SAME_WORD_WORDS, TWO_HELPERS_WORDS}
+use Rattle.vbr_event_lists.specs.declared.raised_slot.TheConstants.{RAISED_IN_HAND_WORDS}
+use Rattle.vbr_event_lists.specs.declared.replacements.TheConstants.{REPLACED_VALUE_WORDS}
+use Rattle.vbr_event_lists.specs.declared.step_kinds.TheConstants.{STANDING_WORDS}
+use Rattle.vbr_event_lists.specs.declared.values.TheConstants.{STORED_VALUE_WORDS}
 use Rattle.vbr_event_lists.proofs.WorkedRows.{left_after, worked_in_two}
 
 -- rows are worked in parts: so many parts of n rows, and then what is left

@@ -10,9 +10,9 @@ use Rattle.vbr_machine.specs.declared.event.Effect.{Effect}
 use Rattle.vbr_machine.specs.declared.event.Step.{Step}
 use Rattle.vbr_event_lists.proofs.RowLists as rows
 use Rattle.vbr_event_lists.specs.Worked.{AreWorked, names_link, others_of, three_slots, one_slot}
-use Rattle.vbr_event_lists.specs.declared.lists.TheConstants.{REBORN_SLOT_WORDS}
-use Rattle.vbr_event_lists.specs.declared.lists.TheConstants.{SAME_WORD_WORDS, TWO_HELPERS_WORDS}
-use Rattle.vbr_event_lists.specs.declared.raised.TheConstants.{RAISED_IN_HAND_WORDS}
+use Rattle.vbr_event_lists.specs.declared.worked_lists.TheConstants.{REBORN_SLOT_WORDS}
+use Rattle.vbr_event_lists.specs.declared.worked_lists.TheConstants.{SAME_WORD_WORDS, TWO_HELPERS_WORDS}
+use Rattle.vbr_event_lists.specs.declared.raised_slot.TheConstants.{RAISED_IN_HAND_WORDS}
 
 pub two_helpers : AreWorked one_slot (opening one_slot) rows.two_helpers TWO_HELPERS_WORDS
 unfolding bucket_of link_of word_of has_flag first_bits flag_word

@@ -10,8 +10,8 @@ use Rattle.vbr_machine.specs.declared.history.Call.{Call}
 use Rattle.vbr_machine.specs.declared.history.Op.{Op}
 use Rattle.vbr_machine.specs.declared.history.Op.TheVariants.{Insert, Remove, Has, Get}
 use Rattle.vbr_at_table.specs.declared.refusal.Refusal.{Refusal}
-use Rattle.vbr_set.specs.Answers.{Answers}
-use Rattle.vbr_set.specs.Members.{MemberView}
+use Rattle.vbr_set.specs.histories.Answers.{Answers}
+use Rattle.vbr_set.specs.calls.Members.{MemberView}
 use Rattle.vbr_example.specs.Claims.{claims_of, claims_in, RemoveNone, IsClaimedOnce}
 
 -- how often a page can still be claimed

@@ -12,10 +12,10 @@ use Rattle.vbr_machine.specs.declared.history.Op.{Op}
 use Rattle.vbr_machine.specs.declared.history.Op.TheVariants.{Insert, Remove, Has, Get}
 use Rattle.vbr_at_table.specs.declared.refusal.Refusal.{Refusal}
 use Rattle.vbr_machine.specs.declared.event.Event.{Event}
-use Rattle.vbr_slots.specs.Views.{PassView, TableView, Trace}
-use Rattle.vbr_set.specs.Answers.{Answers}
-use Rattle.vbr_set.specs.Histories.{calls_of}
-use Rattle.vbr_set.specs.Tokens.{CatchesUp, IsTokenOf}
+use Rattle.vbr_slots.specs.views.Views.{PassView, TableView, Trace}
+use Rattle.vbr_set.specs.histories.Answers.{Answers}
+use Rattle.vbr_set.specs.histories.Histories.{calls_of}
+use Rattle.vbr_set.specs.histories.Tokens.{CatchesUp, IsTokenOf}
 use Rattle.vbr_example.specs.Claims.{RemoveNone}
 use Rattle.vbr_example.specs.Telling.{IsClaimed, IsFoundUnlessRemoved, IsTold}
 use Rattle.vbr_example.specs.declared.telling.Message.{Message}

@@ -1,8 +1,8 @@
 -- A sweep goes on, page by page.
 use Rattle.std.proofs.Common.{◌≡◌, ℕ, ◌+◌, ◌-◌, ◌*◌, ◌^◌, ◌<◌, ◌≤◌, List, inl, inr, arith}
 use Rattle.std.specs.Prelude.{◌⊎◌, length, min}
-use Rattle.vbr_slots.specs.Views.{Trace}
-use Rattle.vbr_list.specs.Cursors.{HasGiven, IsBehindKey, SeesMore}
+use Rattle.vbr_slots.specs.views.Views.{Trace}
+use Rattle.vbr_list.specs.look_ups.Cursors.{HasGiven, IsBehindKey, SeesMore}
 use Rattle.vbr_list.specs.declared.cursor.Cursor.{Cursor}
 
 -- the pages that it came upon so far, and how many they are

@@ -4,9 +4,9 @@ use Rattle.vbr_machine.specs.History.{set_call}
 use Rattle.vbr_machine.specs.declared.history.Call.{Call}
 use Rattle.vbr_machine.specs.declared.history.Op.{Op}
 use Rattle.vbr_machine.specs.declared.history.Op.TheVariants.{Insert, Remove}
-use Rattle.vbr_slots.specs.Calls.{made_by}
-use Rattle.vbr_set.specs.Histories.{calls_of}
-use Rattle.vbr_set.specs.Members.{MemberView}
+use Rattle.vbr_slots.specs.steps.Calls.{made_by}
+use Rattle.vbr_set.specs.histories.Histories.{calls_of}
+use Rattle.vbr_set.specs.calls.Members.{MemberView}
 
 -- how often a call claims a page: once, if it is an insert of it that was answered yes
 abbrev pub claims_of : ℕ → Op → ℕ → Bool → ℕ

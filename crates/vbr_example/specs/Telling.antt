@@ -4,8 +4,8 @@ use Rattle.vbr_set.specs.Names.{Start}
 use Rattle.vbr_machine.specs.History.{set_after}
 use Rattle.vbr_machine.specs.Opened.{opening_keys}
 use Rattle.vbr_machine.specs.declared.event.Event.{Event}
-use Rattle.vbr_slots.specs.Views.{TableView, Trace}
-use Rattle.vbr_set.specs.Histories.{calls_of}
+use Rattle.vbr_slots.specs.views.Views.{TableView, Trace}
+use Rattle.vbr_set.specs.histories.Histories.{calls_of}
 use Rattle.vbr_example.specs.Claims.{RemoveNone}
 use Rattle.vbr_example.specs.declared.telling.Message.{Message}
 

@@ -2,7 +2,7 @@
 use Rattle.std.proofs.Common.{◌≡◌, Bool, true, false, ℕ, zero, suc, ◌+◌, ◌<◌, ◌∷◌, [], ◌++◌, List, map, length, take}
 use Rattle.std.proofs.Common.{append_assoc, refl, sym, ap, ◌∙◌, subst, arith}
 use Rattle.std.specs.Prelude.{IsSome, Option, None, Some, slice_set}
-use Rattle.vbr_set.specs.Members.{MemberView as Member}
+use Rattle.vbr_set.specs.calls.Members.{MemberView as Member}
 use Rattle.vbr_handles.specs.AllHandles.{joined, members_by}
 use Rattle.vbr_handles.specs.Lent.{with_member}
 use Rattle.vbr_handles.specs.declared.owner.Owner.{Owner}

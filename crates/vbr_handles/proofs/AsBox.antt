@@ -10,7 +10,7 @@ use Rattle.std_alloc.proofs.OfVacant.{Vacant}
 use Rattle.std_heap.specs.contracts.Global as Heap
 use Rattle.std_heap.specs.contracts.GlobalAllocator.TheImpl.{ghosts, dict}
 use Rattle.std_heap.proofs.Global.TheLaws as heap
-use Rattle.vbr_handles.specs.contracts.parts.Parts as Parts
+use Rattle.vbr_handles.specs.contracts.box_parts.Parts as Parts
 use Rattle.vbr_handles.specs.contracts.owner.Owner as Owner
 
 -- the parts of a box, and the block that it lies in

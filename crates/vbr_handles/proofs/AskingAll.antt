@@ -10,13 +10,13 @@ use Rattle.std.proofs.lemmas.List.{length-map}
 use Rattle.std.proofs.lemmas.List.Elements.{All-head, All-rest, All-same, All-tail, length_all_zip}
 use Rattle.vbr_words.specs.Dimensions.{Dimensions, IsShape}
 use Rattle.vbr_machine.specs.Start.{start_with}
-use Rattle.vbr_slots.specs.Views.{PassView, TableView, new_passes}
-use Rattle.vbr_set.specs.Kinds.{KindOf}
-use Rattle.vbr_set.specs.Members.{MemberView as Member, as_member, new_members}
-use Rattle.vbr_set.specs.AllMembers.{AreTooFew, ReportsAllBy}
-use Rattle.vbr_set.specs.BalanceSums.{added_balances}
-use Rattle.vbr_set.specs.EntrySlots.{ClosesWithSlots, HasEntry}
-use Rattle.vbr_set.specs.RenewingAll.{AreNotAll}
+use Rattle.vbr_slots.specs.views.Views.{PassView, TableView, new_passes}
+use Rattle.vbr_set.specs.reports.Kinds.{KindOf}
+use Rattle.vbr_set.specs.calls.Members.{MemberView as Member, as_member, new_members}
+use Rattle.vbr_set.specs.members.AllMembers.{AreTooFew, ReportsAllBy}
+use Rattle.vbr_set.specs.members.BalanceSums.{added_balances}
+use Rattle.vbr_set.specs.reports.EntrySlots.{ClosesWithSlots, HasEntry}
+use Rattle.vbr_set.specs.renewals.RenewingAll.{AreNotAll}
 use Rattle.vbr_set.specs.declared.report_with_slots.ReportWithSlots.{ReportWithSlots}
 use Rattle.vbr_handles.specs.AllHandles.{AreFull, ReportsAllOf, StaySo, joined, members_by}
 use Rattle.vbr_handles.specs.AskingAll.{AsksAllOf, Lack, RenewsWithReserves}

@@ -5,8 +5,8 @@ use Rattle.std.specs.Prelude.{ℤ, IsSome, Option, None, Some, slice_index_or, s
 use Rattle.std.specs.Int.{w64}
 use Rattle.std.proofs.lemmas.Bool.{false≢true}
 use Rattle.std.proofs.lemmas.List.{set-get_or}
-use Rattle.vbr_set.specs.BalanceSums.{added_balances}
-use Rattle.vbr_set.specs.Members.{MemberView as Member}
+use Rattle.vbr_set.specs.members.BalanceSums.{added_balances}
+use Rattle.vbr_set.specs.calls.Members.{MemberView as Member}
 use Rattle.vbr_set.proofs.Lemmas.{one_added}
 use Rattle.vbr_handles.specs.AllHandles.{AreFull, joined, members_by}
 use Rattle.vbr_handles.specs.Shown.{balance_shown}

@@ -2,11 +2,11 @@
 use Rattle.std.proofs.Common.{ℕ, Bool, true, false, Result, sym, subst, arith}
 use Rattle.vbr_machine.specs.Runs.{Begins}
 use Rattle.vbr_machine.proofs.Lemmas.{begins_refl}
-use Rattle.vbr_slots.specs.Calls.{IsSame}
-use Rattle.vbr_slots.specs.Views.{Trace}
+use Rattle.vbr_slots.specs.steps.Calls.{IsSame}
+use Rattle.vbr_slots.specs.views.Views.{Trace}
 use Rattle.vbr_slots.proofs.Lemmas.{same_refl}
 use Rattle.vbr_at_table.specs.declared.refusal.Refusal.{Refusal}
-use Rattle.vbr_set.specs.Members.{MemberView as Member}
+use Rattle.vbr_set.specs.calls.Members.{MemberView as Member}
 use Rattle.vbr_handles.specs.HandleProgress.{HandlesCallAmply, IsAmplyMade}
 use Rattle.vbr_handles.specs.ToppingUp.{TopsUpWhere}
 

@@ -1,15 +1,14 @@
 -- A call by a slot that is held, with the top-up after it, is what a full handle tells.
 use Rattle.std.proofs.Common.{◌≡◌, ℕ, ◌&&◌, Bool, false, refl, ap, ◌∙◌, subst, List}
-use Rattle.std.specs.Prelude.{ℤ, Option, None, Some, is_some, Result, Ok, Err, IfOk}
+use Rattle.std.specs.Prelude.{ℤ, Option, Some, Result, Ok, Err, IfOk}
 use Rattle.vbr_machine.specs.declared.history.Call.{Call}
-use Rattle.vbr_slots.specs.Views.{PassView, Trace, counted_steps, steps_of}
-use Rattle.vbr_at_table.specs.WithinBudget.{TookWithin}
-use Rattle.vbr_at_table.specs.declared.aside.Aside.{Aside}
-use Rattle.vbr_list.specs.Told.{is_yes}
+use Rattle.vbr_slots.specs.views.Views.{PassView, Trace, counted_steps, steps_of}
+use Rattle.vbr_at_table.specs.costs.WithinBudget.{TookWithin}
+use Rattle.vbr_list.specs.calls.Told.{is_yes}
 use Rattle.vbr_list.specs.declared.entries.Entry.{Entry}
-use Rattle.vbr_set.specs.HeldStores.{PutsHeldBy, ReplacesHeldBy}
-use Rattle.vbr_set.specs.Members.{MemberView as Member}
-use Rattle.vbr_set.specs.RecordCalls.{InsertsHeldBy, slot_aside}
+use Rattle.vbr_set.specs.calls.HeldStores.{PutsHeldBy, ReplacesHeldBy}
+use Rattle.vbr_set.specs.calls.Members.{MemberView as Member}
+use Rattle.vbr_set.specs.calls.RecordCalls.{InsertsHeldBy}
 use Rattle.vbr_set.specs.declared.record_refusals.HeldRefusal.{HeldRefusal}
 use Rattle.vbr_handles.specs.Codes.{held_call_code}
 use Rattle.vbr_handles.specs.HeldSlots.{DoesWithRoom, MakesRoom, TellsHeldBy, TellsPutHeld, has_put_new}
@@ -17,11 +16,6 @@ use Rattle.vbr_handles.specs.ToppingUp.{TopsUpWhere, lacks_slots}
 use Rattle.vbr_handles.specs.ValueCalls.{WritesGiven}
 use Rattle.vbr_handles.specs.declared.owner.Owner.{Owner}
 use Rattle.vbr_handles.proofs.ToppingUp.{had_member, within_budget}
-
--- a slot is held where something is put aside
-pub some_slot : (aside : Option Aside) → is_some (slot_aside aside) ≡ is_some aside
-some_slot None = refl
-some_slot (Some a) = refl
 
 -- a call that is answered kept its budget
 pub steps_held : (Leave : List Call → Trace → Trace → Type 0) (told : Trace → Bool → List Call) (m n : Member)

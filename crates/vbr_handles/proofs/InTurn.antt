@@ -1,6 +1,6 @@
 -- What holds of owners in turn holds of their members.
 use Rattle.std.proofs.Common.{ℕ, List, [], ◌∷◌, ap}
-use Rattle.vbr_set.specs.Batches.{InTurn}
+use Rattle.vbr_set.specs.calls.Batches.{InTurn}
 
 module _ {M N A : Type 0} (of : M → N) (Calls : N → N → ℕ → A → Type 0) where
   pub seen_in_turn : (m n : M) (keys : List ℕ) (answers : List A) →

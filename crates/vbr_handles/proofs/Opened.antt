@@ -5,8 +5,8 @@ use Rattle.std.proofs.Common.{Option, Some}
 use Rattle.std.proofs.lemmas.List.{length-map, map-append}
 use Rattle.std.proofs.lemmas.List.Elements.{length_all_zip}
 use Rattle.vbr_machine.specs.Start.{Start}
-use Rattle.vbr_slots.specs.Views.{PassView, TableView, new_passes}
-use Rattle.vbr_set.specs.Members.{AreNew, MemberView, as_member, new_members}
+use Rattle.vbr_slots.specs.views.Views.{PassView, TableView, new_passes}
+use Rattle.vbr_set.specs.calls.Members.{AreNew, MemberView, as_member, new_members}
 use Rattle.vbr_handles.specs.Opening.{AreOpened}
 use Rattle.vbr_handles.specs.OpeningReserves.{StartWithReserves, StartsWithReserve}
 use Rattle.vbr_handles.specs.declared.owner.Owner.{Owner}

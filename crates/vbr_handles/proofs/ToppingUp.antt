@@ -3,18 +3,18 @@ use Rattle.std.proofs.Common.{◌≡◌, ℕ, ◌+◌, ◌-◌, ◌^◌, ◌<◌
 use Rattle.std.proofs.Common.{arith, ◌/◌, ◌&&◌}
 use Rattle.std.specs.Prelude.{if◌then◌else◌, ℤ, is_some, Option, None, Some, Result}
 use Rattle.std.proofs.lemmas.Bool.{cases_lt, false≢true, le-ltb, lt-ltb}
-use Rattle.vbr_slots.specs.PassLaw.{PassLaw}
-use Rattle.vbr_slots.specs.Views.{PassView, Trace, counted_steps, steps_of}
+use Rattle.vbr_slots.specs.steps.PassLaw.{PassLaw}
+use Rattle.vbr_slots.specs.views.Views.{PassView, Trace, counted_steps, steps_of}
 use Rattle.vbr_slots.proofs.Lemmas.{took_on}
-use Rattle.vbr_at_table.specs.Reserving.{TopsUp}
-use Rattle.vbr_at_table.specs.WithinBudget.{TookWithin}
+use Rattle.vbr_at_table.specs.pools.Reserving.{TopsUp}
+use Rattle.vbr_at_table.specs.costs.WithinBudget.{TookWithin}
 use Rattle.vbr_at_table.specs.declared.aside.Aside.{Aside}
 use Rattle.vbr_at_table.specs.declared.refusal.Refusal.{Refusal}
-use Rattle.vbr_list.specs.Told.{is_yes}
-use Rattle.vbr_set.specs.Members.{MemberView as Member}
+use Rattle.vbr_list.specs.calls.Told.{is_yes}
+use Rattle.vbr_set.specs.calls.Members.{MemberView as Member}
 use Rattle.vbr_handles.specs.AmpleBudgets.{budget_of}
 use Rattle.vbr_handles.specs.Calls.{TellsUnlessHeld, UnlessHeld}
-use Rattle.vbr_handles.specs.Codes.{call_code, held_code}
+use Rattle.vbr_handles.specs.Codes.{call_code}
 use Rattle.vbr_handles.specs.ToppingUp.{CallsAndTopsUp, CallsBySteps, TopsUpReserve, TopsUpWhere, lacks_slots, left_of}
 use Rattle.vbr_handles.specs.ToppingUp.{reserve_of}
 use Rattle.vbr_handles.specs.ValueCalls.{GivesUnlessHeld, StoresBy, WritesGiven}
@@ -111,10 +111,6 @@ unless_held : (aside : Option Aside) (R T : Type 0) → is_some aside ≡ false 
 unless_held None R T free told = told
 unless_held (Some a) R T free told = absurd (false≢true (sym free))
 
-while_held : (aside : Option Aside) (R T : Type 0) → is_some aside ≡ true → R → UnlessHeld aside R T
-while_held None R T holds told = absurd (false≢true holds)
-while_held (Some a) R T holds told = told
-
 -- so a call of its member, which holds no slot, is what the handle tells
 tells_call : (Calls : Member → Member → Result Bool Refusal → Type 0) {owner asked : Owner Member} {m n : Member}
     {code : ℤ} {answer : Result Bool Refusal} → asked ≡ owner → asked.member ≡ Some m → is_some m.aside ≡ false →
@@ -123,14 +119,6 @@ tells_call : (Calls : Member → Member → Result Bool Refusal → Type 0) {own
 tells_call Calls {owner} {asked} {m} {n} {code} {answer} same lent free is called aside =
     subst (λ (o : Option Member). TellsUnlessHeld Calls o (Some n) code) (had_member same lent)
     (unless_held m.aside _ _ free (record { answer = answer; is = is; called = called; aside = aside }))
-
--- while it holds one, nothing is done
-pub tells_held : (Calls : Member → Member → Result Bool Refusal → Type 0) {owner asked : Owner Member} {m : Member}
-    (n : Member) {code : ℤ} → asked ≡ owner → asked.member ≡ Some m → is_some m.aside ≡ true → n ≡ m →
-    code ≡ held_code → TellsUnlessHeld Calls owner.member (Some n) code
-tells_held Calls {owner} {asked} {m} n {code} same lent holds stays is =
-    subst (λ (o : Option Member). TellsUnlessHeld Calls o (Some n) code) (had_member same lent)
-    (while_held m.aside _ _ holds (stays, is))
 
 -- and so it is of a call that gives a value
 pub gives_call : {A : Type 0} (Calls : Member → Member → Result (Option A) Refusal → Type 0)
@@ -142,14 +130,6 @@ gives_call {A} Calls coded old new {owner} {asked} {m} {n} {code} {answer} same 
     subst (λ (o : Option Member). GivesUnlessHeld Calls coded o (Some n) old new code) (had_member same lent)
     (unless_held m.aside _ _ free
     (record { answer = answer; is = is; called = called; aside = aside; writes = writes }))
-
-pub gives_held : {A : Type 0} (Calls : Member → Member → Result (Option A) Refusal → Type 0)
-    (coded : Result (Option A) Refusal → ℤ) (old new : A) {owner asked : Owner Member} {m : Member} (n : Member)
-    {code : ℤ} → asked ≡ owner → asked.member ≡ Some m → is_some m.aside ≡ true → n ≡ m → code ≡ held_code →
-    new ≡ old → GivesUnlessHeld Calls coded owner.member (Some n) old new code
-gives_held {A} Calls coded old new {owner} {asked} {m} n {code} same lent holds stays is unwritten =
-    subst (λ (o : Option Member). GivesUnlessHeld Calls coded o (Some n) old new code) (had_member same lent)
-    (while_held m.aside _ _ holds ((stays, is), unwritten))
 
 -- ---- a call and the top-up after it
 

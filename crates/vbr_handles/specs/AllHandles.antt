@@ -1,8 +1,8 @@
 -- What a set tells by all its handles at once, how it ends by them, and what that leaves in them.
 use Rattle.std.specs.Prelude.{◌≡◌, ◌<◌, ◌≤◌, ℕ, All, List, [], ◌∷◌, length, map, Option, None, Some, IsSome, Result, Ok, Err}
-use Rattle.vbr_slots.specs.Views.{PassView, TableView}
-use Rattle.vbr_set.specs.AllMembers.{AreTooFew, ReportsAllBy}
-use Rattle.vbr_set.specs.Members.{MemberView as Member}
+use Rattle.vbr_slots.specs.views.Views.{PassView, TableView}
+use Rattle.vbr_set.specs.members.AllMembers.{AreTooFew, ReportsAllBy}
+use Rattle.vbr_set.specs.calls.Members.{MemberView as Member}
 use Rattle.vbr_handles.specs.Listings.{Listing}
 use Rattle.vbr_handles.specs.Opening.{AreEmpty}
 use Rattle.vbr_handles.specs.declared.handle.Handle.{Handle}

@@ -1,6 +1,6 @@
 -- The budget that a number of steps gives a call which may take a slot.
 use Rattle.std.specs.Prelude.{ℕ, ◌+◌, ◌-◌, ◌/◌, ◌==◌, if◌then◌else◌}
-use Rattle.vbr_set.specs.Members.{MemberView as Member}
+use Rattle.vbr_set.specs.calls.Members.{MemberView as Member}
 use Rattle.vbr_handles.specs.declared.ample.TheConstants.{AMPLE_SLOTS, AMPLE_STEPS}
 
 -- the ample budget of so many slots: a search may go through the words of all their flags, one for 64 slots

@@ -1,12 +1,12 @@
 -- What is asked of all members of handles at once, and what comes back to them. Only contracts of private functions cite this.
 use Rattle.std.specs.Prelude.{◌≡◌, List, map, Option, Some, Result, Ok, Err}
 use Rattle.vbr_words.specs.Dimensions.{Dimensions}
-use Rattle.vbr_set.specs.AllMembers.{AreTooFew, ReportsAllBy}
-use Rattle.vbr_set.specs.Closing.{ClosesBy}
-use Rattle.vbr_set.specs.EntrySlots.{ClosesWithSlots}
-use Rattle.vbr_set.specs.Kinds.{KindOf}
-use Rattle.vbr_set.specs.Members.{MemberView as Member}
-use Rattle.vbr_set.specs.RenewingAll.{AreNotAll, HasNoRoom, HasRoom, RenewsAllBy}
+use Rattle.vbr_set.specs.members.AllMembers.{AreTooFew, ReportsAllBy}
+use Rattle.vbr_set.specs.reports.Closing.{ClosesBy}
+use Rattle.vbr_set.specs.reports.EntrySlots.{ClosesWithSlots}
+use Rattle.vbr_set.specs.reports.Kinds.{KindOf}
+use Rattle.vbr_set.specs.calls.Members.{MemberView as Member}
+use Rattle.vbr_set.specs.renewals.RenewingAll.{AreNotAll, HasNoRoom, HasRoom, RenewsAllBy}
 use Rattle.vbr_handles.specs.AllHandles.{AreFull, members_by}
 use Rattle.vbr_handles.specs.OpeningReserves.{StartWithReserves}
 use Rattle.vbr_handles.specs.declared.asking_all.AskRefusal.{AskRefusal}

@@ -1,8 +1,8 @@
 -- What look-ups in a batch tell through a handle: the number of each answer is that of the call of its key.
 use Rattle.std.specs.Prelude.{ℕ, ℤ, List, Option}
 use Rattle.vbr_machine.specs.declared.history.Op.TheVariants.{Has}
-use Rattle.vbr_set.specs.Batches.{InTurn}
-use Rattle.vbr_set.specs.Members.{MemberView as Member}
+use Rattle.vbr_set.specs.calls.Batches.{InTurn}
+use Rattle.vbr_set.specs.calls.Members.{MemberView as Member}
 use Rattle.vbr_handles.specs.Calls.{TellsCall}
 use Rattle.vbr_handles.specs.ValueCalls.{TellsGetEntry}
 use Rattle.vbr_handles.specs.declared.found.Found.{Found}

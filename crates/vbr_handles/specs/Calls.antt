@@ -4,9 +4,9 @@ use Rattle.vbr_machine.specs.declared.history.Op.{Op}
 use Rattle.vbr_machine.specs.declared.history.Op.TheVariants.{Insert}
 use Rattle.vbr_at_table.specs.declared.aside.Aside.{Aside}
 use Rattle.vbr_at_table.specs.declared.refusal.Refusal.{Refusal}
-use Rattle.vbr_set.specs.MapCalls.{InsertsEntry}
-use Rattle.vbr_set.specs.Members.{Called}
-use Rattle.vbr_set.specs.Members.{MemberView as Member}
+use Rattle.vbr_set.specs.calls.MapCalls.{InsertsEntry}
+use Rattle.vbr_set.specs.calls.Members.{Called}
+use Rattle.vbr_set.specs.calls.Members.{MemberView as Member}
 use Rattle.vbr_handles.specs.Codes.{call_code, empty_code, held_code}
 use Rattle.vbr_handles.specs.ToppingUp.{CallsBySteps, has_added}
 

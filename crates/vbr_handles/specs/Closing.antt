@@ -1,8 +1,8 @@
 -- What a close of a handle answers, and what it leaves.
 use Rattle.std.specs.Prelude.{◌≡◌, ◌≢◌, ◌<◌, ◌≤◌, ℕ, List, length, Option, None, Some, Result, Ok, Err}
-use Rattle.vbr_slots.specs.Views.{PassView, TableView}
-use Rattle.vbr_set.specs.Ends.{EndsBy}
-use Rattle.vbr_set.specs.Members.{MemberView as Member}
+use Rattle.vbr_slots.specs.views.Views.{PassView, TableView}
+use Rattle.vbr_set.specs.members.Ends.{EndsBy}
+use Rattle.vbr_set.specs.calls.Members.{MemberView as Member}
 use Rattle.vbr_handles.specs.Listings.{Listing}
 use Rattle.vbr_handles.specs.declared.closing.CloseRefusal.{CloseRefusal}
 use Rattle.vbr_handles.specs.declared.closing.CloseRefusal.TheVariants.{Empty, Lost, Memory, Room}

@@ -1,7 +1,7 @@
 -- What is left of a handle that gives the slots of its pass up.
 use Rattle.std.specs.Prelude.{◌≡◌, Option, None, Some}
-use Rattle.vbr_slots.specs.Forsaking.{Forsakes}
-use Rattle.vbr_set.specs.Members.{MemberView as Member}
+use Rattle.vbr_slots.specs.pools.Forsaking.{Forsakes}
+use Rattle.vbr_set.specs.calls.Members.{MemberView as Member}
 
 -- an empty handle stays so, and the pass of a full one gave its slots up
 abbrev pub HasForsaken : Option Member → Option Member → Type 0

@@ -2,9 +2,9 @@
 use Rattle.std.specs.Prelude.{ℕ, Bool, Option, Result}
 use Rattle.vbr_machine.specs.declared.history.Op.TheVariants.{Insert}
 use Rattle.vbr_at_table.specs.declared.refusal.Refusal.{Refusal}
-use Rattle.vbr_set.specs.Callers.{CallsAndGoesOn, MadeAmply}
-use Rattle.vbr_set.specs.MapCalls.{GetsOrInsertsEntry, InsertsEntry, PutsEntry}
-use Rattle.vbr_set.specs.Members.{Called, MemberView as Member}
+use Rattle.vbr_set.specs.progress.Callers.{CallsAndGoesOn, MadeAmply}
+use Rattle.vbr_set.specs.calls.MapCalls.{GetsOrInsertsEntry, InsertsEntry, PutsEntry}
+use Rattle.vbr_set.specs.calls.Members.{Called, MemberView as Member}
 use Rattle.vbr_handles.specs.ToppingUp.{CallsAndTopsUp, has_added, has_stored_new}
 
 module _ {A : Type 0} (Calls : Member → Member → Result A Refusal → Type 0) (adds : Result A Refusal → Bool) (budget : ℕ) (m n : Member) (answer : Result A Refusal) where

@@ -2,7 +2,7 @@
 use denote.Follow.{follows}
 use denote.Ref.{MutBor}
 use base.Fml.{Fml}
-use Rattle.vbr_set.specs.Members.{MemberView as Member}
+use Rattle.vbr_set.specs.calls.Members.{MemberView as Member}
 use Rattle.vbr_handles.specs.MemberRows.{map_row, set_row}
 use Rattle.vbr_handles.specs.declared.handle.SetOwner.{SetOwner}
 use Rattle.vbr_handles.specs.declared.handle.MapOwner.{MapOwner}

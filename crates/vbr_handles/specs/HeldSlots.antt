@@ -1,16 +1,16 @@
 -- What a handle tells whose member holds a slot, or is to hold one.
 use Rattle.std.specs.Prelude.{◌≡◌, ◌<◌, ◌≤◌, ◌&&◌, ◌⊎◌, ℕ, ℤ, Bool, true, false, length, is_some, Option, None, Some, Result, Ok, Err, IfOk}
 use Rattle.vbr_slots.specs.declared.pass.TheConstants.{POOL}
-use Rattle.vbr_at_table.specs.GivingSlotsBack.{GivesSlotsBack}
-use Rattle.vbr_at_table.specs.WithinBudget.{TookWithin}
-use Rattle.vbr_list.specs.Told.{is_yes}
+use Rattle.vbr_at_table.specs.pools.GivingSlotsBack.{GivesSlotsBack}
+use Rattle.vbr_at_table.specs.costs.WithinBudget.{TookWithin}
+use Rattle.vbr_list.specs.calls.Told.{is_yes}
 use Rattle.vbr_list.specs.declared.entries.Entry.{Entry}
-use Rattle.vbr_set.specs.Answers.{AnswersAll}
-use Rattle.vbr_set.specs.HeldStores.{PutsHeldBy, ReplacesHeldBy}
-use Rattle.vbr_set.specs.LettingGo.{LetsGo}
-use Rattle.vbr_set.specs.MapCalls.{MapAnswersAll}
-use Rattle.vbr_set.specs.Members.{MemberView as Member}
-use Rattle.vbr_set.specs.RecordCalls.{TakesAside, InsertsHeldBy, insert_told, store_told}
+use Rattle.vbr_set.specs.histories.Answers.{AnswersAll}
+use Rattle.vbr_set.specs.calls.HeldStores.{PutsHeldBy, ReplacesHeldBy}
+use Rattle.vbr_set.specs.members.LettingGo.{LetsGo}
+use Rattle.vbr_set.specs.calls.MapCalls.{MapAnswersAll}
+use Rattle.vbr_set.specs.calls.Members.{MemberView as Member}
+use Rattle.vbr_set.specs.calls.RecordCalls.{TakesAside, InsertsHeldBy, insert_told, store_told}
 use Rattle.vbr_set.specs.declared.record_refusals.HeldRefusal.{HeldRefusal}
 use Rattle.vbr_set.specs.declared.record_refusals.HoldRefusal.{HoldRefusal}
 use Rattle.vbr_handles.specs.AmpleBudgets.{budget_of}

@@ -1,11 +1,11 @@
 -- What a call that names an entry by where it stands tells through a handle.
 use Rattle.std.specs.Prelude.{◌≡◌, ℕ, ℤ, Bool, Option, None, Some, Result, Ok}
 use Rattle.vbr_at_table.specs.declared.refusal.Refusal.{Refusal}
-use Rattle.vbr_list.specs.Told.{is_yes}
+use Rattle.vbr_list.specs.calls.Told.{is_yes}
 use Rattle.vbr_list.specs.declared.entries.Entry.{Entry}
-use Rattle.vbr_set.specs.Members.{MemberView as Member}
-use Rattle.vbr_set.specs.RecordCalls.{AsksStill, FindsEntry, FindsKey}
-use Rattle.vbr_set.specs.RemovingExactly.{TakesExactly, TakesKeyExactly}
+use Rattle.vbr_set.specs.calls.Members.{MemberView as Member}
+use Rattle.vbr_set.specs.calls.RecordCalls.{AsksStill, FindsEntry, FindsKey}
+use Rattle.vbr_set.specs.calls.RemovingExactly.{TakesExactly, TakesKeyExactly}
 use Rattle.vbr_handles.specs.Calls.{TellsBy}
 use Rattle.vbr_handles.specs.Codes.{call_code, empty_code}
 use Rattle.vbr_handles.specs.ValueCalls.{GivesBy}

@@ -24,7 +24,7 @@ pub mod Reports
 pub mod Renewals
 pub mod HeldSlots
 pub mod Incarnations
-pub mod GivingBack
+pub mod GivingSlotsBack
 pub mod Forsaking
 pub mod Reserving
 pub mod HandleProgress

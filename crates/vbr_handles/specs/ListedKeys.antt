@@ -4,7 +4,7 @@ use Rattle.std.proofs.lemmas.List.{length-map}
 use Rattle.vbr_words.specs.Dimensions.{Dimensions}
 use Rattle.vbr_machine.specs.Maps.{keys_listed, values_listed}
 use Rattle.vbr_machine.specs.Start.{start_with}
-use Rattle.vbr_set.specs.Kinds.{as_map, as_set}
+use Rattle.vbr_set.specs.reports.Kinds.{as_map, as_set}
 use Rattle.vbr_set.specs.declared.report.MapReport.{MapReport}
 use Rattle.vbr_set.specs.declared.report.Report.{Report}
 use Rattle.vbr_handles.specs.Listings.{as_entries, as_entry, as_keys, as_pair}

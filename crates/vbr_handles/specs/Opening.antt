@@ -5,8 +5,8 @@ use Rattle.vbr_words.specs.Buckets.{multiplier_of}
 use Rattle.vbr_words.specs.Dimensions.{Dimensions, IsShape}
 use Rattle.vbr_words.specs.Shapes.{last_epoch_for}
 use Rattle.vbr_machine.specs.Start.{Start, start_with}
-use Rattle.vbr_slots.specs.Views.{TableView}
-use Rattle.vbr_set.specs.Members.{MemberView as Member, new_members}
+use Rattle.vbr_slots.specs.views.Views.{TableView}
+use Rattle.vbr_set.specs.calls.Members.{MemberView as Member, new_members}
 use Rattle.vbr_handles.specs.Listings.{Listing, as_entries}
 use Rattle.vbr_handles.specs.OpeningReserves.{StartWithReserves}
 use Rattle.vbr_handles.specs.declared.entry.Entry.{Entry}

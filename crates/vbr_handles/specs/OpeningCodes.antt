@@ -2,7 +2,7 @@
 use Rattle.std.specs.Prelude.{◌≡◌, ℕ, ℤ, List, Option, Result}
 use Rattle.vbr_machine.specs.Start.{Start}
 use Rattle.vbr_slots.specs.declared.opening.TheConstants.{MAX_MANY_PASSES, MAX_PASSES}
-use Rattle.vbr_set.specs.Members.{MemberView as Member}
+use Rattle.vbr_set.specs.calls.Members.{MemberView as Member}
 use Rattle.vbr_handles.specs.Opening.{Opens}
 use Rattle.vbr_handles.specs.declared.handle.Handle.{Handle}
 use Rattle.vbr_handles.specs.declared.handle.MapHandle.{MapHandle}

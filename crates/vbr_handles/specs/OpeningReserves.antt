@@ -1,10 +1,10 @@
 -- What a handle takes in reserve when it is opened or renewed.
 use Rattle.std.specs.Prelude.{◌≡◌, ℕ, ◌/◌, nat_lt, Bool, true, false, List}
 use Rattle.std.specs.List.{AllZip}
-use Rattle.vbr_slots.specs.PassLaw.{PassLaw}
-use Rattle.vbr_slots.specs.Views.{TableView}
-use Rattle.vbr_at_table.specs.Reserving.{TopsUp}
-use Rattle.vbr_set.specs.Members.{MemberView as Member}
+use Rattle.vbr_slots.specs.steps.PassLaw.{PassLaw}
+use Rattle.vbr_slots.specs.views.Views.{TableView}
+use Rattle.vbr_at_table.specs.pools.Reserving.{TopsUp}
+use Rattle.vbr_set.specs.calls.Members.{MemberView as Member}
 use Rattle.vbr_handles.specs.ToppingUp.{reserve_of}
 use Rattle.vbr_handles.specs.declared.reserves.TheConstants.{SHARE}
 

@@ -1,6 +1,6 @@
 -- How many passes the set of a handle's member was opened with.
 use Rattle.std.specs.Prelude.{◌≡◌, ℕ, Option, IfSome}
-use Rattle.vbr_set.specs.Members.{MemberView as Member}
+use Rattle.vbr_set.specs.calls.Members.{MemberView as Member}
 
 -- the number is that of the passes that the set of the member was opened with, if there is a member
 abbrev pub IsPassCount : Option Member → ℕ → Type 0

@@ -1,7 +1,7 @@
 -- What a renewal of all handles tells as a number.
 use Rattle.std.specs.Prelude.{◌≡◌, ℤ, List, Option, Result}
-use Rattle.vbr_set.specs.Kinds.{KindOf, as_map, as_set}
-use Rattle.vbr_set.specs.Members.{MemberView as Member}
+use Rattle.vbr_set.specs.reports.Kinds.{KindOf, as_map, as_set}
+use Rattle.vbr_set.specs.calls.Members.{MemberView as Member}
 use Rattle.vbr_handles.specs.Codes.{renew_all_code}
 use Rattle.vbr_handles.specs.Listings.{Listing, as_entries, as_keys}
 use Rattle.vbr_handles.specs.RenewingAll.{RenewsAll}

@@ -1,11 +1,11 @@
 -- How all handles of a set or of a map go on over a fresh one.
 use Rattle.std.specs.Prelude.{List, Option, Result, Ok, Err}
 use Rattle.vbr_words.specs.Dimensions.{IsShape}
-use Rattle.vbr_set.specs.AllMembers.{ReportsAllBy}
-use Rattle.vbr_set.specs.Closing.{ClosesBy}
-use Rattle.vbr_set.specs.Kinds.{KindOf}
-use Rattle.vbr_set.specs.Members.{MemberView as Member}
-use Rattle.vbr_set.specs.RenewingAll.{AreNotAll, HasNoRoom, HasRoom}
+use Rattle.vbr_set.specs.members.AllMembers.{ReportsAllBy}
+use Rattle.vbr_set.specs.reports.Closing.{ClosesBy}
+use Rattle.vbr_set.specs.reports.Kinds.{KindOf}
+use Rattle.vbr_set.specs.calls.Members.{MemberView as Member}
+use Rattle.vbr_set.specs.renewals.RenewingAll.{AreNotAll, HasNoRoom, HasRoom}
 use Rattle.vbr_handles.specs.AllHandles.{AreFull, StaySo, members_by}
 use Rattle.vbr_handles.specs.Listings.{Listing}
 use Rattle.vbr_handles.specs.Opening.{AreOpened, listed_start, spread_shape}

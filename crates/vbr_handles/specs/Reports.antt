@@ -1,10 +1,10 @@
 -- What a close of a handle, or a report by all, tells as a number, and writes of the report.
 use Rattle.std.specs.Prelude.{◌≡◌, ℤ, ℕ, List, ◌++◌, length, drop, Option, None, Some, Result, Ok, Err}
-use Rattle.vbr_slots.specs.Views.{PassView, TableView}
-use Rattle.vbr_set.specs.Closing.{Closes, MapCloses}
-use Rattle.vbr_set.specs.EntrySlots.{ClosesWithSlots}
-use Rattle.vbr_set.specs.Kinds.{KindOf, as_map, as_set}
-use Rattle.vbr_set.specs.Members.{MemberView as Member}
+use Rattle.vbr_slots.specs.views.Views.{PassView, TableView}
+use Rattle.vbr_set.specs.reports.Closing.{Closes, MapCloses}
+use Rattle.vbr_set.specs.reports.EntrySlots.{ClosesWithSlots}
+use Rattle.vbr_set.specs.reports.Kinds.{KindOf, as_map, as_set}
+use Rattle.vbr_set.specs.calls.Members.{MemberView as Member}
 use Rattle.vbr_set.specs.declared.report_with_slots.ReportWithSlots.{ReportWithSlots}
 use Rattle.vbr_handles.specs.AllHandles.{ClosesAll, ReportsAllOf}
 use Rattle.vbr_handles.specs.Closing.{ClosesAs}

@@ -1,7 +1,7 @@
 -- What a handle tells that takes slots in reserve.
 use Rattle.std.specs.Prelude.{◌≡◌, ℕ, Option, None, Some}
-use Rattle.vbr_at_table.specs.Reserving.{Reserves}
-use Rattle.vbr_set.specs.Members.{MemberView as Member}
+use Rattle.vbr_at_table.specs.pools.Reserving.{Reserves}
+use Rattle.vbr_set.specs.calls.Members.{MemberView as Member}
 
 -- so many slots were taken: none by an empty handle, which stays so, and those that the pass of a full one took, of which so many are wanted
 abbrev pub TellsReserve : Option Member → Option Member → ℕ → ℕ → Type 0

@@ -1,9 +1,9 @@
 -- What a handle shows without a call: numbers of its set and of its pass, each 0 where it is empty.
 use Rattle.std.specs.Prelude.{◌≡◌, ℕ, ◌<◌, ◌^◌, ℤ, pos, Option, None, Some}
 use Rattle.vbr_words.specs.Buckets.{multiplier_of}
-use Rattle.vbr_slots.specs.Views.{knows}
-use Rattle.vbr_set.specs.Balances.{balance_of}
-use Rattle.vbr_set.specs.Members.{MemberView as Member}
+use Rattle.vbr_slots.specs.views.Views.{knows}
+use Rattle.vbr_set.specs.members.Balances.{balance_of}
+use Rattle.vbr_set.specs.calls.Members.{MemberView as Member}
 
 -- the last epoch that the pass read, which is 1 where it read none
 abbrev pub epoch_of_handle : Option Member → ℕ

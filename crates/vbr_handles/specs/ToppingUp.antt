@@ -1,13 +1,13 @@
 -- What handles keep in reserve by themselves: a call that adds a key takes slots up to that, where some are lacking and its budget has room.
 use Rattle.std.specs.Prelude.{◌≡◌, ℕ, ◌+◌, ◌-◌, ◌/◌, ◌^◌, ◌&&◌, length, nat_lt, if◌then◌else◌, min, Bool, true, false, Option, None, Some, Result, Ok, Err}
-use Rattle.vbr_slots.specs.PassLaw.{PassLaw}
-use Rattle.vbr_slots.specs.Views.{TableView, Trace, counted_steps, steps_of}
-use Rattle.vbr_at_table.specs.Reserving.{TopsUp}
-use Rattle.vbr_at_table.specs.WithinBudget.{TookWithin}
+use Rattle.vbr_slots.specs.steps.PassLaw.{PassLaw}
+use Rattle.vbr_slots.specs.views.Views.{TableView, Trace, counted_steps, steps_of}
+use Rattle.vbr_at_table.specs.pools.Reserving.{TopsUp}
+use Rattle.vbr_at_table.specs.costs.WithinBudget.{TookWithin}
 use Rattle.vbr_at_table.specs.declared.refusal.Refusal.{Refusal}
-use Rattle.vbr_set.specs.Members.{MemberView as Member}
+use Rattle.vbr_set.specs.calls.Members.{MemberView as Member}
 use Rattle.vbr_handles.specs.AmpleBudgets.{budget_of}
-use Rattle.vbr_handles.specs.declared.numbers.topping_up.TheConstants.{MOST, PARTS}
+use Rattle.vbr_handles.specs.declared.coded_calls.topping_up.TheConstants.{MOST, PARTS}
 
 -- how many slots a handle of a set or a map keeps in reserve: 32, or an eighth of its share of the slots where that is less
 abbrev pub reserve_of : TableView → ℕ

@@ -1,9 +1,9 @@
 -- What a call that gives something, a value, a key or an entry, tells through a handle.
 use Rattle.std.specs.Prelude.{◌≡◌, ℕ, ℤ, Option, None, Some, Result, Ok, Err}
-use Rattle.vbr_list.specs.Told.{is_yes}
+use Rattle.vbr_list.specs.calls.Told.{is_yes}
 use Rattle.vbr_at_table.specs.declared.refusal.Refusal.{Refusal}
-use Rattle.vbr_set.specs.MapCalls.{ExchangesEntry, GetsEntry, GetsOrInsertsEntry, PutsEntry, RemovesEntry, RemovesIf, ReplacesEntry}
-use Rattle.vbr_set.specs.Members.{MemberView as Member}
+use Rattle.vbr_set.specs.calls.MapCalls.{ExchangesEntry, GetsEntry, GetsOrInsertsEntry, PutsEntry, RemovesEntry, RemovesIf, ReplacesEntry}
+use Rattle.vbr_set.specs.calls.Members.{MemberView as Member}
 use Rattle.vbr_handles.specs.AmpleBudgets.{budget_of}
 use Rattle.vbr_handles.specs.Codes.{call_code, empty_code, exchange_code}
 use Rattle.vbr_handles.specs.Calls.{RefusesHeld, UnlessHeld}

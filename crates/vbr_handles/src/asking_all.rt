@@ -1,8 +1,8 @@
 //! What is asked of all members of handles at once, while none of them makes a call.
 ghost use Rattle.std.specs.Prelude.{◌≡◌, ◌≤◌, [], true, false, length, map, None, Some, IfSome, IsSome};
 ghost use Rattle.std.specs.Vec.{vec_capacity};
-ghost use Rattle.vbr_set.specs.AllMembers.{AreOfOneSet};
-ghost use Rattle.vbr_set.specs.BalanceSums.{added_balances};
+ghost use Rattle.vbr_set.specs.members.AllMembers.{AreOfOneSet};
+ghost use Rattle.vbr_set.specs.members.BalanceSums.{added_balances};
 ghost use Rattle.vbr_handles.specs.AllHandles.{AreFull, members_by};
 ghost use Rattle.vbr_handles.specs.AskingAll.{AsksAllOf, Lack, AnswersQuestion};
 

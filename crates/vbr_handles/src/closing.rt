@@ -1,9 +1,9 @@
 //! Closing handles, one after another.
 ghost use Rattle.std.specs.Prelude.{◌≡◌, None};
-ghost use Rattle.vbr_set.specs.Closing.{ClosesBy};
+ghost use Rattle.vbr_set.specs.reports.Closing.{ClosesBy};
 ghost use Rattle.vbr_handles.specs.Closing.{ClosesAs};
 
-use crate::listed::Listed;
+use crate::items::Listed;
 use crate::owner::Owner;
 use std::alloc::Global;
 use vbr_set::member::Member;
@@ -29,7 +29,7 @@ pub enum CloseRefusal<R = Report> {
 /// full the answer is None; the last one gets what is in the set, where there is room for so many
 /// keys, and the set ends. So it is of a map, whose report has entries.
 ///
-/// As [`Member::report_last`] it gives no slots back: [`crate::numbers::giving_back::close`] does so before.
+/// As [`Member::report_last`] it gives no slots back: [`crate::coded_calls::giving_slots_back::close`] does so before.
 pub fn close<N: Kind, I: Listed<N>>(
     alloc: Global,
     owner: &mut Owner<Member<N>>,

@@ -1,15 +1,15 @@
 //! All handles of a set at once: their report, and their close.
 ghost use Rattle.std.specs.Prelude.{◌≡◌, None, map};
-ghost use Rattle.vbr_set.specs.AllMembers.{AreOfOneSet};
-ghost use Rattle.vbr_set.specs.Closing.{ClosesBy};
+ghost use Rattle.vbr_set.specs.members.AllMembers.{AreOfOneSet};
+ghost use Rattle.vbr_set.specs.reports.Closing.{ClosesBy};
 ghost use Rattle.vbr_handles.specs.AllHandles.{ClosesAll, ReportsAllOf, members_by};
-ghost use Rattle.vbr_set.specs.EntrySlots.{ClosesWithSlots};
+ghost use Rattle.vbr_set.specs.reports.EntrySlots.{ClosesWithSlots};
 ghost use Rattle.vbr_handles.specs.Listings.{with_slots};
 ghost use Rattle.vbr_handles.specs.Opening.{AreEmpty};
 
 use crate::asking_all::{Answer, AskRefusal, Question, ask_all};
 use crate::handle_of::HandleOf;
-use crate::listed::Listed;
+use crate::items::Listed;
 use crate::owner::Owner;
 use std::alloc::Global;
 use vbr_set::member::Member;

@@ -4,7 +4,7 @@ ghost use Rattle.vbr_handles.specs.Listings.{as_entries, as_pair};
 ghost use Rattle.vbr_handles.specs.ListedKeys.{as_many_entries, each_key_of_entries, entries_restart, same_keys_of_entries};
 
 use crate::entry::Entry;
-use crate::listed::Listed;
+use crate::items::Listed;
 use crate::report_numbers::ReportNumbers;
 use std::alloc::{AllocError, Global};
 use vbr_set::{MapMember, MapReport, OpenManyError};

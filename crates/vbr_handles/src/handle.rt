@@ -1,6 +1,6 @@
 //! A handle as C has it: the owner of a member, which C never copies, and the budget of its calls.
 ghost use Rattle.std.specs.Prelude.{Option};
-ghost use Rattle.vbr_set.specs.Members.{MemberView as Member};
+ghost use Rattle.vbr_set.specs.calls.Members.{MemberView as Member};
 ghost use Rattle.vbr_handles.specs.MemberRows.{map_member_coded, map_row, member_coded, set_row};
 ghost use Rattle.vbr_handles.specs.Owners.{owner_owns};
 

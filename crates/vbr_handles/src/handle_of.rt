@@ -1,6 +1,6 @@
 //! What a handle does, whether it is one of a set or of a map.
 ghost use Rattle.std.specs.Prelude.{◌≡◌, true, false, ℕ, Option, None, IsSome};
-ghost use Rattle.vbr_set.specs.Members.{MemberView};
+ghost use Rattle.vbr_set.specs.calls.Members.{MemberView};
 ghost use Rattle.vbr_handles.specs.Passes.{IsPassCount};
 ghost use Rattle.vbr_handles.specs.Shown.{balance_shown};
 

@@ -2,7 +2,7 @@
 ghost use Rattle.vbr_handles.specs.Listings.{as_keys};
 ghost use Rattle.vbr_handles.specs.ListedKeys.{as_many_listed, each_key, keys_restart, same_keys_listed};
 
-use crate::listed::Listed;
+use crate::items::Listed;
 use crate::report_numbers::ReportNumbers;
 use std::alloc::Global;
 use vbr_set::{Member, OpenManyError, Report};

@@ -7,10 +7,13 @@
 //! ([`Listed`]) has entries in place of keys where it is a map.
 #![tactic(auto)]
 
+pub mod accessors;
 mod ample;
 pub mod asking_all;
+mod box_parts;
 pub mod closing;
 pub mod closing_all;
+pub mod coded_calls;
 mod entries;
 pub mod entry;
 pub mod found;
@@ -18,18 +21,15 @@ pub mod handle;
 pub mod handle_of;
 pub mod handle_owners;
 pub mod incarnation;
+pub mod items;
 mod keys;
-pub mod lends;
-pub mod listed;
-pub mod numbers;
+pub mod lent_member;
 pub mod opening;
 pub mod owner;
-mod parts;
 pub mod progress;
 pub mod renewing_all;
 pub mod report_numbers;
 pub mod reserves;
-pub mod shown;
 
 pub use ample::AMPLE_STEPS;
 pub use asking_all::AskRefusal;
@@ -40,7 +40,7 @@ pub use found::Found;
 pub use handle::{Handle, MapHandle};
 pub use handle_of::HandleOf;
 pub use incarnation::Incarnation;
-pub use listed::Listed;
+pub use items::Listed;
 pub use opening::{OpenRefusal, ShapeNumbers, open_many, open_with};
 pub use owner::Owner;
 pub use renewing_all::{RenewAllRefusal, renew_all};

@@ -5,7 +5,7 @@ ghost use Rattle.vbr_slots.specs.declared.opening.TheConstants.{MAX_MANY_PASSES,
 ghost use Rattle.vbr_handles.specs.Opening.{AreEmpty, Opens, listed_start, spread_shape};
 
 use crate::handle_of::HandleOf;
-use crate::listed::Listed;
+use crate::items::Listed;
 use crate::owner::Owner;
 use crate::reserves::with_reserves;
 use std::alloc::{AllocError, Global};

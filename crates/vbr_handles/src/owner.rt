@@ -3,7 +3,7 @@ ghost use Rattle.std.specs.Prelude.{◌≡◌, Option, None, Some, IfSome, IsSom
 ghost use Rattle.std.specs.Coded.{coded_option};
 ghost use Rattle.vbr_handles.specs.Owners.{owner_owns};
 
-use crate::parts::Parts;
+use crate::box_parts::Parts;
 use std::alloc::Global;
 use std::marker::Model;
 use std::mem::replace;

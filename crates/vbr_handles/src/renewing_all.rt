@@ -1,12 +1,12 @@
 //! All handles of a set at once go on over a fresh one.
 ghost use Rattle.std.specs.Prelude.{◌≡◌, map};
-ghost use Rattle.vbr_set.specs.AllMembers.{AreOfOneSet};
+ghost use Rattle.vbr_set.specs.members.AllMembers.{AreOfOneSet};
 ghost use Rattle.vbr_handles.specs.AllHandles.{members_by};
 ghost use Rattle.vbr_handles.specs.RenewingAll.{RenewsAll};
 
 use crate::asking_all::{Answer, AskRefusal, Question, ask_all};
 use crate::handle_of::HandleOf;
-use crate::listed::Listed;
+use crate::items::Listed;
 use crate::opening::ShapeNumbers;
 use std::alloc::Global;
 use vbr_set::Kind;

@@ -2,7 +2,7 @@
 ghost use Rattle.std.specs.Prelude.{◌≡◌};
 ghost use Rattle.vbr_handles.specs.OpeningReserves.{StartWithReserves, StartsWithReserve, is_small};
 
-use crate::numbers::topping_up::reserve_of;
+use crate::coded_calls::topping_up::reserve_of;
 use vbr_set::member::Member;
 use vbr_words::Nodes;
 

@@ -1,52 +1,20 @@
+-- What proofs of this crate name of std and of the crates below it, from one place.
 mod Names
-mod WideWords
-mod Traversals
-mod EntryAnswers
-mod Publishing
-mod ReplacedEntries
-mod OtherEntries
-mod Going
-mod KeptHands
-mod Reaching
-mod Moments
-mod Clearing
-mod Sweeping
-mod Observing
-mod Disturbing
-mod Visits
-mod LostAnswers
-mod Walking
-mod LostWalks
-mod Passing
-mod Sights
-mod SeenEntries
-mod Following
-mod Cursors
-mod GoingOver
-mod ComingBy
-mod ListedLater
-mod Preparing
-mod Sufficing
-mod Tiring
-mod LonePasses
-mod Told
-mod Expected
-mod Marks
-mod ValueReads
-mod Marking
-mod AnsweredRemoves
-mod RemovedEntries
-mod ReadFirst
-mod FoundValues
-mod Stores
-mod Wants
-mod Settled
-mod SettledSoon
-mod Linking
-mod HeldCosts
-mod HeldInserts
-mod HeldSlots
-mod Inserts
-mod LateSearches
-mod StoredValues
+-- The pieces of a call, one after another: what they add up to, and what they keep.
+mod pieces
+-- Walks along a bucket: from place to place, whatever others do meanwhile.
+mod walks
+-- Entries that are named by where they stand: whether they were in the map, and when.
+mod named_entries
+-- Look-ups and gets: walks of loads alone, and values that are read.
+mod look_ups
+-- Iterations: cursors go from key to key, and from bucket to bucket.
+mod iterations
+-- Inserts, by a slot that they take or that is in hand already.
+mod inserts
+-- Removes: the mark, and what the answer promises.
+mod removes
+-- Stores: what they find, and what they leave.
+mod stores
+-- The lemmas that other crates cite.
 pub mod Lemmas

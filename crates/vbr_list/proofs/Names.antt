@@ -27,8 +27,8 @@ pub use Rattle.vbr_words.proofs.Lemmas.{bucket_of-lt, word_of-link_of}
 pub use Rattle.vbr_machine.specs.Acceptance.{IsInHand, IsUnlinked}
 pub use Rattle.vbr_machine.specs.Accounts.{incarnations_after, own_entries}
 pub use Rattle.vbr_machine.specs.Agreement.{IsHeldIncarnation}
-pub use Rattle.vbr_machine.specs.Calls.{calls_added, own_calls}
-pub use Rattle.vbr_machine.specs.Disturbances.{disturbances, HasVisited, IsAhead, IsOpenIn, met, own_changes}
+pub use Rattle.vbr_machine.specs.Calls.{own_calls}
+pub use Rattle.vbr_machine.specs.Disturbances.{disturbances, IsOpenIn, met, own_changes}
 pub use Rattle.vbr_machine.specs.History.{calls_by, GiveStored, GivesValue, IsLegal, keys_after, Payloads}
 pub use Rattle.vbr_machine.specs.History.{payloads_after, reply_of, set_after, set_call, values_after}
 pub use Rattle.vbr_machine.specs.Images.{link_shown_at}
@@ -54,7 +54,7 @@ pub use Rattle.vbr_machine.specs.declared.knowledge.Holding.{Holding}
 pub use Rattle.vbr_machine.specs.declared.knowledge.Holding.TheVariants.{Free}
 pub use Rattle.vbr_machine.specs.declared.knowledge.Read.TheVariants.{KeyOf, LinkAt}
 pub use Rattle.vbr_machine.proofs.Lemmas.{added_own, AdvancesNone, ahead_few, begins_refl, begins_run, begins_trans}
-pub use Rattle.vbr_machine.proofs.Lemmas.{calls_after, calls_by-append, changed_disturbed, disturbances_grow}
+pub use Rattle.vbr_machine.proofs.Lemmas.{IsAhead, calls_after, calls_by-append, changed_disturbed, disturbances_grow}
 pub use Rattle.vbr_machine.proofs.Lemmas.{disturbances_paid, every_run, found_left, has_key, head_visited, held_key}
 pub use Rattle.vbr_machine.proofs.Lemmas.{held_on, inserts_in, inserts_in-remove, inserts_in-two, IsAdvance, known_open}
 pub use Rattle.vbr_machine.proofs.Lemmas.{left_on, left_since, link_loaded, marked_fewer, marked_left, met_bound_made}
@@ -63,43 +63,44 @@ pub use Rattle.vbr_machine.proofs.Lemmas.{moved_disturbed, next_visited, none_ma
 pub use Rattle.vbr_machine.proofs.Lemmas.{none_marked_skipped, one_key, out_on, own_between, own_unchanged, passed_left}
 pub use Rattle.vbr_machine.proofs.Lemmas.{put_here, put_other, removed_on, replaced_earlier, replaced_later, run_agrees}
 pub use Rattle.vbr_machine.proofs.Lemmas.{shown_there, since, skipped_left, undisturbed_by_itself, undisturbed_shown}
-pub use Rattle.vbr_machine.proofs.Lemmas.{unmarked_open, visited_few, visited_on}
-pub use Rattle.vbr_slots.specs.Alone.{ahead, IsAlone, IsFresh, nodes, OnlyEventsOf}
-pub use Rattle.vbr_slots.specs.AtTables.{IsSameTable}
-pub use Rattle.vbr_slots.specs.Calls.{AddsAnswer, AddsNone, IsSame, Made, made_by, OnlyLoads, Quiet, Took}
-pub use Rattle.vbr_slots.specs.PassLaw.{PassLaw}
-pub use Rattle.vbr_slots.specs.Pools.{OwnPool}
-pub use Rattle.vbr_slots.specs.Views.{IsOf, knows, PassView, TableView, Trace}
+pub use Rattle.vbr_machine.proofs.Lemmas.{HasVisited, unmarked_open, visited_few, visited_on}
+pub use Rattle.vbr_slots.specs.steps.Alone.{ahead, IsAlone, IsFresh, nodes, OnlyEventsOf}
+pub use Rattle.vbr_slots.specs.steps.AtTables.{IsSameTable}
+pub use Rattle.vbr_slots.specs.steps.Calls.{AddsAnswer, AddsNone, IsSame, Made, made_by, OnlyLoads, Quiet, Took}
+pub use Rattle.vbr_slots.specs.steps.PassLaw.{PassLaw}
+pub use Rattle.vbr_slots.specs.pools.Pools.{OwnPool}
+pub use Rattle.vbr_slots.specs.views.Views.{IsOf, knows, PassView, TableView, Trace}
 pub use Rattle.vbr_slots.specs.declared.at_table.AtTable.{AtTable}
 pub use Rattle.vbr_slots.specs.declared.pass.TheConstants.{POOL}
 pub use Rattle.vbr_slots.proofs.Lemmas.{adds_on, adds_refl, alone_first, alone_then, answer_on, loads_on, loads_refl}
 pub use Rattle.vbr_slots.proofs.Lemmas.{made_on, made_then, moment_after, moment_before, quiet_adds_none, quiet_on}
 pub use Rattle.vbr_slots.proofs.Lemmas.{quiet_refl, same_on, same_refl}
-pub use Rattle.vbr_at_table.specs.Advances.{AdvancesWhereNeeded}
-pub use Rattle.vbr_at_table.specs.WonAlone.{StandsNow}
-pub use Rattle.vbr_at_table.specs.Answering.{FindsAnother, KeepsIn}
-pub use Rattle.vbr_at_table.specs.Budgets.{most_to_take, most_to_take_among, steps_to_take_among}
-pub use Rattle.vbr_at_table.specs.StepCosts.{next_steps, steps_to_birth}
-pub use Rattle.vbr_at_table.specs.StepKinds.{advances, ChangesNone, is_advance}
-pub use Rattle.vbr_at_table.specs.Exchanges.{IsGap, IsUnmarked}
-pub use Rattle.vbr_at_table.specs.Gained.{gained}
-pub use Rattle.vbr_at_table.specs.GivingBack.{PutsBack}
-pub use Rattle.vbr_at_table.specs.Hands.{HandView}
-pub use Rattle.vbr_at_table.specs.Held.{held_of, HoldsMarked, IsHeld, IsSlot, IsSucc, Names}
-pub use Rattle.vbr_at_table.specs.KeptKnowledge.{Keeps, KeepsOwn, KeepsUnlinked}
-pub use Rattle.vbr_at_table.specs.KeptSlots.{HasAllButOne, HasStill, HasUnpublished, KeepsSlots, SharesWhereFull}
-pub use Rattle.vbr_at_table.specs.KeptSlots.{StaysInTurn, TakesNoSlot, TriesNoFlag, TriesOnlyWhere, TriesWhereEmpty}
-pub use Rattle.vbr_at_table.specs.KeptSlots.{WinsInNeed}
-pub use Rattle.vbr_at_table.specs.DecidedKeys.{DecidesKey}
-pub use Rattle.vbr_at_table.specs.Marks.{LeavesOthers}
-pub use Rattle.vbr_at_table.specs.Moments.{IsNext, IsRead, Stood, WasEntry, WasSo}
-pub use Rattle.vbr_at_table.specs.Reading.{IsHeadRead, IsKeyRead, ReadsIn, RollsBack}
-pub use Rattle.vbr_at_table.specs.Refusals.{IsSpent, LeavesRoom, RefusesTake}
-pub use Rattle.vbr_at_table.specs.Replacing.{MadeTwo}
-pub use Rattle.vbr_at_table.specs.Retiring.{is_kept, know_retired, pool_retired, StampsFreshly}
-pub use Rattle.vbr_at_table.specs.Rollbacks.{FreshIfMoved, IsLost, IsMovedOrLost}
-pub use Rattle.vbr_at_table.specs.WithinBudget.{CountsSteps, TookWithin}
-pub use Rattle.vbr_at_table.specs.Values.{entry_call, steps_to_update, steps_to_value, ValueAt}
+pub use Rattle.vbr_at_table.specs.costs.Advances.{AdvancesWhereNeeded}
+pub use Rattle.vbr_at_table.specs.answers.WonAlone.{StandsNow}
+pub use Rattle.vbr_at_table.specs.answers.Answering.{FindsAnother, KeepsIn}
+pub use Rattle.vbr_at_table.specs.costs.Budgets.{most_to_take, most_to_take_among, steps_to_take_among}
+pub use Rattle.vbr_at_table.specs.costs.StepCosts.{next_steps, steps_to_birth}
+pub use Rattle.vbr_at_table.specs.costs.StepKinds.{advances, ChangesNone, is_advance}
+pub use Rattle.vbr_at_table.specs.answers.Exchanges.{IsGap, IsUnmarked}
+pub use Rattle.vbr_at_table.specs.costs.Gained.{gained}
+pub use Rattle.vbr_at_table.specs.pools.GivingBack.{PutsBack}
+pub use Rattle.vbr_at_table.specs.hands.Hands.{HandView}
+pub use Rattle.vbr_at_table.specs.reads.Held.{held_of, HoldsMarked, IsHeld, IsSlot, IsSucc, Names}
+pub use Rattle.vbr_at_table.specs.reads.KeptKnowledge.{Keeps, KeepsOwn, KeepsUnlinked}
+pub use Rattle.vbr_at_table.specs.hands.KeptSlots.{HasAllButOne, HasStill, HasUnpublished, KeepsSlots, SharesWhereFull}
+pub use Rattle.vbr_at_table.specs.hands.KeptSlots.{StaysInTurn, TakesNoSlot, TriesNoFlag, TriesOnlyWhere}
+pub use Rattle.vbr_at_table.specs.hands.KeptSlots.{TriesWhereEmpty}
+pub use Rattle.vbr_at_table.specs.hands.KeptSlots.{WinsInNeed}
+pub use Rattle.vbr_at_table.specs.reads.DecidedKeys.{DecidesKey}
+pub use Rattle.vbr_at_table.specs.answers.Marks.{LeavesOthers}
+pub use Rattle.vbr_at_table.specs.reads.Moments.{IsNext, IsRead, Stood, WasEntry, WasSo}
+pub use Rattle.vbr_at_table.specs.reads.Reading.{IsHeadRead, IsKeyRead, ReadsIn, RollsBack}
+pub use Rattle.vbr_at_table.specs.pools.Refusals.{IsSpent, LeavesRoom, RefusesTake}
+pub use Rattle.vbr_at_table.specs.answers.Replacing.{MadeTwo}
+pub use Rattle.vbr_at_table.specs.pools.Retiring.{is_kept, know_retired, pool_retired, StampsFreshly}
+pub use Rattle.vbr_at_table.specs.reads.Rollbacks.{FreshIfMoved, IsLost, IsMovedOrLost}
+pub use Rattle.vbr_at_table.specs.costs.WithinBudget.{CountsSteps, TookWithin}
+pub use Rattle.vbr_at_table.specs.answers.Values.{entry_call, steps_to_update, steps_to_value, ValueAt}
 pub use Rattle.vbr_at_table.specs.declared.budget.TheConstants.{PIECE}
 pub use Rattle.vbr_at_table.specs.declared.held.Held.{Held}
 pub use Rattle.vbr_at_table.specs.declared.held.Marked.{Marked}
@@ -117,3 +118,4 @@ pub use Rattle.vbr_at_table.proofs.Lemmas.{replaced_since, shared_on}
 pub use Rattle.vbr_at_table.proofs.Lemmas.{shared_taken, shares_more, slots_kept_on, some_grown, stood_after}
 pub use Rattle.vbr_at_table.proofs.Lemmas.{stood_before, took_all, two_before, two_on, unchanged_by_none, unlinks_none}
 pub use Rattle.vbr_at_table.proofs.Lemmas.{value_on, was_absent, was_absent_on, was_entry, was_present}
+pub use Rattle.vbr_machine.proofs.Lemmas.{calls_added}

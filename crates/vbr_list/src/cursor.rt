@@ -1,6 +1,6 @@
 //! Where an iteration over all keys stands.
 ghost use Rattle.std.specs.Prelude.{◌≡◌, ◌+◌, ◌<◌, ◌^◌, true, false};
-ghost use Rattle.vbr_list.specs.Cursors.{IsBehindKey, first_cursor, next_bucket};
+ghost use Rattle.vbr_list.specs.look_ups.Cursors.{IsBehindKey, first_cursor, next_bucket};
 
 use crate::seeking::NextNode;
 

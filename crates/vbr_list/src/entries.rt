@@ -1,14 +1,14 @@
 //! Entries that outlast the call that found them.
 ghost use Rattle.std.specs.Prelude.{◌≡◌, ◌≤◌, ◌<◌, ◌+◌, false, true, None, IfOk, IfErr, Some};
-ghost use Rattle.vbr_at_table.specs.Held.{IsSlot};
-ghost use Rattle.vbr_at_table.specs.Reading.{ReadsIn};
-ghost use Rattle.vbr_list.specs.Entries.{EntryAnswers, FindsNamedEntry, GetsNamedEntry, TellsStill, entry_of, steps_to_ask, HasNamedEntry, without_value};
-ghost use Rattle.vbr_list.specs.LookUpPieces.{IsSightFor, LookUpRollsBack, IsAskedOf, steps_to_answer};
-ghost use Rattle.vbr_list.specs.OtherEntries.{IsNodeOf};
-ghost use Rattle.vbr_list.specs.Pieces.{HasRoomForPiece, Settles, trace_in};
-ghost use Rattle.vbr_slots.specs.Calls.{OnlyLoads, Took};
-ghost use Rattle.vbr_slots.specs.Views.{IsOf};
-ghost use Rattle.vbr_list.specs.Words.{wide_sight};
+ghost use Rattle.vbr_at_table.specs.reads.Held.{IsSlot};
+ghost use Rattle.vbr_at_table.specs.reads.Reading.{ReadsIn};
+ghost use Rattle.vbr_list.specs.named_entries.Entries.{EntryAnswers, FindsNamedEntry, GetsNamedEntry, TellsStill, entry_of, steps_to_ask, HasNamedEntry, without_value};
+ghost use Rattle.vbr_list.specs.look_ups.LookUpPieces.{IsSightFor, LookUpRollsBack, IsAskedOf, steps_to_answer};
+ghost use Rattle.vbr_list.specs.named_entries.OtherEntries.{IsNodeOf};
+ghost use Rattle.vbr_list.specs.calls.Pieces.{HasRoomForPiece, Settles, trace_in};
+ghost use Rattle.vbr_slots.specs.steps.Calls.{OnlyLoads, Took};
+ghost use Rattle.vbr_slots.specs.views.Views.{IsOf};
+ghost use Rattle.vbr_list.specs.calls.Words.{wide_sight};
 
 use crate::call::{PendingCall, begin};
 use crate::found::Found;

@@ -1,12 +1,12 @@
 //! Finding where a key stands.
 ghost use Rattle.std.specs.Prelude.{◌≡◌, None, IfOk, IfErr, IfSome, IfNone};
-ghost use Rattle.vbr_slots.specs.Calls.{Took};
-ghost use Rattle.vbr_slots.specs.Views.{IsOf};
-ghost use Rattle.vbr_at_table.specs.KeptSlots.{TakesNoSlot};
-ghost use Rattle.vbr_list.specs.Found.{FindGivesUp, FindsIn};
-ghost use Rattle.vbr_list.specs.Pieces.{GoesOn, HasRoomForPiece};
-ghost use Rattle.vbr_list.specs.Traversing.{SearchFinds, SearchTires};
-ghost use Rattle.vbr_list.specs.Words.{wide_found, said_found};
+ghost use Rattle.vbr_slots.specs.steps.Calls.{Took};
+ghost use Rattle.vbr_slots.specs.views.Views.{IsOf};
+ghost use Rattle.vbr_at_table.specs.hands.KeptSlots.{TakesNoSlot};
+ghost use Rattle.vbr_list.specs.walks.Found.{FindGivesUp, FindsIn};
+ghost use Rattle.vbr_list.specs.calls.Pieces.{GoesOn, HasRoomForPiece};
+ghost use Rattle.vbr_list.specs.walks.Traversing.{SearchFinds, SearchTires};
+ghost use Rattle.vbr_list.specs.calls.Words.{wide_found, said_found};
 
 use crate::call::{PendingCall, begin};
 use crate::found::Found;

@@ -1,21 +1,21 @@
 //! Inserts by a slot that the pass has in hand already.
 ghost use Rattle.std.specs.Prelude.{◌≡◌, false, true, IfOk, IfErr, None};
-ghost use Rattle.vbr_at_table.specs.GivingBack.{PutsBack};
-ghost use Rattle.vbr_at_table.specs.KeptSlots.{TakesNoSlot};
-ghost use Rattle.vbr_at_table.specs.Refusals.{RefusesTake};
-ghost use Rattle.vbr_at_table.specs.Taking.{Takes};
-ghost use Rattle.vbr_list.specs.Holding.{FoundWithValue, HoldsSlot, InsertsHeld, KeepsHeld, LinksHeld};
-ghost use Rattle.vbr_list.specs.Holding.{KeepsUnreplaced, LeavesInHand, ReplacesByHand, ReplacesFor};
-ghost use Rattle.vbr_list.specs.Holding.{KeepsUnput, PutsHeld, ReplacesHeldEntry, StoresByHand, StoresFor};
-ghost use Rattle.vbr_list.specs.Inserting.{CountsWithin, HasHandAndRoom};
-ghost use Rattle.vbr_list.specs.Pieces.{HasRoomForPiece, IsSameCall, pass_in, trace_in};
-ghost use Rattle.vbr_list.specs.Replacing.{HasUnused};
-ghost use Rattle.vbr_list.specs.Settling.{HasHandForValue, MaySettle};
-ghost use Rattle.vbr_list.specs.Telling.{KnowsThere};
-ghost use Rattle.vbr_list.specs.Traversing.{LocatesFor};
-ghost use Rattle.vbr_slots.specs.Calls.{Took};
-ghost use Rattle.vbr_slots.specs.Views.{IsOf};
-ghost use Rattle.vbr_list.specs.Words.{wide_found};
+ghost use Rattle.vbr_at_table.specs.pools.GivingBack.{PutsBack};
+ghost use Rattle.vbr_at_table.specs.hands.KeptSlots.{TakesNoSlot};
+ghost use Rattle.vbr_at_table.specs.pools.Refusals.{RefusesTake};
+ghost use Rattle.vbr_at_table.specs.pools.Taking.{Takes};
+ghost use Rattle.vbr_list.specs.updates.Holding.{FoundWithValue, HoldsSlot, answer_unpublished, InsertsHeld, KeepsHeld, LinksHeld};
+ghost use Rattle.vbr_list.specs.updates.Holding.{KeepsUnreplaced, LeavesInHand, ReplacesByHand, ReplacesFor};
+ghost use Rattle.vbr_list.specs.updates.Holding.{KeepsUnput, PutsHeld, ReplacesHeldEntry, StoresByHand, StoresFor};
+ghost use Rattle.vbr_list.specs.updates.Inserting.{CountsWithin, HasHandAndRoom};
+ghost use Rattle.vbr_list.specs.calls.Pieces.{HasRoomForPiece, IsSameCall, pass_in, trace_in};
+ghost use Rattle.vbr_list.specs.updates.Replacing.{HasUnused};
+ghost use Rattle.vbr_list.specs.updates.Settling.{HasHandForValue, MaySettle};
+ghost use Rattle.vbr_list.specs.look_ups.Telling.{KnowsThere};
+ghost use Rattle.vbr_list.specs.walks.Traversing.{LocatesFor};
+ghost use Rattle.vbr_slots.specs.steps.Calls.{Took};
+ghost use Rattle.vbr_slots.specs.views.Views.{IsOf};
+ghost use Rattle.vbr_list.specs.calls.Words.{wide_found};
 
 use crate::call::{PendingCall, begin};
 use crate::entries::{Entry, is_node_of};
@@ -35,6 +35,19 @@ pub enum StillInHand {
         /// The steps that were made.
         used: u32,
     },
+}
+
+impl StillInHand {
+    // The answer of an insert whose slot wasn't published.
+    #[inline(always)]
+    pub(crate) fn answer(self) -> Result<bool, Refusal>
+        ensures { result ≡ answer_unpublished self }
+    {
+        match self {
+            StillInHand::Present => Ok(false),
+            StillInHand::OutOfSteps { used } => Err(Refusal::OutOfSteps { used }),
+        }
+    }
 }
 
 /// Takes a slot in hand, in at most `budget` steps: it is born in then, and in the hand of this pass alone
@@ -95,7 +108,7 @@ impl<N: Nodes> PendingCall<'_, N> {
         ensures replaced { IfOk result
             (ReplacesByHand value self.old self.new hand (wide_found self.old found.now)) }
         ensures back { IfErr result
-            (LeavesInHand self.old self.new (wide_found self.old found.now) hand) }
+            (LeavesInHand 8 self.old self.new (wide_found self.old found.now) hand) }
     {
         self.at.law();
         let Ok(there) = self.read_found(found) else {
@@ -107,35 +120,6 @@ impl<N: Nodes> PendingCall<'_, N> {
         };
         self.unlink_replaced(&found.pred, marked);
         Ok(there)
-    }
-
-    // Links the slot in hand with this value where the key was found absent, in four steps. Else the hand
-    // comes back.
-    #[inline(always)]
-    fn link_by_held(&mut self, found: &Found, value: u64, hand: Hand) -> Result<(), Hand>
-        requires knows { KnowsThere self.old (wide_found self.old found.now) None }
-        requires hand { HasHandAndRoom (pass_in self.old) hand }
-        requires room { HasRoomForPiece self.old }
-        ensures settles { MaySettle self.old self.new }
-        ensures had { HasUnused (pass_in self.old) (pass_in self.new) result }
-        ensures linked { IfOk result
-            (λ _. StoresByHand value self.old self.new hand (wide_found self.old found.now) None) }
-        ensures back { IfErr result
-            (LeavesInHand self.old self.new (wide_found self.old found.now) hand) }
-    {
-        self.at.law();
-        self.used += 4;
-        match update(
-            &mut self.at,
-            &found.pred,
-            found.cur.as_ref(),
-            self.key,
-            value,
-            hand,
-        ) {
-            Ok(()) => Ok(()),
-            Err((back, _)) => Err(back),
-        }
     }
 
     // Puts the value by the slot in hand where this was found: by an insert, or in the place of the node;
@@ -150,12 +134,12 @@ impl<N: Nodes> PendingCall<'_, N> {
         ensures put { IfOk result
             (StoresByHand value self.old self.new hand (wide_found self.old found.now)) }
         ensures back { IfErr result
-            (LeavesInHand self.old self.new (wide_found self.old found.now) hand) }
+            (LeavesInHand 8 self.old self.new (wide_found self.old found.now) hand) }
     {
         if found.present {
             return self.replace_by_held(found, value, hand);
         }
-        match self.link_by_held(found, value, hand) {
+        match self.link_found(found, value, hand) {
             Ok(()) => Ok(None),
             Err(back) => Err(back),
         }
@@ -222,12 +206,17 @@ impl<N: Nodes> PendingCall<'_, N> {
     // Links the slot in hand, or answers no where the key is there; then, and where the budget has no room
     // for one more piece, the hand comes back.
     #[inline(always)]
-    fn link_held(&mut self, value: u64, mut hand: Hand) -> Result<(), (Hand, StillInHand)>
+    pub(crate) fn link_held(
+        &mut self,
+        value: u64,
+        mut hand: Hand,
+    ) -> Result<(), (Hand, StillInHand)>
         requires hand { HasHandAndRoom (pass_in self.old) hand }
         ensures call { IsSameCall self.old self.new }
         ensures counts { CountsWithin (trace_in self.old) (trace_in self.new)
             self.old.used self.new.used self.old.budget }
         ensures takes_no_slot { TakesNoSlot (pass_in self.old) (pass_in self.new) }
+        ensures had { HasUnused (pass_in self.old) (pass_in self.new) result }
         ensures linked { IfOk result (λ _. LinksHeld value self.old self.new hand) }
         ensures kept { IfErr result (KeepsHeld value self.old self.new hand) }
     {

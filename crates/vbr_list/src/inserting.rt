@@ -1,14 +1,13 @@
 //! Inserts.
 ghost use Rattle.std.specs.Prelude.{◌≡◌, None};
 ghost use Rattle.vbr_machine.specs.declared.history.Op.TheVariants.{Insert};
-ghost use Rattle.vbr_slots.specs.Calls.{Took};
-ghost use Rattle.vbr_slots.specs.Views.{IsOf};
-ghost use Rattle.vbr_list.specs.CallBounds.{Calls, CallsAs, CallsInsert, BoundsOfInsert};
-ghost use Rattle.vbr_list.specs.Told.{stored_in};
+ghost use Rattle.vbr_slots.specs.steps.Calls.{Took};
+ghost use Rattle.vbr_slots.specs.views.Views.{IsOf};
+ghost use Rattle.vbr_list.specs.calls.CallBounds.{Calls, CallsAs, CallsInsert, BoundsOfInsert};
+ghost use Rattle.vbr_list.specs.calls.Told.{stored_in};
 
 use crate::call::begin;
-use crate::valuing::steps_to_update;
-use vbr_at_table::{Refusal, give_back, update};
+use vbr_at_table::{Refusal, give_back};
 use vbr_slots::{Pass, Slots, Stepper};
 use vbr_words::{Entries, Nodes};
 
@@ -80,37 +79,18 @@ fn insert_by<N: Nodes>(
         (BoundsOfInsert stepper.old stepper.new key budget)
         stepper.old stepper.new budget result.0 }
 {
-    let call = &mut begin!(slots, stepper, key, budget, 0);
+    let mut call = begin!(slots, stepper, key, budget, 0);
     call.at.law();
-    let mut hand = match call.prepare() {
+    let hand = match call.prepare() {
         Ok(Some(hand)) => hand,
         Ok(None) => return (Ok(false), call.used),
         Err(refusal) => return (Err(refusal), call.used),
     };
-    call.at.law();
-    loop {
-        let Some(found) = call.reach() else {
-            give_back(&mut call.at, hand);
-            return (Err(Refusal::OutOfSteps { used: call.used }), call.used);
-        };
-        if found.present {
-            if call.answer_no(&found).is_err() {
-                continue;
-            }
-            give_back(&mut call.at, hand);
-            return (Ok(false), call.used);
-        }
-        call.used += steps_to_update(call.at.slots);
-        match update(
-            &mut call.at,
-            &found.pred,
-            found.cur.as_ref(),
-            call.key,
-            value,
-            hand,
-        ) {
-            Ok(()) => return (Ok(true), call.used),
-            Err((back, _)) => hand = back,
+    match call.link_held(value, hand) {
+        Ok(()) => (Ok(true), call.used),
+        Err((back, why)) => {
+            give_back(&mut call.at, back);
+            (why.answer(), call.used)
         }
     }
 }

@@ -1,11 +1,11 @@
 //! Going over all keys, one after another, while other threads make calls.
 ghost use Rattle.std.specs.Prelude.{◌≡◌};
-ghost use Rattle.vbr_slots.specs.AtTables.{IsSameTable, pass_of, trace_of};
-ghost use Rattle.vbr_slots.specs.Calls.{Took};
-ghost use Rattle.vbr_slots.specs.Views.{IsOf};
-ghost use Rattle.vbr_list.specs.Cursors.{IteratesEntries, IteratesKeys, IteratesWhere};
-ghost use Rattle.vbr_list.specs.Cursors.{IteratesNamedEntries, IteratesNamedKeys};
-ghost use Rattle.vbr_list.specs.Seeking.{IteratesNodes};
+ghost use Rattle.vbr_slots.specs.steps.AtTables.{IsSameTable, pass_of, trace_of};
+ghost use Rattle.vbr_slots.specs.steps.Calls.{Took};
+ghost use Rattle.vbr_slots.specs.views.Views.{IsOf};
+ghost use Rattle.vbr_list.specs.look_ups.Cursors.{IteratesEntries, IteratesKeys, IteratesWhere};
+ghost use Rattle.vbr_list.specs.look_ups.Cursors.{IteratesNamedEntries, IteratesNamedKeys};
+ghost use Rattle.vbr_list.specs.look_ups.Seeking.{IteratesNodes};
 
 use crate::cursor::Cursor;
 use crate::entries::Entry;

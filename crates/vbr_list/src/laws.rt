@@ -2,8 +2,8 @@
 //! does nothing.
 ghost use Rattle.std.specs.Prelude.{ℕ, [], ◌++◌, List, Option, option_to_list};
 ghost use Rattle.vbr_machine.specs.Start.{IsStart};
-ghost use Rattle.vbr_slots.specs.Views.{Trace};
-ghost use Rattle.vbr_list.specs.Cursors.{HasGiven, HasGivenAll, IsAtEnd, PassesBy, SeesMore, first_cursor};
+ghost use Rattle.vbr_slots.specs.views.Views.{Trace};
+ghost use Rattle.vbr_list.specs.look_ups.Cursors.{HasGiven, HasGivenAll, IsAtEnd, PassesBy, SeesMore, first_cursor};
 ghost use Rattle.vbr_list.specs.declared.cursor.Cursor.{Cursor};
 
 /// A law: an iteration begins at the first cursor, and has given no key then.

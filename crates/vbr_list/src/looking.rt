@@ -2,10 +2,10 @@
 //! that stands they are marked for good, and their links don't change, so where they lead the list
 //! goes on.
 ghost use Rattle.std.specs.Prelude.{◌≡◌, IfOk, IfErr, IfSome, IfNone};
-ghost use Rattle.vbr_at_table.specs.Held.{held_of};
-ghost use Rattle.vbr_list.specs.LookUpPieces.{LookTires, Sees, WalkStops, WalksTo};
-ghost use Rattle.vbr_list.specs.Pieces.{GoesOn, Observes, trace_in};
-ghost use Rattle.vbr_list.specs.Words.{wide_sight};
+ghost use Rattle.vbr_at_table.specs.reads.Held.{held_of};
+ghost use Rattle.vbr_list.specs.look_ups.LookUpPieces.{LookTires, Sees, WalkStops, WalksTo};
+ghost use Rattle.vbr_list.specs.calls.Pieces.{GoesOn, Observes, trace_in};
+ghost use Rattle.vbr_list.specs.calls.Words.{wide_sight};
 
 use crate::call::PendingCall;
 use crate::traversal::Stop;

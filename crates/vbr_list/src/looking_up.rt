@@ -1,17 +1,17 @@
 //! Look-ups.
 ghost use Rattle.std.specs.Prelude.{◌≡◌, ◌+◌, ◌≤◌, true, false, None, IfOk, IfErr, is_some};
 ghost use Rattle.vbr_machine.specs.declared.history.Op.TheVariants.{Has};
-ghost use Rattle.vbr_slots.specs.Calls.{OnlyLoads, Took};
-ghost use Rattle.vbr_slots.specs.Views.{IsOf};
-ghost use Rattle.vbr_list.specs.CallBounds.{Calls, CallsAs, CallsGet, BoundsOfLookUp};
-ghost use Rattle.vbr_list.specs.Budgets.{steps_where};
+ghost use Rattle.vbr_slots.specs.steps.Calls.{OnlyLoads, Took};
+ghost use Rattle.vbr_slots.specs.views.Views.{IsOf};
+ghost use Rattle.vbr_list.specs.calls.CallBounds.{Calls, CallsAs, CallsGet, BoundsOfLookUp};
+ghost use Rattle.vbr_list.specs.calls.Budgets.{steps_where};
 ghost use Rattle.vbr_list.specs.declared.looking.Sight.TheVariants.{Present, Absent};
-ghost use Rattle.vbr_list.specs.LookUpPieces.{GivesNone, GivesValueOf};
-ghost use Rattle.vbr_list.specs.LookUpPieces.{IsAskedOf, IsSightFor, LookUpAnswers, LookUpRollsBack, steps_to_answer};
-ghost use Rattle.vbr_list.specs.Pieces.{HasRoomForPiece, Settles, trace_in};
-ghost use Rattle.vbr_list.specs.Places.{is_present, sighted};
-ghost use Rattle.vbr_list.specs.Told.{given_in, look_up_op};
-ghost use Rattle.vbr_list.specs.Words.{wide_held, wide_sight};
+ghost use Rattle.vbr_list.specs.look_ups.LookUpPieces.{GivesNone, GivesValueOf};
+ghost use Rattle.vbr_list.specs.look_ups.LookUpPieces.{IsAskedOf, IsSightFor, LookUpAnswers, LookUpRollsBack, steps_to_answer};
+ghost use Rattle.vbr_list.specs.calls.Pieces.{HasRoomForPiece, Settles, trace_in};
+ghost use Rattle.vbr_list.specs.walks.Places.{is_present, sighted};
+ghost use Rattle.vbr_list.specs.calls.Told.{given_in, look_up_op};
+ghost use Rattle.vbr_list.specs.calls.Words.{wide_held, wide_sight};
 
 use crate::call::{PendingCall, begin};
 use crate::looking::Sight;

@@ -1,16 +1,16 @@
 //! The next key of a bucket, from a number on.
 ghost use Rattle.std.specs.Prelude.{◌≡◌, ◌+◌, ◌<◌, true};
-ghost use Rattle.vbr_slots.specs.AtTables.{IsSameTable, pass_of, trace_of};
-ghost use Rattle.vbr_slots.specs.Calls.{Took};
-ghost use Rattle.vbr_slots.specs.Views.{IsOf};
-ghost use Rattle.vbr_list.specs.Next.{Seeks, SeeksEntry, SeeksKey, SeeksNamedEntry, SeeksNamedKey};
-ghost use Rattle.vbr_list.specs.Seeking.{TellsNode};
+ghost use Rattle.vbr_slots.specs.steps.AtTables.{IsSameTable, pass_of, trace_of};
+ghost use Rattle.vbr_slots.specs.steps.Calls.{Took};
+ghost use Rattle.vbr_slots.specs.views.Views.{IsOf};
+ghost use Rattle.vbr_list.specs.look_ups.Next.{Seeks, SeeksEntry, SeeksKey, SeeksNamedEntry, SeeksNamedKey};
+ghost use Rattle.vbr_list.specs.look_ups.Seeking.{TellsNode};
 
 use crate::entries::Entry;
 use crate::seeking::{NextNode, seek_in};
 use vbr_at_table::Refusal;
 use vbr_slots::{AtTable, Pass, Slots};
-use vbr_words::{Entries, Keys, Nodes};
+use vbr_words::{Entries, Nodes};
 
 /// The least key of a bucket that is no less than a number, in at most `budget` steps. It was there at a
 /// moment of the call, and each key of the bucket between the two was absent at a moment of the call;
@@ -35,31 +35,10 @@ pub fn next_key<N: Nodes>(
     requires bucket { bucket < slots.now.start.shape.buckets }
     ensures { SeeksKey pass.old pass.new bucket from budget result }
 {
-    pass.during(
-        |stepper|
-            requires own { IsOf stepper.old.trace slots.now }
-            requires bucket { bucket < slots.now.start.shape.buckets }
-        { seek_key(&mut AtTable { slots, stepper }, bucket, from, budget) },
-    )
-}
-
-// As `next_key`, where no step is counted; and how many steps were made.
-fn seek_key<N: Nodes>(
-    at: &mut AtTable<'_, N>,
-    bucket: u32,
-    from: u64,
-    budget: u32,
-) -> (Result<Option<u64>, Refusal>, u32)
-    requires bucket { bucket < at.old.slots.now.start.shape.buckets }
-    ensures table { IsSameTable at.old at.new }
-    ensures took { Took (trace_of at.old) (trace_of at.new) result.1 }
-    ensures seeks { SeeksKey (pass_of at.old) (pass_of at.new) bucket from budget result.0 }
-{
-    let (next, used) = seek_by(at, bucket, from, budget);
-    match next {
-        Ok(Some(node)) => (Ok(Some(node.key)), used),
-        Ok(None) => (Ok(None), used),
-        Err(refusal) => (Err(refusal), used),
+    match seek(slots, pass, bucket, from, budget) {
+        Ok(Some(node)) => Ok(Some(node.key)),
+        Ok(None) => Ok(None),
+        Err(refusal) => Err(refusal),
     }
 }
 
@@ -76,33 +55,11 @@ pub fn next_entry(
     requires bucket { bucket < slots.now.start.shape.buckets }
     ensures { SeeksEntry pass.old pass.new bucket from budget result }
 {
-    pass.during(
-        |stepper|
-            requires own { IsOf stepper.old.trace slots.now }
-            requires bucket { bucket < slots.now.start.shape.buckets }
-        { seek_entry(&mut AtTable { slots, stepper }, bucket, from, budget) },
-    )
-}
-
-// As `next_entry`, where no step is counted; and how many steps were made.
-fn seek_entry(
-    at: &mut AtTable<'_, Entries>,
-    bucket: u32,
-    from: u64,
-    budget: u32,
-) -> (Result<Option<(u64, u64)>, Refusal>, u32)
-    requires bucket { bucket < at.old.slots.now.start.shape.buckets }
-    ensures table { IsSameTable at.old at.new }
-    ensures took { Took (trace_of at.old) (trace_of at.new) result.1 }
-    ensures seeks { SeeksEntry (pass_of at.old) (pass_of at.new) bucket from budget result.0 }
-{
-    at.law();
-    at.slots.kind();
-    let (next, used) = seek_by(at, bucket, from, budget);
-    match next {
-        Ok(Some(node)) => (Ok(Some((node.key, node.entry.value))), used),
-        Ok(None) => (Ok(None), used),
-        Err(refusal) => (Err(refusal), used),
+    slots.kind();
+    match seek(slots, pass, bucket, from, budget) {
+        Ok(Some(node)) => Ok(Some((node.key, node.entry.value))),
+        Ok(None) => Ok(None),
+        Err(refusal) => Err(refusal),
     }
 }
 
@@ -119,31 +76,10 @@ pub fn next_named_key(
     requires bucket { bucket < slots.now.start.shape.buckets }
     ensures { SeeksNamedKey pass.old pass.new bucket from budget result }
 {
-    pass.during(
-        |stepper|
-            requires own { IsOf stepper.old.trace slots.now }
-            requires bucket { bucket < slots.now.start.shape.buckets }
-        { seek_named_key(&mut AtTable { slots, stepper }, bucket, from, budget) },
-    )
-}
-
-// As `next_named_key`, where no step is counted; and how many steps were made.
-fn seek_named_key(
-    at: &mut AtTable<'_, Keys>,
-    bucket: u32,
-    from: u64,
-    budget: u32,
-) -> (Result<Option<(u64, Entry)>, Refusal>, u32)
-    requires bucket { bucket < at.old.slots.now.start.shape.buckets }
-    ensures table { IsSameTable at.old at.new }
-    ensures took { Took (trace_of at.old) (trace_of at.new) result.1 }
-    ensures seeks { SeeksNamedKey (pass_of at.old) (pass_of at.new) bucket from budget result.0 }
-{
-    let (next, used) = seek_by(at, bucket, from, budget);
-    match next {
-        Ok(Some(node)) => (Ok(Some((node.key, node.entry.bare()))), used),
-        Ok(None) => (Ok(None), used),
-        Err(refusal) => (Err(refusal), used),
+    match seek(slots, pass, bucket, from, budget) {
+        Ok(Some(node)) => Ok(Some((node.key, node.entry.bare()))),
+        Ok(None) => Ok(None),
+        Err(refusal) => Err(refusal),
     }
 }
 
@@ -160,37 +96,37 @@ pub fn next_named_entry(
     requires bucket { bucket < slots.now.start.shape.buckets }
     ensures { SeeksNamedEntry pass.old pass.new bucket from budget result }
 {
+    slots.kind();
+    match seek(slots, pass, bucket, from, budget) {
+        Ok(Some(node)) => Ok(Some((node.key, node.entry))),
+        Ok(None) => Ok(None),
+        Err(refusal) => Err(refusal),
+    }
+}
+
+// The node with the next key of a bucket.
+#[inline(always)]
+fn seek<N: Nodes>(
+    slots: &Slots<N>,
+    pass: &mut Pass,
+    bucket: u32,
+    from: u64,
+    budget: u32,
+) -> Result<Option<NextNode>, Refusal>
+    requires own { IsOf pass.old.trace slots.now }
+    requires bucket { bucket < slots.now.start.shape.buckets }
+    ensures { Seeks (TellsNode pass.old.trace pass.new.trace bucket from)
+        pass.old pass.new bucket budget result }
+{
     pass.during(
         |stepper|
             requires own { IsOf stepper.old.trace slots.now }
             requires bucket { bucket < slots.now.start.shape.buckets }
-        { seek_named_entry(&mut AtTable { slots, stepper }, bucket, from, budget) },
+        { seek_by(&mut AtTable { slots, stepper }, bucket, from, budget) },
     )
 }
 
-// As `next_named_entry`, where no step is counted; and how many steps were made.
-fn seek_named_entry(
-    at: &mut AtTable<'_, Entries>,
-    bucket: u32,
-    from: u64,
-    budget: u32,
-) -> (Result<Option<(u64, Entry)>, Refusal>, u32)
-    requires bucket { bucket < at.old.slots.now.start.shape.buckets }
-    ensures table { IsSameTable at.old at.new }
-    ensures took { Took (trace_of at.old) (trace_of at.new) result.1 }
-    ensures seeks { SeeksNamedEntry (pass_of at.old) (pass_of at.new) bucket from budget result.0 }
-{
-    at.law();
-    at.slots.kind();
-    let (next, used) = seek_by(at, bucket, from, budget);
-    match next {
-        Ok(Some(node)) => (Ok(Some((node.key, node.entry))), used),
-        Ok(None) => (Ok(None), used),
-        Err(refusal) => (Err(refusal), used),
-    }
-}
-
-// The node with the next key of a bucket; and how many steps were made.
+// As `seek`, where no step is counted; and how many steps were made.
 #[inline(always)]
 fn seek_by<N: Nodes>(
     at: &mut AtTable<'_, N>,

@@ -6,13 +6,13 @@ ghost use Rattle.vbr_machine.specs.Knowledge.{Know};
 ghost use Rattle.vbr_machine.specs.Records.{IsInHandAlone};
 ghost use Rattle.vbr_machine.specs.Runs.{Begins, BeginsFor, IsRun, know_after};
 ghost use Rattle.vbr_machine.specs.declared.event.Event.{Event};
-ghost use Rattle.vbr_slots.specs.Calls.{IsSame};
-ghost use Rattle.vbr_slots.specs.PassLaw.{PassLaw};
-ghost use Rattle.vbr_slots.specs.Views.{PassView};
-ghost use Rattle.vbr_at_table.specs.Hands.{HandView, IsHandOf};
-ghost use Rattle.vbr_at_table.specs.KeptSlots.{TakesNoSlot};
-ghost use Rattle.vbr_at_table.specs.Records.{PublishesSlot};
-ghost use Rattle.vbr_list.specs.Holding.{PublishedSlot};
+ghost use Rattle.vbr_slots.specs.steps.Calls.{IsSame};
+ghost use Rattle.vbr_slots.specs.steps.PassLaw.{PassLaw};
+ghost use Rattle.vbr_slots.specs.views.Views.{PassView};
+ghost use Rattle.vbr_at_table.specs.hands.Hands.{HandView, IsHandOf};
+ghost use Rattle.vbr_at_table.specs.hands.KeptSlots.{TakesNoSlot};
+ghost use Rattle.vbr_at_table.specs.answers.Records.{PublishesSlot};
+ghost use Rattle.vbr_list.specs.updates.Holding.{PublishedSlot};
 
 /// A law: a slot that a pass has in hand between two of its calls is in its hand alone, whatever others
 /// do meanwhile; and no entry that there ever was in the slot has the birth that it shows.

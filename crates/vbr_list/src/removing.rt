@@ -1,19 +1,19 @@
 //! Removes.
 ghost use Rattle.std.specs.Prelude.{◌≡◌, ◌+◌, ◌≤◌, true, false, Some, None, IfOk, IfErr, is_some};
 ghost use Rattle.vbr_machine.specs.declared.history.Op.TheVariants.{Remove};
-ghost use Rattle.vbr_slots.specs.AtTables.{IsSameTable, pass_of, trace_of};
-ghost use Rattle.vbr_slots.specs.Calls.{Took};
-ghost use Rattle.vbr_slots.specs.Views.{IsOf};
+ghost use Rattle.vbr_slots.specs.steps.AtTables.{IsSameTable, pass_of, trace_of};
+ghost use Rattle.vbr_slots.specs.steps.Calls.{Took};
+ghost use Rattle.vbr_slots.specs.views.Views.{IsOf};
 ghost use Rattle.vbr_at_table.specs.declared.budget.TheConstants.{PIECE};
-ghost use Rattle.vbr_list.specs.Expecting.{CallsRemoveIf, removal_in, takes_out};
-ghost use Rattle.vbr_list.specs.CallBounds.{Calls, CallsAs, CallsRemove};
-ghost use Rattle.vbr_list.specs.Leaving.{BoundsOfRemove, Sweeps, WasClear};
-ghost use Rattle.vbr_list.specs.Pieces.{Goes, GoesOn, HasRoomForPiece, Settles, trace_in};
-ghost use Rattle.vbr_list.specs.Removing.{Clears, IsMarkedFor, MayExpect, RemoveAnswers, RemoveRollsBack, UnlinksOrSearches};
-ghost use Rattle.vbr_list.specs.RemovingExactly.{RemovesExactly, RemovesKeyExactly, RemovesNodeExactly};
-ghost use Rattle.vbr_list.specs.Traversing.{LocatesFor};
-ghost use Rattle.vbr_list.specs.Walking.{WalksAgain};
-ghost use Rattle.vbr_list.specs.Words.{wide_found, wide_held, wide_marked};
+ghost use Rattle.vbr_list.specs.updates.Expecting.{CallsRemoveIf, removal_in, takes_out};
+ghost use Rattle.vbr_list.specs.calls.CallBounds.{Calls, CallsAs, CallsRemove};
+ghost use Rattle.vbr_list.specs.walks.Leaving.{BoundsOfRemove, Sweeps, WasClear};
+ghost use Rattle.vbr_list.specs.calls.Pieces.{Goes, GoesOn, HasRoomForPiece, Settles, trace_in};
+ghost use Rattle.vbr_list.specs.updates.Removing.{Clears, IsMarkedFor, MayExpect, RemoveAnswers, RemoveRollsBack, UnlinksOrSearches};
+ghost use Rattle.vbr_list.specs.named_entries.RemovingExactly.{RemovesExactly, RemovesKeyExactly, RemovesNodeExactly};
+ghost use Rattle.vbr_list.specs.walks.Traversing.{LocatesFor};
+ghost use Rattle.vbr_list.specs.walks.Walking.{WalksAgain};
+ghost use Rattle.vbr_list.specs.calls.Words.{wide_found, wide_held, wide_marked};
 
 use crate::call::{PendingCall, begin};
 use crate::entries::{Entry, is_node_of};

@@ -1,12 +1,12 @@
 //! Replacing a node: its key gets another value, and the old node leaves its list.
 ghost use Rattle.std.specs.Prelude.{◌+◌, ◌≡◌, ◌≤◌, IfOk, IfErr};
 ghost use Rattle.vbr_words.specs.Packing.{unpacked};
-ghost use Rattle.vbr_at_table.specs.StepCosts.{steps_to_birth};
-ghost use Rattle.vbr_list.specs.Inserting.{GivesHandBack, HasHandAndRoom};
-ghost use Rattle.vbr_list.specs.Pieces.{GoesOn, pass_in};
-ghost use Rattle.vbr_list.specs.Replacing.{HasUnused, IsOldNode, KnowsFoundValue, LeavesWithRoom, MayStoreNode, PublishesOrKeeps, ReplacesFound, ReplacesAndLeaves, ReplacesPaid, UnlinksReplaced};
-ghost use Rattle.vbr_list.specs.Settling.{MaySettle, SettlesNone};
-ghost use Rattle.vbr_list.specs.Words.{wide_found, wide_held, wide_marked};
+ghost use Rattle.vbr_at_table.specs.costs.StepCosts.{steps_to_birth};
+ghost use Rattle.vbr_list.specs.updates.Inserting.{GivesHandBack, HasHandAndRoom};
+ghost use Rattle.vbr_list.specs.calls.Pieces.{GoesOn, pass_in};
+ghost use Rattle.vbr_list.specs.updates.Replacing.{HasUnused, IsOldNode, KnowsFoundValue, LeavesWithRoom, MayStoreNode, PublishesOrKeeps, ReplacesFound, ReplacesAndLeaves, ReplacesPaid, UnlinksReplaced};
+ghost use Rattle.vbr_list.specs.updates.Settling.{MaySettle, SettlesNone};
+ghost use Rattle.vbr_list.specs.calls.Words.{wide_found, wide_held, wide_marked};
 
 use crate::call::PendingCall;
 use crate::found::Found;

@@ -1,9 +1,9 @@
 //! Seeking the next key of a bucket by loads alone. Marked nodes are passed by their links, as a
 //! look-up passes them; and nothing is confirmed: each key that was passed by was absent at a moment.
 ghost use Rattle.std.specs.Prelude.{◌<◌, ◌≤◌, IfOk, IfErr};
-ghost use Rattle.vbr_slots.specs.AtTables.{IsSameTable, pass_of, trace_of};
-ghost use Rattle.vbr_list.specs.Pieces.{Peeks};
-ghost use Rattle.vbr_list.specs.Seeking.{SeekStops, Sought, WalksToNext};
+ghost use Rattle.vbr_slots.specs.steps.AtTables.{IsSameTable, pass_of, trace_of};
+ghost use Rattle.vbr_list.specs.calls.Pieces.{Peeks};
+ghost use Rattle.vbr_list.specs.look_ups.Seeking.{SeekStops, Sought, WalksToNext};
 
 use crate::entries::{Entry, named};
 use crate::looking::held_of;

@@ -1,16 +1,17 @@
 //! Storing a value where what is there is as it is wanted.
 ghost use Rattle.std.specs.Prelude.{◌≡◌, ◌+◌, ◌≤◌, false, true, None, IfOk, IfErr, IfNone, IfSome};
-ghost use Rattle.vbr_slots.specs.Calls.{Took};
-ghost use Rattle.vbr_slots.specs.Views.{IsOf};
-ghost use Rattle.vbr_list.specs.Inserting.{HasHandAndRoom, Links, Prepares, TriesFor};
-ghost use Rattle.vbr_list.specs.Pieces.{HasRoomForPiece, pass_in, trace_in};
-ghost use Rattle.vbr_list.specs.Replacing.{HasUnused};
-ghost use Rattle.vbr_list.specs.Settling.{AnswersPaid, AskLoses, Asks, AsksMet, ChangePaid, HasHandForValue, IsMet, IsPreparedStore, MaySettle, Meeting, MeetTires, PreparesNoStore, SettlesNone, SettlesPaid, StoreAnswers, StoresAndLeaves, StoresNone, has_wanted};
-ghost use Rattle.vbr_list.specs.Storing.{CallsStore, HasUnstored};
-ghost use Rattle.vbr_list.specs.Telling.{KnowsThere};
-ghost use Rattle.vbr_list.specs.Traversing.{LocatesFor};
+ghost use Rattle.vbr_slots.specs.steps.Calls.{Took};
+ghost use Rattle.vbr_slots.specs.views.Views.{IsOf};
+ghost use Rattle.vbr_list.specs.updates.Holding.{LeavesInHand, StoresByHand};
+ghost use Rattle.vbr_list.specs.updates.Inserting.{HasHandAndRoom, Links, Prepares, TriesFor};
+ghost use Rattle.vbr_list.specs.calls.Pieces.{HasRoomForPiece, pass_in, trace_in};
+ghost use Rattle.vbr_list.specs.updates.Replacing.{HasUnused};
+ghost use Rattle.vbr_list.specs.updates.Settling.{AnswersPaid, AskLoses, Asks, AsksMet, ChangePaid, HasHandForValue, IsMet, IsPreparedStore, MaySettle, Meeting, MeetTires, PreparesNoStore, SettlesNone, SettlesPaid, StoreAnswers, StoresAndLeaves, StoresNone, has_wanted};
+ghost use Rattle.vbr_list.specs.updates.Storing.{CallsStore, HasUnstored};
+ghost use Rattle.vbr_list.specs.look_ups.Telling.{KnowsThere};
+ghost use Rattle.vbr_list.specs.walks.Traversing.{LocatesFor};
 ghost use Rattle.vbr_list.specs.declared.wanted.Wanted.TheVariants.{Absent, Anything, Present, Value};
-ghost use Rattle.vbr_list.specs.Words.{wide_found};
+ghost use Rattle.vbr_list.specs.calls.Words.{wide_found};
 
 use crate::call::{PendingCall, begin};
 use crate::found::Found;
@@ -132,18 +133,19 @@ impl<N: Nodes> PendingCall<'_, N> {
 
 impl<N: Nodes> PendingCall<'_, N> {
     // Links the slot in hand with this value where the key was found absent, in four steps. Else the
-    // hand comes back.
+    // hand comes back as it was.
     #[inline(always)]
-    fn link_found(&mut self, found: &Found, value: u64, hand: Hand) -> Result<(), Hand>
+    pub(crate) fn link_found(&mut self, found: &Found, value: u64, hand: Hand) -> Result<(), Hand>
         requires knows { KnowsThere self.old (wide_found self.old found.now) None }
         requires hand { HasHandAndRoom (pass_in self.old) hand }
         requires room { self.old.used + 6 ≤ self.old.budget }
         ensures settles { MaySettle self.old self.new }
         ensures few { self.new.used ≡ self.old.used + 4 }
         ensures had { HasUnused (pass_in self.old) (pass_in self.new) result }
-        ensures stored { IfOk result (λ _. StoresAndLeaves value self.old self.new None) }
+        ensures linked { IfOk result
+            (λ _. StoresByHand value self.old self.new hand (wide_found self.old found.now) None) }
         ensures back { IfErr result
-            (SettlesNone 6 self.old self.new (wide_found self.old found.now)) }
+            (LeavesInHand 6 self.old self.new (wide_found self.old found.now) hand) }
     {
         self.at.law();
         self.used += 4;

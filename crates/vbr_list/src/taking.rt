@@ -1,14 +1,14 @@
 //! What an insert does before it links a node: it answers no, or takes a slot once the key was found
 //! absent. A remove of an absent key answers no by the same piece, and a store takes its slot so.
 ghost use Rattle.std.specs.Prelude.{◌≡◌, ◌+◌, ◌≤◌, false, length, None, IfOk, IfErr};
-ghost use Rattle.vbr_slots.specs.Calls.{Quiet};
-ghost use Rattle.vbr_at_table.specs.Answering.{KeepsIn};
-ghost use Rattle.vbr_at_table.specs.KeptSlots.{TriesWhereEmpty};
-ghost use Rattle.vbr_list.specs.Inserting.{AnswersNone, Prepares, PreparesHand, PreparesNone, Provides, ProvidesNone, TriesFor, denied};
-ghost use Rattle.vbr_list.specs.Pieces.{HasRoomForPiece, IsSameCall, Replies, pass_in, trace_in};
-ghost use Rattle.vbr_list.specs.Traversing.{LocatesFor};
+ghost use Rattle.vbr_slots.specs.steps.Calls.{Quiet};
+ghost use Rattle.vbr_at_table.specs.answers.Answering.{KeepsIn};
+ghost use Rattle.vbr_at_table.specs.hands.KeptSlots.{TriesWhereEmpty};
+ghost use Rattle.vbr_list.specs.updates.Inserting.{AnswersNone, Prepares, PreparesHand, PreparesNone, Provides, ProvidesNone, TriesFor, denied};
+ghost use Rattle.vbr_list.specs.calls.Pieces.{HasRoomForPiece, IsSameCall, Replies, pass_in, trace_in};
+ghost use Rattle.vbr_list.specs.walks.Traversing.{LocatesFor};
 ghost use Rattle.vbr_list.specs.declared.wanted.Wanted.TheVariants.{Absent};
-ghost use Rattle.vbr_list.specs.Words.{wide_found};
+ghost use Rattle.vbr_list.specs.calls.Words.{wide_found};
 
 use crate::call::PendingCall;
 use crate::found::Found;

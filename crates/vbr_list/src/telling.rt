@@ -1,14 +1,14 @@
 //! What a search found is read, and a get is answered by it: for calls of a map that change what is
 //! there only where it is as they want it.
 ghost use Rattle.std.specs.Prelude.{◌≡◌, ◌+◌, ◌<◌, true, IfOk, IfErr};
-ghost use Rattle.vbr_at_table.specs.Answering.{KeepsIn};
-ghost use Rattle.vbr_at_table.specs.Reading.{ReadsIn};
-ghost use Rattle.vbr_list.specs.Budgets.{steps_where};
-ghost use Rattle.vbr_list.specs.Inserting.{AnswersNone};
-ghost use Rattle.vbr_list.specs.Pieces.{HasRoomForPiece, IsSameCall, pass_in, trace_in};
-ghost use Rattle.vbr_list.specs.Telling.{KnowsThere, LosesRead, ReadsFound, TellsThere};
-ghost use Rattle.vbr_list.specs.Traversing.{LocatesFor};
-ghost use Rattle.vbr_list.specs.Words.{wide_found};
+ghost use Rattle.vbr_at_table.specs.answers.Answering.{KeepsIn};
+ghost use Rattle.vbr_at_table.specs.reads.Reading.{ReadsIn};
+ghost use Rattle.vbr_list.specs.calls.Budgets.{steps_where};
+ghost use Rattle.vbr_list.specs.updates.Inserting.{AnswersNone};
+ghost use Rattle.vbr_list.specs.calls.Pieces.{HasRoomForPiece, IsSameCall, pass_in, trace_in};
+ghost use Rattle.vbr_list.specs.look_ups.Telling.{KnowsThere, LosesRead, ReadsFound, TellsThere};
+ghost use Rattle.vbr_list.specs.walks.Traversing.{LocatesFor};
+ghost use Rattle.vbr_list.specs.calls.Words.{wide_found};
 
 use crate::call::PendingCall;
 use crate::found::Found;

@@ -1,13 +1,13 @@
 //! A traversal of the list of one bucket, piece by piece.
 ghost use Rattle.std.specs.Prelude.{◌≡◌, ◌+◌, ◌≤◌, IsSome, IfOk, IfErr};
 ghost use Rattle.vbr_words.specs.Words.{link_of};
-ghost use Rattle.vbr_slots.specs.Views.{knows};
-ghost use Rattle.vbr_at_table.specs.Held.{HoldsMarked, IsHeld, Names};
-ghost use Rattle.vbr_list.specs.Helping.{Helps, HelpsNone};
-ghost use Rattle.vbr_list.specs.Pieces.{GoesOn, HasRoomForPiece, Observes, pass_in, trace_in};
-ghost use Rattle.vbr_list.specs.Traversing.{HasComeTo, IsPredFor, SearchStops, WalkFinds};
-ghost use Rattle.vbr_list.specs.Visiting.{IsVisit, MeetsBehind, RollsBackFrom, StartsAt, StartsNone};
-ghost use Rattle.vbr_list.specs.Words.{wide_found, wide_held, wide_marked, wide_visited};
+ghost use Rattle.vbr_slots.specs.views.Views.{knows};
+ghost use Rattle.vbr_at_table.specs.reads.Held.{HoldsMarked, IsHeld, Names};
+ghost use Rattle.vbr_list.specs.walks.Helping.{Helps, HelpsNone};
+ghost use Rattle.vbr_list.specs.calls.Pieces.{GoesOn, HasRoomForPiece, Observes, pass_in, trace_in};
+ghost use Rattle.vbr_list.specs.walks.Traversing.{HasComeTo, IsPredFor, SearchStops, WalkFinds};
+ghost use Rattle.vbr_list.specs.walks.Visiting.{IsVisit, MeetsBehind, RollsBackFrom, StartsAt, StartsNone};
+ghost use Rattle.vbr_list.specs.calls.Words.{wide_found, wide_held, wide_marked, wide_visited};
 
 use crate::call::PendingCall;
 use crate::found::Found;

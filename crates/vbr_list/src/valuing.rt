@@ -1,13 +1,13 @@
 //! Values of nodes, where nodes have them.
 ghost use Rattle.std.specs.Prelude.{◌≡◌, IfOk, IfErr};
-ghost use Rattle.vbr_slots.specs.AtTables.{IsSameTable, pass_of, trace_of};
-ghost use Rattle.vbr_slots.specs.Views.{knows};
-ghost use Rattle.vbr_at_table.specs.Held.{IsHeld, IsSlot, said};
-ghost use Rattle.vbr_at_table.specs.Reading.{ReadsIn};
-ghost use Rattle.vbr_at_table.specs.Values.{steps_to_update};
-ghost use Rattle.vbr_list.specs.Budgets.{steps_to_value_of};
-ghost use Rattle.vbr_list.specs.Told.{is_yes};
-ghost use Rattle.vbr_list.specs.Valuing.{LosesValue, ReadsValue};
+ghost use Rattle.vbr_slots.specs.steps.AtTables.{IsSameTable, pass_of, trace_of};
+ghost use Rattle.vbr_slots.specs.views.Views.{knows};
+ghost use Rattle.vbr_at_table.specs.reads.Held.{IsHeld, IsSlot, said};
+ghost use Rattle.vbr_at_table.specs.reads.Reading.{ReadsIn};
+ghost use Rattle.vbr_at_table.specs.answers.Values.{steps_to_update};
+ghost use Rattle.vbr_list.specs.calls.Budgets.{steps_to_value_of};
+ghost use Rattle.vbr_list.specs.calls.Told.{is_yes};
+ghost use Rattle.vbr_list.specs.look_ups.Valuing.{LosesValue, ReadsValue};
 
 use vbr_at_table::{Held, Refusal, Rollback, value_of};
 use vbr_slots::{AtTable, Slots};

@@ -2,14 +2,14 @@
 //! behind a place.
 ghost use Rattle.std.specs.Prelude.{◌+◌, ◌<◌, ◌≤◌, IsSome, IfOk, IfErr};
 ghost use Rattle.vbr_words.specs.Words.{link_of};
-ghost use Rattle.vbr_slots.specs.AtTables.{IsSameTable, pass_of, trace_of};
-ghost use Rattle.vbr_slots.specs.Views.{knows};
-ghost use Rattle.vbr_at_table.specs.Held.{IsHeld, said};
-ghost use Rattle.vbr_at_table.specs.Reading.{ReadsIn};
+ghost use Rattle.vbr_slots.specs.steps.AtTables.{IsSameTable, pass_of, trace_of};
+ghost use Rattle.vbr_slots.specs.views.Views.{knows};
+ghost use Rattle.vbr_at_table.specs.reads.Held.{IsHeld, said};
+ghost use Rattle.vbr_at_table.specs.reads.Reading.{ReadsIn};
 ghost use Rattle.vbr_at_table.specs.declared.budget.TheConstants.{PIECE};
-ghost use Rattle.vbr_list.specs.Pieces.{LooksOn};
-ghost use Rattle.vbr_list.specs.Visiting.{IsVisit, MeetsBehind, RollsBackFrom, StartsAt, StartsNone};
-ghost use Rattle.vbr_list.specs.Words.{said_visited};
+ghost use Rattle.vbr_list.specs.calls.Pieces.{LooksOn};
+ghost use Rattle.vbr_list.specs.walks.Visiting.{IsVisit, MeetsBehind, RollsBackFrom, StartsAt, StartsNone};
+ghost use Rattle.vbr_list.specs.calls.Words.{said_visited};
 
 use vbr_at_table::{Held, Marked, Rollback, checkpoint, first, key_of, next};
 use vbr_slots::AtTable;

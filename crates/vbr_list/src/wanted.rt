@@ -1,6 +1,6 @@
 //! What has to be there for a store to change the map.
 ghost use Rattle.std.specs.Prelude.{◌≡◌};
-ghost use Rattle.vbr_list.specs.Wanted.{wants};
+ghost use Rattle.vbr_list.specs.updates.Wanted.{wants};
 
 /// What has to be there for a store to change the map.
 #[derive(Clone, Copy, Debug, PartialEq, Eq)]

@@ -11,7 +11,7 @@ pub use Rattle.vbr_machine.proofs.chronicles.Lists.{keys_differ, next_listed}
 -- are one fewer.
 pub use Rattle.vbr_machine.proofs.progress.ListedNodes.{in_list_from, in_list_is, lower_is, lower_not, next_of_followed}
 pub use Rattle.vbr_machine.proofs.progress.ListedNodes.{one_fewer, slot_is_one, stands_in, stands_key, stands_rank}
-pub use Rattle.vbr_machine.proofs.progress.ListedNodes.{stands_there}
+pub use Rattle.vbr_machine.proofs.progress.ListedNodes.{InList, Stands, stands_there}
 -- The confirming loads.
 pub use Rattle.vbr_machine.proofs.steps.ConfirmSteps.{found_at}
 -- Along every run the world, the incarnations and the notes agree, and the chronicle is lawful.
@@ -24,7 +24,7 @@ pub use Rattle.vbr_machine.proofs.words.SlotFlags.{no_flags}
 -- Runs go on: what more events do to the world, and that the events of others leave what a pass knows, may do and
 -- has called.
 pub use Rattle.vbr_machine.proofs.runs.RunsGoOn.{added_own, begins_for-snoc, begins_for_begins, begins_for_know}
-pub use Rattle.vbr_machine.proofs.runs.RunsGoOn.{begins_for_refl, begins_refl, begins_run, is_run_snoc}
+pub use Rattle.vbr_machine.proofs.runs.RunsGoOn.{begins_for_refl, begins_refl, begins_run, calls_added, is_run_snoc}
 pub use Rattle.vbr_machine.proofs.runs.RunsGoOn.{begins_trans, calls-snoc, calls_after, calls_by-append, calls_since}
 pub use Rattle.vbr_machine.proofs.runs.RunsGoOn.{is_run_after, is_run_after_others, is_run_before, is_run_first}
 pub use Rattle.vbr_machine.proofs.runs.RunsGoOn.{is_run_last, know_after-snoc, know_other, know_own, others_leave_calls}
@@ -61,7 +61,7 @@ pub use Rattle.vbr_machine.proofs.moments.ReplacedNodes.{removed_on, replaced_ea
 pub use Rattle.vbr_machine.proofs.moments.ReplacedNodes.{replaced_out, skipped_left}
 -- What runs say of how many nodes stand behind a place that a pass holds, whose link is still the one that it has
 -- checked.
-pub use Rattle.vbr_machine.proofs.progress.ListedRuns.{mark_out, named_there, one_fewer_behind, raise_epoch}
+pub use Rattle.vbr_machine.proofs.progress.ListedRuns.{mark_out, raise_epoch}
 pub use Rattle.vbr_machine.proofs.progress.ListedRuns.{raise_leaves, raise_links, read_leaves, stamp_epoch}
 pub use Rattle.vbr_machine.proofs.progress.ListedRuns.{stamp_leaves, stamp_links, unlink_makes, unlink_takes_listed}
 pub use Rattle.vbr_machine.proofs.progress.ListedRuns.{unlink_takes_one}
@@ -69,7 +69,6 @@ pub use Rattle.vbr_machine.proofs.progress.ListedRuns.{unlink_takes_one}
 -- does a mark.
 pub use Rattle.vbr_machine.proofs.progress.ListedGrowth.{calls_or_adds_none, mark_leaves}
 -- The link of a place that a pass holds unmarked, while the pass fills a slot in its hand.
-pub use Rattle.vbr_machine.proofs.progress.ListedLinks.{key_leaves_links, link_leaves_links, value_leaves_links}
 -- What the lists stand for while the keys that a world opens with are linked, from the last on: the bare world
 -- before the first, and all of them after the last. A world that opens with none is the bare one.
 pub use Rattle.vbr_machine.proofs.words.OpenedWorlds.{bare, key_linked, opening_all, opening_none, opening_step}
@@ -88,8 +87,9 @@ pub use Rattle.vbr_machine.proofs.progress.Since.{Since, changed_disturbed, dist
 pub use Rattle.vbr_machine.proofs.progress.Since.{own_between, own_unchanged, since, step_changes_none}
 pub use Rattle.vbr_machine.proofs.progress.Since.{undisturbed_by_itself, undisturbed_shown}
 pub use Rattle.vbr_machine.proofs.progress.MovedEpochs.{AdvancesNone, IsAdvance, moved_by_others, moved_by_steps}
-pub use Rattle.vbr_machine.proofs.progress.Visits.{ahead_few, head_visited, known_open, met_bound, met_later, met_on}
+pub use Rattle.vbr_machine.proofs.progress.Visits.{HasVisited, ahead_few, head_visited, known_open, met_later, met_on}
 pub use Rattle.vbr_machine.proofs.progress.Visits.{next_visited, shown_there, unmarked_open, visited_few, visited_on}
+pub use Rattle.vbr_machine.proofs.progress.Visits.{IsAhead}
 pub use Rattle.vbr_machine.proofs.progress.OwnInserts.{inserts_in, inserts_in-remove, inserts_in-two, met_bound_made}
 pub use Rattle.vbr_machine.proofs.progress.OwnInserts.{met_bound_quiet, met_bound_uninserted}
 -- Where a pass has marked a node that has left since, fewer nodes are in its list than could be met.
@@ -113,4 +113,4 @@ pub use Rattle.vbr_machine.proofs.records.Hands.{in_hand_alone, in_hand_new, in_
 pub use Rattle.vbr_machine.proofs.records.KeptHands.{in_hand_since_its_birth}
 pub use Rattle.vbr_machine.proofs.records.Published.{published_entry, replacing_entry}
 -- The words of links that stand anywhere, and those that exchanges and stores of links expect and write, have room.
-pub use Rattle.vbr_machine.proofs.steps.FittingLinks.{exchanged_room, standing_room, stored_room}
+pub use Rattle.vbr_machine.proofs.steps.FittingLinks.{standing_room}

@@ -6,7 +6,6 @@ pub mod GainedSlots
 pub mod ListedNodes
 pub mod ListedRuns
 pub mod ListedGrowth
-pub mod ListedLinks
 pub mod MetNodes
 pub mod Visits
 pub mod LeftNodes

@@ -1,15 +1,13 @@
 -- What disturbs a pass at the list of one bucket, and the nodes that it can meet there.
-use Rattle.std.specs.Prelude.{◌≡◌, ℕ, ◌+◌, ◌==◌, ◌&&◌, not, Bool, true, false, List, [], ◌∷◌, Option, Some, None, ◌≤◌}
+use Rattle.std.specs.Prelude.{◌≡◌, ℕ, ◌+◌, ◌==◌, ◌&&◌, not, Bool, true, false, List, [], ◌∷◌, Some}
 use Rattle.vbr_words.specs.Buckets.{bucket_of}
 use Rattle.vbr_words.specs.declared.place.At.{At}
 use Rattle.vbr_words.specs.declared.place.At.TheVariants.{Head, Slot}
-use Rattle.vbr_machine.specs.Agreement.{IsHeldIncarnation}
-use Rattle.vbr_machine.specs.Removals.{HasLeft}
 use Rattle.vbr_machine.specs.Start.{Start}
 use Rattle.vbr_machine.specs.Accounts.{chronicle}
 use Rattle.vbr_machine.specs.Chronicles.{Happening, Advances, Inserts, Removes, Replaces, Unlinks, Entry, becomes}
 use Rattle.vbr_machine.specs.Incarnations.{State, Linked, Marked, Unlinked, Stamped, Incarnations, at_opening}
-use Rattle.vbr_machine.specs.Nodes.{count_below, is_lower}
+use Rattle.vbr_machine.specs.Nodes.{count_below}
 use Rattle.vbr_machine.specs.declared.event.Event.{Event}
 use Rattle.vbr_machine.specs.declared.history.Call.{Call}
 use Rattle.vbr_machine.specs.declared.history.Op.{Op}
@@ -83,13 +81,6 @@ is_met start before now bucket c = (is_inserted (now.state c) && not (has_left (
 abbrev pub met : Start → Incarnations → Incarnations → ℕ → ℕ
 met start before now bucket = count_below (is_met start before now bucket) now.count
 
--- and how many of them are ordered before a key with a rank
-abbrev pub is_met_below : Start → Incarnations → Incarnations → ℕ → ℕ → ℕ → ℕ → Bool
-is_met_below start before now bucket key rank c = is_met start before now bucket c && is_lower (now.key c) (now.rank c) key rank
-
-abbrev pub met_below : Start → Incarnations → Incarnations → ℕ → ℕ → ℕ → ℕ
-met_below start before now bucket key rank = count_below (is_met_below start before now bucket key rank) now.count
-
 -- ---- places
 
 -- an incarnation is linked, the last of a slot, and of a bucket
@@ -102,19 +93,6 @@ pub record IsLinkedIn (start : Start) (a : Incarnations) (bucket s c : ℕ) : Ty
 abbrev pub IsOpenIn : Start → Incarnations → ℕ → At → Type 0
 IsOpenIn start a bucket (Head b) = b ≡ bucket
 IsOpenIn start a bucket (Slot s) = (c : ℕ) × IsLinkedIn start a bucket s c
-
--- a node of the bucket is held at a slot, which was in the list since an earlier moment; and so many nodes that are ordered before it were, at the least
-pub record IsAhead (start : Start) (before now : Incarnations) (epoch bucket visited s : ℕ) : Type 0 where
-  pub node : ℕ
-  pub held : IsHeldIncarnation now epoch s node
-  pub since : HasLeft (before.state node) → ⊥
-  pub of_bucket : bucket_of start.shape (now.key node) ≡ bucket
-  pub few : visited ≤ met_below start before now bucket (now.key node) (now.rank node)
-
--- so many nodes were visited before what a link names, all of which were in the list since an earlier moment; at the end of the list too
-abbrev pub HasVisited : Start → Incarnations → Incarnations → ℕ → ℕ → ℕ → Option ℕ → Type 0
-HasVisited start before now epoch bucket visited None = visited ≤ met start before now bucket
-HasVisited start before now epoch bucket visited (Some s) = IsAhead start before now epoch bucket visited s
 
 -- ---- what disturbances are
 

@@ -6,11 +6,10 @@ use Rattle.vbr_words.specs.Words.{link_of}
 use Rattle.vbr_words.specs.declared.link.Link.{Link}
 use Rattle.vbr_words.specs.declared.place.At.{At}
 use Rattle.vbr_words.specs.declared.place.At.TheVariants.{Head, Slot}
-use Rattle.vbr_machine.specs.Links.{link_to, marked}
+use Rattle.vbr_machine.specs.Links.{link_to}
 use Rattle.vbr_machine.specs.Knowledge.{Know}
 use Rattle.vbr_words.specs.Buckets.{bucket_of}
 use Rattle.vbr_machine.specs.Acceptance.{HasValue, IsInShape, IsOwned, IsInRange, IsBelowLast}
-use Rattle.vbr_machine.specs.Learning.{birth_in_hand}
 use Rattle.vbr_machine.specs.declared.history.Op.{Op}
 use Rattle.vbr_machine.specs.declared.history.Op.TheVariants.{Insert, Get}
 use Rattle.vbr_machine.specs.declared.event.Step.{Step}
@@ -94,15 +93,6 @@ pub record IsUnlinkLink (know : Know) (pred : At) (s : ℕ) (new : Link) : Type 
   pub next_birth : ℕ
   pub next_known : BirthNamed know frozen.slot next_birth
   pub is : new ≡ link_to frozen.slot birth next_birth
-
--- the step writes this link, by births and a marked link that are known; other steps write none
-abbrev pub WritesLink : Know → Step → Link → Type 0
-WritesLink know (StoreLink s next) new = (birth : ℕ) × BirthNamed know next birth × (new ≡ link_to next (birth_in_hand (know.own s)) birth)
-WritesLink know (Publish pred expected s) new = (birth : ℕ) × BirthAt know pred birth × (new ≡ link_to (Some s) birth (birth_in_hand (know.own s)))
-WritesLink know (Mark s expected) new = new ≡ marked (link_of expected)
-WritesLink know (Replace s expected t) new = (birth : ℕ) × Knows know (BirthOf s birth) × (new ≡ marked (link_to (Some t) birth (birth_in_hand (know.own t))))
-WritesLink know (Unlink pred expected s) new = IsUnlinkLink know pred s new
-WritesLink know _ new = ⊥
 
 -- ---- acceptance
 

@@ -1,5 +1,5 @@
 -- The nodes of lists, counted by slots: each slot has at most one, its last incarnation.
-use Rattle.std.specs.Prelude.{ℕ, zero, suc, Bool, true, false, ◌==◌, ◌&&◌, ◌||◌, Option, Some, None, nat_lt, List, if◌then◌else◌, ◌≡◌}
+use Rattle.std.specs.Prelude.{ℕ, zero, suc, Bool, true, false, ◌==◌, ◌&&◌, ◌||◌, Option, Some, None, nat_lt, List, if◌then◌else◌}
 use Rattle.vbr_machine.specs.Start.{Start}
 use Rattle.vbr_words.specs.declared.place.At.{At}
 use Rattle.vbr_words.specs.declared.place.At.TheVariants.{Head, Slot}
@@ -8,7 +8,6 @@ use Rattle.vbr_machine.specs.Accounts.{incarnations_after}
 use Rattle.vbr_machine.specs.Images.{key_shown}
 use Rattle.vbr_machine.specs.Incarnations.{State, Unborn, Linked, Marked, Incarnations}
 use Rattle.vbr_machine.specs.declared.event.Event.{Event}
-use Rattle.vbr_machine.specs.Sound.{IsListed}
 
 -- what has become of an incarnation; none is not born
 abbrev pub state_shown : Incarnations → Option ℕ → State
@@ -48,11 +47,6 @@ key_in_slot a s = key_shown a (a.last s)
 abbrev pub is_in_list : Start → Incarnations → ℕ → ℕ → Bool
 is_in_list start a bucket s = is_listed (state_in a s) && (bucket_of start.shape (key_in_slot a s) == bucket)
 
--- whether a place is in a list: a head is, and a slot whose last incarnation is
-abbrev pub is_there : Incarnations → At → Bool
-is_there a (Head b) = true
-is_there a (Slot s) = is_listed (state_in a s)
-
 -- how many of the slots below a number pass a test
 abbrev pub count_below : (ℕ → Bool) → ℕ → ℕ
 count_below test zero = 0
@@ -86,13 +80,3 @@ linked_after start run = count_below (λ s. is_linked (state_in (incarnations_af
 -- how many are marked, and still in a list
 abbrev pub marked_after : Start → List Event → ℕ
 marked_after start run = count_below (λ s. is_marked (state_in (incarnations_after start run) s)) start.shape.slots
-
--- the last incarnation of a slot is this one, and it is in a list
-pub record Stands (a : Incarnations) (s c : ℕ) : Type 0 where
-  pub last : a.last s ≡ Some c
-  pub listed : IsListed (a.state c)
-
--- the node of a slot is in the list of a bucket
-pub record InList (start : Start) (a : Incarnations) (bucket s c : ℕ) : Type 0 where
-  pub stands : Stands a s c
-  pub of_bucket : bucket_of start.shape (a.key c) ≡ bucket

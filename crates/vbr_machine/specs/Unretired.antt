@@ -2,7 +2,6 @@
 use Rattle.std.specs.Prelude.{ℕ, ◌+◌, ◌&&◌, Bool, true, false, List, [], ◌∷◌}
 use Rattle.vbr_machine.specs.Start.{Start}
 use Rattle.vbr_machine.specs.Accounts.{incarnations_after}
-use Rattle.vbr_machine.specs.Chronicles.{Happening, Stamps}
 use Rattle.vbr_machine.specs.Incarnations.{State, Marked, Unlinked}
 use Rattle.vbr_machine.specs.Nodes.{count_below, state_in}
 use Rattle.vbr_machine.specs.Disturbances.{one_if}
@@ -20,11 +19,6 @@ is_unretired _ = false
 -- how many are after a run, each the last of its slot
 abbrev pub unretired_after : Start → List Event → ℕ
 unretired_after start run = count_below (λ s. is_unretired (state_in (incarnations_after start run) s)) start.shape.slots
-
--- whether an event retires an incarnation
-abbrev pub is_retirement : Happening → Bool
-is_retirement (Stamps c stamp) = true
-is_retirement _ = false
 
 -- ---- removes
 

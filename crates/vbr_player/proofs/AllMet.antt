@@ -11,9 +11,9 @@ use Rattle.vbr_machine.specs.Runs.{Begins}
 use Rattle.vbr_machine.specs.declared.event.Event.{Event}
 use Rattle.vbr_machine.proofs.Lemmas.{begins_refl, begins_trans}
 use Rattle.vbr_slots.proofs.Lemmas.{quiet_on, quiet_refl}
-use Rattle.vbr_slots.specs.Views.{PassView, TableView}
-use Rattle.vbr_set.specs.Meetings.{HasMet}
-use Rattle.vbr_set.specs.Members.{MemberView}
+use Rattle.vbr_slots.specs.views.Views.{PassView, TableView}
+use Rattle.vbr_set.specs.histories.Meetings.{HasMet}
+use Rattle.vbr_set.specs.calls.Members.{MemberView}
 use Rattle.vbr_player.specs.Meeting.{AreOfOne, HasLooked, HasSeenMore, Meets, MeetsOthers}
 use Rattle.vbr_player.specs.declared.worker.Worker.{Worker}
 use Rattle.vbr_player.proofs.Starting.{one_behind}

@@ -4,8 +4,8 @@ use Rattle.std.proofs.lemmas.Bool.{ne_eqb}
 use Rattle.std.proofs.lemmas.List.Sums.{sum_by-append}
 use Rattle.vbr_machine.specs.Runs.{BeginsFor, NoneOf}
 use Rattle.vbr_machine.specs.declared.event.Event.{Event}
-use Rattle.vbr_slots.specs.Views.{steps_in}
-use Rattle.vbr_set.specs.Members.{MemberView}
+use Rattle.vbr_slots.specs.views.Views.{steps_in}
+use Rattle.vbr_set.specs.calls.Members.{MemberView}
 use Rattle.vbr_transcript.specs.Calls.{Outcome}
 use Rattle.vbr_player.specs.Calling.{CallsInTurn, HasMetOften, IsCalled}
 use Rattle.vbr_script.specs.declared.script.Kind.{Kind}

@@ -3,11 +3,11 @@ use Rattle.std.proofs.Common.{◌≡◌, ℕ, List, refl, sym, ◌∙◌}
 use Rattle.vbr_words.specs.Dimensions.{Dimensions}
 use Rattle.vbr_machine.specs.Start.{Start, start_with}
 use Rattle.vbr_machine.specs.Maps.{entries_in, keys_listed, map_start, opening_entries, values_listed}
-use Rattle.vbr_slots.specs.Views.{PassView, TableView}
-use Rattle.vbr_set.specs.Closing.{ClosesBy}
-use Rattle.vbr_set.specs.Histories.{calls_of}
-use Rattle.vbr_set.specs.Kinds.{KindOf}
-use Rattle.vbr_set.specs.Renewing.{RenewsBy}
+use Rattle.vbr_slots.specs.views.Views.{PassView, TableView}
+use Rattle.vbr_set.specs.reports.Closing.{ClosesBy}
+use Rattle.vbr_set.specs.histories.Histories.{calls_of}
+use Rattle.vbr_set.specs.reports.Kinds.{KindOf}
+use Rattle.vbr_set.specs.renewals.Renewing.{RenewsBy}
 use Rattle.vbr_script.specs.Grammar.{is_map}
 use Rattle.vbr_script.specs.declared.script.Kind.{Kind}
 use Rattle.vbr_script.specs.declared.script.Kind.TheVariants.{Set, Map}

@@ -1,15 +1,14 @@
 -- What the end of a set or a map asks of its workers, and what it gives.
-use Rattle.std.proofs.Common.{◌≡◌, ℕ, ◌-◌, ◌*◌, ◌<◌, List, [], ◌∷◌, length, sym, ap, subst, ◌∙◌}
-use Rattle.std.specs.Prelude.{All}
-use Rattle.std.proofs.lemmas.List.{length-map}
+use Rattle.std.proofs.Common.{◌≡◌, ℕ, ◌-◌, ◌*◌, ◌<◌, List, [], ◌∷◌, sym, subst}
+use Rattle.std.specs.Prelude.{All, length, zip}
 use Rattle.std.proofs.lemmas.List.Elements.{All-head, All-tail}
-use Rattle.vbr_slots.specs.Closing.{AllOf, EachSeen}
-use Rattle.vbr_slots.specs.Views.{PassView, TableView}
+use Rattle.vbr_slots.specs.runs.Closing.{AllOf, EachSeen}
+use Rattle.vbr_slots.specs.views.Views.{PassView, TableView}
 use Rattle.vbr_player.specs.Calling.{ArePlayed}
 use Rattle.vbr_player.specs.Ending.{PlayedWhole, passes_of}
 use Rattle.vbr_player.specs.Closing.{ClosesListing, RenewsAs}
-use Rattle.vbr_player.specs.Spans.{HasPlayedSpan, IsFollowed, PlayedSpan}
-use Rattle.vbr_transcript.specs.Contents.{Item}
+use Rattle.vbr_player.specs.Spans.{PlayedSpan}
+use Rattle.vbr_transcript.specs.Contents.{AreContents, Item, contents_after, opened_with, opening_contents}
 use Rattle.vbr_transcript.specs.Merging.{HaveReplies, IsMerged}
 use Rattle.vbr_script.specs.Scripts.{ArePhased}
 use Rattle.vbr_player.specs.Standing.{replies_of, HasPlayed}
@@ -19,6 +18,32 @@ use Rattle.vbr_script.specs.declared.script.Kind.{Kind}
 use Rattle.vbr_script.specs.declared.script.Line.{Line}
 use Rattle.vbr_player.proofs.PlayedWhole.{are_played, have_replies, have_played}
 use Rattle.vbr_transcript.proofs.Lemmas.{set_run_of_workers}
+use Rattle.vbr_machine.specs.Runs.{world_after}
+use Rattle.vbr_machine.specs.declared.event.Event.{Event}
+use Rattle.vbr_transcript.specs.Runs.{IsSetRun}
+
+-- a set or a map has played lines, in so many phases, with these replies, and was closed with what is listed, at this
+-- epoch
+pub record HasPlayedSpan (kind : Kind) (set : TableView) (budget : ℕ) (lines : List Line) (phases : ℕ)
+    (replies : List Reply) (listed : List (Item kind)) (epoch : ℕ) : Type 0 where
+  pub one_each : length replies ≡ length lines
+  pub run : List Event
+  pub of_set : IsSetRun kind (ArePlayed kind set.passes budget) set.start set.passes phases (zip lines replies) run
+  pub contents : AreContents kind listed
+      (contents_after kind (opening_contents kind set.start) (world_after set.start run).calls)
+  pub last : epoch ≡ (world_after set.start run).epoch
+
+-- a set or a map has played lines, in so many phases, with these replies, and another follows it, which has as many
+-- passes, opened with what is listed, and so has what was left
+pub record IsFollowed (kind : Kind) (set : TableView) (budget : ℕ) (lines : List Line) (phases : ℕ)
+    (replies : List Reply) (next : TableView) : Type 0 where
+  pub listed : List (Item kind)
+  pub epoch : ℕ
+  pub played : HasPlayedSpan kind set budget lines phases replies listed epoch
+  pub start : next.start ≡ opened_with kind set.start listed
+  pub opens : opening_contents kind (opened_with kind set.start listed)
+      ≡ contents_after kind (opening_contents kind set.start) (world_after set.start played.run).calls
+  pub passes : next.passes ≡ set.passes
 
 -- each worker has a reply to each of its lines
 pub merges : {N : Type 0} {kind : Kind} →
@@ -46,13 +71,6 @@ pub closes : {N : Type 0} {kind : Kind} →
 closes {N} {kind} set budget script from phases passes own played =
     subst (AllOf set) (sym played.passes_are)
     (all_of set budget ((set.passes - 1) * (phases - from)) script script played.workers played.stand.played)
-
--- and there are as many
-pub as_many : {N : Type 0} {kind : Kind} →
-    (set : TableView) (budget : ℕ) (lines : List Line) (from phases : ℕ) (passes : List PassView)
-    (own : List (List Reply)) → PlayedWhole kind N set budget lines from phases passes own → length passes ≡ set.passes
-as_many {N} {kind} set budget lines from phases passes own played = ap length played.passes_are
-    ∙ length-map played.workers (λ (worker : Worker N). worker.caller.pass) ∙ played.stand.count_is
 
 -- what the passes have played has been played when it is closed
 pub closed : {N : Type 0} {kind : Kind} →

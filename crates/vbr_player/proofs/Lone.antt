@@ -11,16 +11,16 @@ use Rattle.vbr_machine.specs.declared.event.Event.{Event}
 use Rattle.vbr_machine.specs.declared.history.Call.{Call}
 use Rattle.vbr_machine.specs.declared.history.Op.{Op}
 use Rattle.vbr_machine.specs.declared.history.Op.TheVariants.{Insert, Remove, Has, Get}
-use Rattle.vbr_slots.specs.Alone.{IsAlone, OnlyEventsOf}
-use Rattle.vbr_slots.specs.Calls.{IsSame, Quiet}
-use Rattle.vbr_slots.specs.Views.{PassView, TableView, Trace, new_trace}
+use Rattle.vbr_slots.specs.steps.Alone.{IsAlone, OnlyEventsOf}
+use Rattle.vbr_slots.specs.steps.Calls.{IsSame, Quiet}
+use Rattle.vbr_slots.specs.views.Views.{PassView, TableView, Trace, new_trace}
 use Rattle.vbr_slots.proofs.Lemmas.{same_on, same_refl}
-use Rattle.vbr_list.specs.Budgets.{LacksSteps, enough_to_insert, enough_to_look_up, enough_to_search}
-use Rattle.vbr_list.specs.CallBounds.{BoundsOfCall, BoundsOfInsert}
+use Rattle.vbr_list.specs.calls.Budgets.{LacksSteps, enough_to_insert, enough_to_look_up, enough_to_search}
+use Rattle.vbr_list.specs.calls.CallBounds.{BoundsOfCall, BoundsOfInsert}
 use Rattle.vbr_at_table.specs.declared.refusal.Refusal.{Refusal}
 use Rattle.vbr_at_table.specs.declared.refusal.Refusal.TheVariants.{OutOfSteps, NoSlot, EpochSpent}
-use Rattle.vbr_set.specs.MapCalls.{MapAnswersAll}
-use Rattle.vbr_set.specs.Members.{Called, MemberView, CalledBy}
+use Rattle.vbr_set.specs.calls.MapCalls.{MapAnswersAll}
+use Rattle.vbr_set.specs.calls.Members.{Called, MemberView, CalledBy}
 use Rattle.vbr_set.specs.Names.{HasSafeRun, listed_for, most_to_take}
 use Rattle.vbr_script.specs.declared.script.Kind.{Kind}
 use Rattle.vbr_script.specs.declared.script.Kind.TheVariants.{Set, Map}

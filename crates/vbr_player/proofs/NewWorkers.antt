@@ -6,9 +6,9 @@ use Rattle.std.specs.List.{AllZip}
 use Rattle.std.proofs.lemmas.List.Elements.{All-nil, All-cons}
 use Rattle.vbr_machine.specs.Runs.{Begins}
 use Rattle.vbr_machine.specs.declared.event.Event.{Event}
-use Rattle.vbr_slots.specs.Views.{PassView, TableView, IsOf, new_pass, new_passes, steps_of}
-use Rattle.vbr_slots.specs.Calls.{made_by}
-use Rattle.vbr_set.specs.Members.{MemberView, as_member}
+use Rattle.vbr_slots.specs.views.Views.{PassView, TableView, IsOf, new_pass, new_passes, steps_of}
+use Rattle.vbr_slots.specs.steps.Calls.{made_by}
+use Rattle.vbr_set.specs.calls.Members.{MemberView, as_member}
 use Rattle.vbr_transcript.specs.Calls.{Outcome, lines_by, lines_up_to}
 use Rattle.vbr_script.specs.Scripts.{AscendFrom}
 use Rattle.vbr_transcript.proofs.Lemmas.{ascend_lower}

@@ -6,7 +6,7 @@ use Rattle.std.specs.List.{prefix_len}
 use Rattle.std.proofs.Math.Seq.{take-add}
 use Rattle.std.proofs.lemmas.List.{drop-drop, take_all, take-append-drop}
 use Rattle.std.proofs.lemmas.List.Elements.{All-append, All-drop}
-use Rattle.vbr_slots.specs.Views.{TableView}
+use Rattle.vbr_slots.specs.views.Views.{TableView}
 use Rattle.vbr_transcript.specs.Calls.{lines_up_to}
 use Rattle.vbr_player.specs.Meeting.{PlayedAndMet}
 use Rattle.vbr_script.specs.Scripts.{AscendFrom}

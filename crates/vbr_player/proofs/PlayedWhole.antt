@@ -13,14 +13,13 @@ use Rattle.vbr_machine.specs.Safety.{IsSafe}
 use Rattle.vbr_machine.specs.declared.event.Event.{Event}
 use Rattle.vbr_machine.specs.declared.history.Op.{Op}
 use Rattle.vbr_machine.proofs.Lemmas.{begins_for_begins, begins_trans, others_leave_calls}
-use Rattle.vbr_slots.specs.Closing.{EachSeen}
-use Rattle.vbr_slots.specs.Views.{Trace, TableView, new_pass, steps_in, steps_of}
-use Rattle.vbr_set.specs.Members.{as_member}
+use Rattle.vbr_slots.specs.runs.Closing.{EachSeen}
+use Rattle.vbr_slots.specs.views.Views.{Trace, TableView, new_pass, steps_in, steps_of}
+use Rattle.vbr_set.specs.calls.Members.{as_member}
 use Rattle.vbr_transcript.specs.Calls.{Outcome, answered_calls, lines_by, outcomes_by}
 use Rattle.vbr_player.specs.Calling.{ArePlayed, PlaysOwn, ample}
 use Rattle.vbr_player.specs.Ending.{passes_of}
 use Rattle.vbr_transcript.specs.Merging.{replies_by, HaveReplies, IsMerged}
-use Rattle.vbr_transcript.specs.Phases.{EndsWithin, HavePlayed}
 use Rattle.vbr_transcript.specs.Runs.{MayBeAnswered}
 use Rattle.vbr_script.specs.Scripts.{ArePhased}
 use Rattle.vbr_player.specs.Standing.{replies_of, AreNumberedFrom, HasPlayed, HasEnded, Stand}
@@ -31,6 +30,7 @@ use Rattle.vbr_player.specs.declared.worker.Worker.{Worker}
 use Rattle.vbr_script.specs.declared.script.Kind.{Kind}
 use Rattle.vbr_script.specs.declared.script.Line.{Line}
 use Rattle.vbr_transcript.proofs.Lemmas.{all_lines, all_outcomes, epoch_begins, none_beyond, outcomes_by-own}
+use Rattle.vbr_transcript.proofs.Lemmas.{EndsWithin, HavePlayed}
 use Rattle.vbr_player.proofs.Calling.{steps_seen}
 use Rattle.vbr_player.proofs.Lone.{lone_untired}
 use Rattle.vbr_player.proofs.Standing.{as_many}

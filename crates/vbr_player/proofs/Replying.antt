@@ -12,17 +12,17 @@ use Rattle.vbr_machine.specs.declared.history.Call.{Call}
 use Rattle.vbr_machine.specs.declared.history.Op.{Op}
 use Rattle.vbr_machine.specs.declared.history.Op.TheVariants.{Insert, Remove, Has, Get}
 use Rattle.vbr_machine.proofs.Lemmas.{begins_refl}
-use Rattle.vbr_slots.specs.Calls.{IsSame, Quiet, made_by}
-use Rattle.vbr_slots.specs.Views.{PassView}
+use Rattle.vbr_slots.specs.steps.Calls.{IsSame, Quiet, made_by}
+use Rattle.vbr_slots.specs.views.Views.{PassView}
 use Rattle.vbr_slots.proofs.Lemmas.{same_refl}
-use Rattle.vbr_list.specs.Refusals.{IsRefusedInsert, IsTired}
-use Rattle.vbr_list.specs.CallBounds.{BoundsOfCall}
-use Rattle.vbr_list.specs.Told.{given_by, given_call, stored_call}
+use Rattle.vbr_list.specs.calls.Refusals.{IsRefusedInsert, IsTired}
+use Rattle.vbr_list.specs.calls.CallBounds.{BoundsOfCall}
+use Rattle.vbr_list.specs.calls.Told.{given_by, given_call, stored_call}
 use Rattle.vbr_at_table.specs.declared.refusal.Refusal.{Refusal}
 use Rattle.vbr_at_table.specs.declared.refusal.Refusal.TheVariants.{OutOfSteps, NoSlot, EpochSpent}
-use Rattle.vbr_set.specs.Answers.{Answers}
-use Rattle.vbr_set.specs.MapCalls.{InsertsEntry, MapAnswersAll}
-use Rattle.vbr_set.specs.Members.{MemberView, Called, CalledBy, one}
+use Rattle.vbr_set.specs.histories.Answers.{Answers}
+use Rattle.vbr_set.specs.calls.MapCalls.{InsertsEntry, MapAnswersAll}
+use Rattle.vbr_set.specs.calls.Members.{MemberView, Called, CalledBy, one}
 use Rattle.vbr_set.specs.Names.{TookWithin}
 use Rattle.vbr_script.specs.declared.script.Kind.{Kind}
 use Rattle.vbr_script.specs.declared.script.Kind.TheVariants.{Set, Map}

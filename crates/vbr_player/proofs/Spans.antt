@@ -1,14 +1,14 @@
 -- From set to set, the lines of a span are cut off those that are left.
 -- What one more set was asked stands in front of what the later ones are.
 use Rattle.std.proofs.Common.{◌≡◌, ℕ, zero, suc, ◌+◌, ◌-◌, ◌<◌, ◌≤◌, List, [], ◌∷◌, ◌++◌, length, take, drop, get_or}
-use Rattle.std.proofs.Common.{refl, sym, ap, subst, ◌∙◌, append_assoc, arith, length-append, length-drop}
+use Rattle.std.proofs.Common.{sym, ap, subst, ◌∙◌, append_assoc, arith, length-append, length-drop}
 use Rattle.std.specs.Prelude.{nat_le, zip, All}
 use Rattle.std.specs.List.{prefix_len}
 use Rattle.std.proofs.lemmas.List.{drop_all, drop-drop, length-take, take-append-drop}
 use Rattle.std.proofs.Math.Seq.{drop-cons}
 use Rattle.std.proofs.lemmas.List.Elements.{All-drop, All-take}
 use Rattle.vbr_machine.specs.Start.{Start}
-use Rattle.vbr_slots.specs.Views.{TableView}
+use Rattle.vbr_slots.specs.views.Views.{TableView}
 use Rattle.vbr_script.specs.Scripts.{ArePhased, AreRenewalsFrom, AscendFrom, MayAsk}
 use Rattle.vbr_script.specs.declared.script.Kind.{Kind}
 use Rattle.vbr_script.specs.declared.script.Line.{Line}
@@ -18,9 +18,10 @@ use Rattle.vbr_transcript.specs.Runs.{AreExplained}
 use Rattle.vbr_transcript.specs.declared.reply.Reply.{Reply}
 use Rattle.vbr_transcript.proofs.Lemmas.{all_lines, ascend_lower, last_set, one_more_set, zip-append}
 use Rattle.vbr_player.specs.Calling.{ArePlayed}
-use Rattle.vbr_player.specs.Spans.{HasPlayedSpan, IsFollowed, IsSpan}
+use Rattle.vbr_player.specs.Spans.{IsSpan}
 use Rattle.vbr_player.proofs.Phasing.{rest_of, slice_of}
 use Rattle.vbr_player.proofs.Slices.{all_from, next_phase}
+use Rattle.vbr_player.proofs.Finishing.{HasPlayedSpan, IsFollowed}
 
 -- ---- the lines of a span
 
@@ -110,22 +111,6 @@ pub record HavePlayedSets (kind : Kind) (workers : ℕ) (start : Start) (budget 
       (zip (drop first script) rest) listed epoch →
       AreExplained kind (ArePlayed kind workers budget) start workers 0 phases renewals (zip script (replies ++ rest))
       listed epoch
-
-pub none_played : {kind : Kind} (workers : ℕ) (start : Start) (budget : ℕ) (script : List Line) (renewals : List ℕ)
-    (phases : ℕ) (set : TableView) → set.start ≡ start → set.passes ≡ workers → ArePhased kind workers phases script →
-    AreRenewalsFrom 0 phases renewals → HavePlayedSets kind workers start budget script renewals phases set 0 0 0 []
-none_played {kind} workers start budget script renewals phases set shaped counted phased renewed = record {
-  inside = omega arith;
-  long = refl;
-  counted = counted;
-  later = phased.ascend;
-  order = omega arith;
-  renewed = renewed;
-  goes = λ rest listed epoch explained.
-      subst (λ (k : ℕ × Start).
-      AreExplained kind (ArePlayed kind k.0 budget) k.1 k.0 0 phases renewals (zip script rest) listed epoch)
-      (λ i. (counted i, shaped i)) explained;
-}
 
 -- the next renewal
 pub renewal_here : (renewals lent : List ℕ) (i : ℕ) → lent ≡ renewals → i < length lent →

@@ -15,9 +15,9 @@ use Rattle.vbr_machine.specs.Runs.{Begins, world_after}
 use Rattle.vbr_machine.specs.declared.event.Event.{Event}
 use Rattle.vbr_machine.specs.declared.history.Call.{Call}
 use Rattle.vbr_machine.proofs.Lemmas.{begins_trans, calls_by-append, calls_since}
-use Rattle.vbr_slots.specs.Calls.{made_by}
-use Rattle.vbr_slots.specs.Views.{IsOf, TableView, new_pass, steps_of}
-use Rattle.vbr_set.specs.Members.{as_member}
+use Rattle.vbr_slots.specs.steps.Calls.{made_by}
+use Rattle.vbr_slots.specs.views.Views.{IsOf, TableView, new_pass, steps_of}
+use Rattle.vbr_set.specs.calls.Members.{as_member}
 use Rattle.vbr_transcript.specs.Calls.{Outcome, answered_calls, lines_by, lines_up_to}
 use Rattle.vbr_player.specs.Calling.{CallsInTurn}
 use Rattle.vbr_player.specs.Meeting.{AreOfOne, HasSeenMore, Meets, PlayedAndMet}

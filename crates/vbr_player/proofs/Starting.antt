@@ -3,13 +3,18 @@ use Rattle.std.proofs.Common.{◌≡◌, ℕ, List, [], ◌∷◌, ◌++◌, len
 use Rattle.std.specs.Prelude.{Result, Ok, Err, IfOk, All, Vec}
 use Rattle.std.specs.Global.{Global}
 use Rattle.std.proofs.lemmas.List.Elements.{All-head, All-tail}
-use Rattle.vbr_player.specs.Starting.{IsFor, AreFor, EndsAs, AreEndedBy, EndAll}
+use Rattle.vbr_player.specs.Starting.{IsFor, EndsAs, AreEndedBy, EndAll}
 use Rattle.vbr_player.specs.Working.{Played, EachPlayed}
 use Rattle.vbr_script.specs.declared.script.Kind.{Kind}
 use Rattle.vbr_script.specs.declared.script.Line.{Line}
 use Rattle.vbr_player.specs.declared.phase_worker.PhaseWorker.{PhaseWorker}
 use Rattle.vbr_player.specs.declared.phase_worker.PhaseWorker.TheVariants.{Started, Done}
 use Rattle.vbr_player.specs.declared.worker.Worker.{Worker}
+use Rattle.std.specs.List.{AllZip}
+
+-- so it is of each worker, in order
+abbrev pub AreFor : {N : Type 0} → Kind → ℕ → List Line → List (PhaseWorker N) → List (Worker N) → Type 0
+AreFor kind budget lines all_started workers = AllZip (IsFor kind budget lines) all_started workers
 
 -- what all have, the one after some others has
 pub one_behind : {A : Type 0} (P : A → Type 0) (before : List A) (x : A) (after : List A) →

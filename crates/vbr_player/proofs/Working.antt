@@ -8,8 +8,8 @@ use Rattle.std.proofs.lemmas.List.Elements.{All-append}
 use Rattle.vbr_machine.specs.Runs.{Begins}
 use Rattle.vbr_machine.specs.declared.history.Op.{Op}
 use Rattle.vbr_machine.proofs.Lemmas.{begins_refl, begins_trans}
-use Rattle.vbr_slots.specs.Calls.{IsSame, made_by}
-use Rattle.vbr_slots.specs.Views.{Trace}
+use Rattle.vbr_slots.specs.steps.Calls.{IsSame, made_by}
+use Rattle.vbr_slots.specs.views.Views.{Trace}
 use Rattle.vbr_slots.proofs.Lemmas.{same_on, same_refl}
 use Rattle.vbr_transcript.specs.Calls.{Outcome, answered_calls, lines_by}
 use Rattle.vbr_player.specs.Calling.{CallsInTurn}

@@ -5,12 +5,12 @@ use Rattle.vbr_machine.specs.Runs.{BeginsFor}
 use Rattle.vbr_machine.specs.declared.event.Event.{Event}
 use Rattle.vbr_machine.specs.declared.history.Op.{Op}
 use Rattle.vbr_machine.specs.declared.history.Op.TheVariants.{Insert, Remove, Has, Get}
-use Rattle.vbr_slots.specs.Views.{PassView, TableView, new_pass, steps_in}
+use Rattle.vbr_slots.specs.views.Views.{PassView, TableView, new_pass, steps_in}
 use Rattle.vbr_at_table.specs.declared.refusal.Refusal.{Refusal}
 use Rattle.vbr_at_table.specs.declared.refusal.Refusal.TheVariants.{OutOfSteps, NoSlot, EpochSpent}
-use Rattle.vbr_set.specs.MapCalls.{GetsEntry, InsertsEntry, RemovesEntry}
-use Rattle.vbr_set.specs.Meetings.{HasMet}
-use Rattle.vbr_set.specs.Members.{Called, MemberView, as_member}
+use Rattle.vbr_set.specs.calls.MapCalls.{GetsEntry, InsertsEntry, RemovesEntry}
+use Rattle.vbr_set.specs.histories.Meetings.{HasMet}
+use Rattle.vbr_set.specs.calls.Members.{Called, MemberView, as_member}
 use Rattle.vbr_set.specs.Names.{enough_past, most_to_take}
 use Rattle.vbr_script.specs.declared.script.Kind.{Kind}
 use Rattle.vbr_script.specs.declared.script.Kind.TheVariants.{Set, Map}

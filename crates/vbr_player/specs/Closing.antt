@@ -3,8 +3,8 @@ use Rattle.std.specs.Prelude.{◌≡◌, ℕ, List}
 use Rattle.vbr_machine.specs.Runs.{IsRun, world_after}
 use Rattle.vbr_machine.specs.Safety.{IsSafe}
 use Rattle.vbr_machine.specs.declared.event.Event.{Event}
-use Rattle.vbr_slots.specs.Closing.{EachSeen}
-use Rattle.vbr_slots.specs.Views.{PassView, TableView}
+use Rattle.vbr_slots.specs.runs.Closing.{EachSeen}
+use Rattle.vbr_slots.specs.views.Views.{PassView, TableView}
 use Rattle.vbr_script.specs.declared.script.Kind.{Kind}
 use Rattle.vbr_transcript.specs.Contents.{AreContents, IsLegalFrom, Item, contents_after, opened_with, opening_contents}
 

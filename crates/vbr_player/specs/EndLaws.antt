@@ -2,7 +2,7 @@
 use Rattle.std.proofs.Common.{◌≡◌, ℕ, List, refl}
 use Rattle.vbr_machine.specs.Start.{Start}
 use Rattle.vbr_machine.specs.declared.history.Call.{Call}
-use Rattle.vbr_set.specs.Kinds.{KindOf, as_map, as_set}
+use Rattle.vbr_set.specs.reports.Kinds.{KindOf, as_map, as_set}
 use Rattle.vbr_set.specs.declared.report.MapReport.{MapReport}
 use Rattle.vbr_set.specs.declared.report.Report.{Report}
 use Rattle.vbr_script.specs.declared.script.Kind.{Kind}

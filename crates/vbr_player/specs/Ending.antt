@@ -1,6 +1,6 @@
 -- What the workers bring to the end of a set.
 use Rattle.std.specs.Prelude.{◌≡◌, ℕ, List, map}
-use Rattle.vbr_slots.specs.Views.{PassView, TableView}
+use Rattle.vbr_slots.specs.views.Views.{PassView, TableView}
 use Rattle.vbr_player.specs.Standing.{replies_of, Stand}
 use Rattle.vbr_script.specs.declared.script.Kind.{Kind}
 use Rattle.vbr_script.specs.declared.script.Line.{Line}

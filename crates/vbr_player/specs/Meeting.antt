@@ -3,9 +3,9 @@ use Rattle.std.specs.Prelude.{◌≡◌, ℕ, ◌+◌, ◌-◌, ◌≤◌, List,
 use Rattle.std.specs.List.{AllZip}
 use Rattle.vbr_machine.specs.Runs.{Begins}
 use Rattle.vbr_machine.specs.declared.event.Event.{Event}
-use Rattle.vbr_slots.specs.Calls.{Quiet}
-use Rattle.vbr_slots.specs.Views.{KeepsPool, TableView, steps_of}
-use Rattle.vbr_set.specs.Members.{MemberView}
+use Rattle.vbr_slots.specs.steps.Calls.{Quiet}
+use Rattle.vbr_slots.specs.views.Views.{KeepsPool, TableView, steps_of}
+use Rattle.vbr_set.specs.calls.Members.{MemberView}
 use Rattle.vbr_player.specs.Calling.{HasMetOften}
 use Rattle.vbr_player.specs.Working.{EachPlayed}
 use Rattle.vbr_script.specs.declared.script.Kind.{Kind}

@@ -1,6 +1,6 @@
 -- What a script is played on, a set or a map. Only contracts of private functions cite this.
 use Rattle.std.specs.Prelude.{◌≡◌, ◌<◌}
-use Rattle.vbr_slots.specs.Views.{new_passes}
+use Rattle.vbr_slots.specs.views.Views.{new_passes}
 use Rattle.vbr_script.specs.Grammar.{is_map}
 use Rattle.vbr_script.specs.declared.script.Kind.{Kind}
 use Rattle.vbr_player.specs.declared.opened.Opened.{Opened}

@@ -3,9 +3,9 @@ use Rattle.std.specs.Prelude.{◌≡◌, ℕ, suc, ◌+◌, ◌-◌, ◌*◌, �
 use Rattle.std.specs.Vec.{vec_capacity}
 use Rattle.vbr_machine.specs.Runs.{Begins}
 use Rattle.vbr_machine.specs.declared.event.Event.{Event}
-use Rattle.vbr_slots.specs.Calls.{made_by}
-use Rattle.vbr_slots.specs.Views.{PassView, TableView, IsOf, new_pass, steps_of}
-use Rattle.vbr_set.specs.Members.{as_member}
+use Rattle.vbr_slots.specs.steps.Calls.{made_by}
+use Rattle.vbr_slots.specs.views.Views.{PassView, TableView, IsOf, new_pass, steps_of}
+use Rattle.vbr_set.specs.calls.Members.{as_member}
 use Rattle.vbr_transcript.specs.Calls.{answered_calls, lines_by, lines_up_to}
 use Rattle.vbr_transcript.specs.Merging.{replies_by}
 use Rattle.vbr_transcript.specs.Phases.{HaveCalled}

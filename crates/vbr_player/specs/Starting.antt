@@ -14,10 +14,6 @@ abbrev pub IsFor : {N : Type 0} → Kind → ℕ → List Line → PhaseWorker N
 IsFor kind budget lines (Started thread) worker = (thread.promise.before.value ≡ worker) × (thread.promise.lines.now ≡ lines) × (thread.promise.budget ≡ budget)
 IsFor kind budget lines (Done played) worker = Played kind budget lines worker played
 
--- so it is of each worker, in order
-abbrev pub AreFor : {N : Type 0} → Kind → ℕ → List Line → List (PhaseWorker N) → List (Worker N) → Type 0
-AreFor kind budget lines all_started workers = AllZip (IsFor kind budget lines) all_started workers
-
 -- a worker that was started ended as this one, as its thread promised
 abbrev pub EndsAs : {N : Type 0} → Kind → PhaseWorker N → Worker N → Type 0
 EndsAs kind (Started thread) worker = Played kind thread.promise.budget thread.promise.lines.now thread.promise.before.value worker

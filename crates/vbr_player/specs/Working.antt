@@ -5,8 +5,8 @@ use Rattle.std.specs.Vec.{vec_capacity}
 use Rattle.vbr_machine.specs.Runs.{Begins, world_after}
 use Rattle.vbr_machine.specs.declared.history.Op.{Op}
 use Rattle.vbr_machine.specs.declared.history.Op.TheVariants.{Insert}
-use Rattle.vbr_slots.specs.Calls.{IsSame, made_by}
-use Rattle.vbr_slots.specs.Views.{Trace, steps_of}
+use Rattle.vbr_slots.specs.steps.Calls.{IsSame, made_by}
+use Rattle.vbr_slots.specs.views.Views.{Trace, steps_of}
 use Rattle.vbr_transcript.specs.Calls.{answered_calls, lines_by}
 use Rattle.vbr_transcript.specs.Runs.{gives_value}
 use Rattle.vbr_player.specs.Calling.{CallsInTurn}

@@ -1,6 +1,6 @@
 // What a script is played on, a set or a map: how it is opened, renewed and closed.
 ghost use Rattle.std.specs.Prelude.{◌≡◌, ◌<◌, IfOk, IfErr, length};
-ghost use Rattle.vbr_slots.specs.Closing.{AllOf};
+ghost use Rattle.vbr_slots.specs.runs.Closing.{AllOf};
 ghost use Rattle.vbr_script.specs.Grammar.{is_map};
 ghost use Rattle.vbr_player.specs.Closing.{ClosesListing, RenewsAs};
 ghost use Rattle.vbr_player.specs.Opened.{IsJustOpened};

@@ -1,6 +1,6 @@
 // The workers of a set or a map, before its first phase.
 ghost use Rattle.std.specs.Prelude.{◌≡◌, ℕ, ◌==◌, [], None, count_by, IfOk};
-ghost use Rattle.vbr_slots.specs.Views.{IsOf, new_passes};
+ghost use Rattle.vbr_slots.specs.views.Views.{IsOf, new_passes};
 ghost use Rattle.vbr_player.specs.Standing.{IsNewWorker, Stand};
 
 use crate::asking::Asked;

@@ -1,7 +1,7 @@
 // The phases that are played on one set or map.
 ghost use Rattle.std.specs.Prelude.{◌≡◌, ◌≤◌, nat_le, length, IfOk, IfErr};
 ghost use Rattle.std.specs.List.{prefix_len};
-ghost use Rattle.vbr_slots.specs.Views.{new_passes};
+ghost use Rattle.vbr_slots.specs.views.Views.{new_passes};
 ghost use Rattle.vbr_player.specs.Playing.{IsWant};
 ghost use Rattle.vbr_player.specs.Spans.{IsSpan, PlayedSpan};
 

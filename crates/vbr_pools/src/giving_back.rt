@@ -1,8 +1,8 @@
 //! Giving back a slot in hand.
 ghost use Rattle.std.specs.Prelude.{◌<◌, length};
 ghost use Rattle.vbr_slots.specs.declared.pass.TheConstants.{POOL};
-ghost use Rattle.vbr_at_table.specs.GivingBack.{PutsBack};
-ghost use Rattle.vbr_at_table.specs.Hands.{IsHandOf};
+ghost use Rattle.vbr_at_table.specs.pools.GivingBack.{PutsBack};
+ghost use Rattle.vbr_at_table.specs.hands.Hands.{IsHandOf};
 
 use vbr_at_table::Hand;
 use vbr_slots::Pass;

@@ -1,7 +1,7 @@
 //! Giving the slots of the own pool back.
-ghost use Rattle.vbr_slots.specs.Calls.{Took};
-ghost use Rattle.vbr_slots.specs.Views.{IsOf};
-ghost use Rattle.vbr_at_table.specs.GivingSlotsBack.{GivesSlotsBack};
+ghost use Rattle.vbr_slots.specs.steps.Calls.{Took};
+ghost use Rattle.vbr_slots.specs.views.Views.{IsOf};
+ghost use Rattle.vbr_at_table.specs.pools.GivingSlotsBack.{GivesSlotsBack};
 
 use vbr_slots::{AtTable, Pass, Slots, Stepper};
 use vbr_words::Nodes;

@@ -1,7 +1,7 @@
 //! Retiring an unlinked slot.
 ghost use Rattle.vbr_machine.specs.Acceptance.{IsUnlinked};
-ghost use Rattle.vbr_slots.specs.Views.{IsOf, knows};
-ghost use Rattle.vbr_at_table.specs.Retiring.{Retires};
+ghost use Rattle.vbr_slots.specs.views.Views.{IsOf, knows};
+ghost use Rattle.vbr_at_table.specs.pools.Retiring.{Retires};
 
 use vbr_at_table::Unlinked;
 use vbr_slots::{AtTable, Pass, Slots};

@@ -1,8 +1,8 @@
 //! Taking a slot for a new incarnation.
 ghost use Rattle.std.specs.Prelude.{◌≡◌, IfOk, IfErr, None};
-ghost use Rattle.vbr_slots.specs.Views.{IsOf};
-ghost use Rattle.vbr_at_table.specs.Refusals.{RefusesTake};
-ghost use Rattle.vbr_at_table.specs.Taking.{IsTaken, Takes};
+ghost use Rattle.vbr_slots.specs.views.Views.{IsOf};
+ghost use Rattle.vbr_at_table.specs.pools.Refusals.{RefusesTake};
+ghost use Rattle.vbr_at_table.specs.pools.Taking.{IsTaken, Takes};
 
 use vbr_at_table::{Hand, Refusal};
 use vbr_slots::{AtTable, Pass, Slots};

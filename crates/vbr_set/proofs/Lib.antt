@@ -1,51 +1,18 @@
-mod Histories
-mod MapHistories
-mod EntryCalls
-mod Staying
-mod CatchingUp
-mod ShownNodes
-mod Walks
-mod Gathering
-mod LinkedKeys
-mod LinkedEntries
-mod EntrySlots
-mod Closings
-mod Mailboxes
-mod Seats
-mod Apart
-mod Balances
-mod Ends
-mod HavingSlots
-mod CountedKeys
-mod KeyCounts
-mod BalanceSums
-mod AddedBalances
-mod RenewalRoom
-mod RoomLeft
-mod PassSums
-mod RoomOfOthers
-mod TakenUp
-mod Listing
-mod Progress
-mod StretchedRuns
-mod AnsweredMeanwhile
-mod AnsweredCalls
-mod PaidGains
-mod WonFlags
-mod KnownBudgets
-mod AnsweredWalks
-mod AnsweredSteps
-mod EnoughByShape
-mod EnoughWithoutSlots
-mod LeftMarked
-mod MembersCalls
-mod BatchCalls
-mod InTurn
+-- What a pass has seen, as one legal history.
+mod histories
+-- What a report lists of the nodes that the words show.
+mod reports
+-- Members: how they are made of a set, and how they end it.
+mod members
+-- Where the slots of a set are, and what is left for an insert.
+mod whereabouts
+-- Sums: of the keys, of the balances of members, and over all passes.
+mod sums
+-- Many keys by one call: batches, and going over all of them.
+mod many_keys
+-- Progress: what a refused call shows of others, and which budgets are enough.
+mod progress
+-- The lemmas that other crates cite.
 pub mod Lemmas
-mod BatchesAside
-mod MembersAside
-mod HeldCalls
-mod HeldMembers
-mod HeldStores
-mod HeldSlots
-mod HeldRoom
+-- Slots that a pass holds ahead of its calls.
+mod held_slots

@@ -11,30 +11,30 @@ use Rattle.vbr_machine.specs.declared.event.Step.TheVariants.{ReadEpoch}
 use Rattle.vbr_machine.specs.declared.history.Call.{Call}
 use Rattle.vbr_machine.specs.declared.history.Op.{Op}
 use Rattle.vbr_machine.specs.declared.history.Op.TheVariants.{Has, Insert, Remove}
-use Rattle.vbr_slots.specs.Alone.{IsAlone}
-use Rattle.vbr_slots.specs.Calls.{IsSame, Quiet}
-use Rattle.vbr_slots.specs.PassLaw.{PassLaw}
+use Rattle.vbr_slots.specs.steps.Alone.{IsAlone}
+use Rattle.vbr_slots.specs.steps.Calls.{IsSame, Quiet}
+use Rattle.vbr_slots.specs.steps.PassLaw.{PassLaw}
 use Rattle.vbr_slots.specs.Tokens.{SeenView}
-use Rattle.vbr_slots.specs.Views.{Did, KeepsPool, PassView, TableView, Trace, new_pass, new_trace}
+use Rattle.vbr_slots.specs.views.Views.{Did, KeepsPool, PassView, TableView, Trace, new_pass, new_trace}
 use Rattle.vbr_slots.specs.declared.pass.TheConstants.{POOL}
-use Rattle.vbr_at_table.specs.GivingSlotsBack.{GivesSlotsBack}
-use Rattle.vbr_at_table.specs.KeptSlots.{UnlinkedInTurn}
-use Rattle.vbr_at_table.specs.Reserving.{TakesFlags}
+use Rattle.vbr_at_table.specs.pools.GivingSlotsBack.{GivesSlotsBack}
+use Rattle.vbr_at_table.specs.hands.KeptSlots.{UnlinkedInTurn}
+use Rattle.vbr_at_table.specs.pools.Reserving.{TakesFlags}
 use Rattle.vbr_at_table.specs.declared.aside.Aside.{Aside}
-use Rattle.vbr_list.specs.Budgets.{LacksSteps, listed_for}
-use Rattle.vbr_list.specs.Disturbed.{enough_among, enough_to_insert_among, enough_to_search_among, enough_to_store_among, most_disturbed, steps_for_slot, steps_to_prepare}
-use Rattle.vbr_list.specs.Expecting.{CallsRemoveIf}
-use Rattle.vbr_list.specs.CallBounds.{Calls, CallsGet, CallsInsert, CallsRemove}
-use Rattle.vbr_list.specs.Storing.{CallsStore}
+use Rattle.vbr_list.specs.calls.Budgets.{LacksSteps, listed_for}
+use Rattle.vbr_list.specs.walks.Disturbed.{enough_among, enough_to_insert_among, enough_to_search_among, enough_to_store_among, most_disturbed, steps_for_slot, steps_to_prepare}
+use Rattle.vbr_list.specs.updates.Expecting.{CallsRemoveIf}
+use Rattle.vbr_list.specs.calls.CallBounds.{Calls, CallsGet, CallsInsert, CallsRemove}
+use Rattle.vbr_list.specs.updates.Storing.{CallsStore}
 use Rattle.vbr_list.specs.declared.wanted.Wanted.{Wanted}
 use Rattle.vbr_at_table.specs.declared.refusal.Refusal.{Refusal}
 use Rattle.vbr_at_table.specs.declared.refusal.Refusal.TheVariants.{NoSlot}
-use Rattle.vbr_set.specs.Answers.{AnswersAll}
-use Rattle.vbr_set.specs.Histories.{calls_of}
-use Rattle.vbr_set.specs.MapCalls.{InsertRefused, IsCall, MapAnswersAll}
-use Rattle.vbr_set.specs.Members.{MemberView}
-use Rattle.vbr_set.specs.Room.{AreTakenUp, HasAllSlots, OthersAreBetweenCalls, held_by_others}
-use Rattle.vbr_set.specs.Tokens.{CatchesUp, IsChain, IsTokenOf, Precedes, end_of}
+use Rattle.vbr_set.specs.histories.Answers.{AnswersAll}
+use Rattle.vbr_set.specs.histories.Histories.{calls_of}
+use Rattle.vbr_set.specs.calls.MapCalls.{InsertRefused, IsCall, MapAnswersAll}
+use Rattle.vbr_set.specs.calls.Members.{MemberView}
+use Rattle.vbr_set.specs.whereabouts.Room.{AreTakenUp, HasAllSlots, OthersAreBetweenCalls, held_by_others}
+use Rattle.vbr_set.specs.histories.Tokens.{CatchesUp, IsChain, IsTokenOf, Precedes, end_of}
 
 -- ---- progress
 

@@ -15,18 +15,18 @@ pub use Rattle.vbr_machine.specs.declared.event.Step.TheVariants.{ReadEpoch}
 pub use Rattle.vbr_machine.specs.declared.history.Call.{Call}
 pub use Rattle.vbr_machine.specs.declared.history.Op.{Op}
 pub use Rattle.vbr_machine.specs.declared.history.Op.TheVariants.{Insert, Remove, Has}
-pub use Rattle.vbr_slots.specs.Alone.{IsAlone}
-pub use Rattle.vbr_slots.specs.Calls.{AddsAnswer, AddsNone, IsSame, OnlyLoads, Quiet, made_by}
-pub use Rattle.vbr_slots.specs.Closing.{AllOf, EachSeen, HandsBack, IsMissing}
-pub use Rattle.vbr_slots.specs.Views.{Did, IsOf, KeepsPool, PassView, TableView, Trace, new_pass, new_passes}
-pub use Rattle.vbr_at_table.specs.Advances.{AdvancesWhereNeeded}
-pub use Rattle.vbr_at_table.specs.KeptSlots.{HasUnpublished, KeepsSlots, TakesNoSlot, SharesWhereFull}
-pub use Rattle.vbr_at_table.specs.Budgets.{most_to_take}
-pub use Rattle.vbr_at_table.specs.Refusals.{LeavesRoom}
-pub use Rattle.vbr_at_table.specs.WithinBudget.{TookWithin}
+pub use Rattle.vbr_slots.specs.steps.Alone.{IsAlone}
+pub use Rattle.vbr_slots.specs.steps.Calls.{AddsAnswer, AddsNone, IsSame, OnlyLoads, Quiet, made_by}
+pub use Rattle.vbr_slots.specs.runs.Closing.{AllOf, EachSeen, HandsBack, IsMissing}
+pub use Rattle.vbr_slots.specs.views.Views.{Did, IsOf, KeepsPool, PassView, TableView, Trace, new_pass, new_passes}
+pub use Rattle.vbr_at_table.specs.costs.Advances.{AdvancesWhereNeeded}
+pub use Rattle.vbr_at_table.specs.hands.KeptSlots.{HasUnpublished, KeepsSlots, TakesNoSlot, SharesWhereFull}
+pub use Rattle.vbr_at_table.specs.costs.Budgets.{most_to_take}
+pub use Rattle.vbr_at_table.specs.pools.Refusals.{LeavesRoom}
+pub use Rattle.vbr_at_table.specs.costs.WithinBudget.{TookWithin}
 pub use Rattle.vbr_at_table.specs.Soundness.{HasSafeRun}
-pub use Rattle.vbr_list.specs.Budgets.{IsAnsweredOrSpent, LacksSteps, enough_past, enough_to_insert, enough_to_look_up, enough_to_search, enough_to_unlink, enough_with_a_slot, find_costs, insert_costs, listed_for, look_up_costs, remove_costs}
-pub use Rattle.vbr_list.specs.Leaving.{Leaves}
-pub use Rattle.vbr_list.specs.Refusals.{IsRefusedInsert, IsTired}
+pub use Rattle.vbr_list.specs.calls.Budgets.{IsAnsweredOrSpent, LacksSteps, enough_past, enough_to_insert, enough_to_look_up, enough_to_search, enough_to_unlink, enough_with_a_slot, find_costs, insert_costs, listed_for, look_up_costs, remove_costs}
+pub use Rattle.vbr_list.specs.walks.Leaving.{Leaves}
+pub use Rattle.vbr_list.specs.calls.Refusals.{IsRefusedInsert, IsTired}
 pub use Rattle.vbr_at_table.specs.declared.refusal.Refusal.{Refusal}
 pub use Rattle.vbr_at_table.specs.declared.refusal.Refusal.TheVariants.{OutOfSteps, NoSlot, EpochSpent}

@@ -1,6 +1,6 @@
 //! Look-ups in batches: keys are looked up one after another, once their words are on the way into the cache.
 ghost use Rattle.std.specs.Prelude.{◌≡◌, ℕ, length};
-ghost use Rattle.vbr_set.specs.Batches.{InTurn};
+ghost use Rattle.vbr_set.specs.calls.Batches.{InTurn};
 
 use vbr_slots::BATCH;
 

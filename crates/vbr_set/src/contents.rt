@@ -5,10 +5,10 @@ ghost use Rattle.vbr_words.specs.Places.{words_in};
 ghost use Rattle.vbr_machine.specs.Accounts.{incarnations_after};
 ghost use Rattle.vbr_machine.specs.Nodes.{linked_after, marked_after};
 ghost use Rattle.vbr_machine.specs.declared.event.Event.{Event};
-ghost use Rattle.vbr_set.specs.Contents.{Holds};
+ghost use Rattle.vbr_set.specs.reports.Contents.{Holds};
 ghost use Rattle.vbr_slots.specs.declared.rule.Opened.{Opened};
-ghost use Rattle.vbr_slots.specs.Rule.{with_opened};
-ghost use Rattle.vbr_set.specs.Walking.{AreAfter, NotesLists, is_noted, linked_of};
+ghost use Rattle.vbr_slots.specs.runs.Rule.{with_opened};
+ghost use Rattle.vbr_set.specs.reports.Walking.{AreAfter, NotesLists, is_noted, linked_of};
 
 use crate::kind::Kind;
 use crate::walking::note_lists;

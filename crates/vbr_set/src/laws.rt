@@ -1,8 +1,8 @@
 //! The laws of tokens, and of progress. Each function says its law in its contract, and does nothing.
-ghost use Rattle.vbr_set.specs.BalanceSums.{BalancesAddUp};
-ghost use Rattle.vbr_set.specs.RenewalRoom.{RoomIsTold};
+ghost use Rattle.vbr_set.specs.members.BalanceSums.{BalancesAddUp};
+ghost use Rattle.vbr_set.specs.renewals.RenewalRoom.{RoomIsTold};
 ghost use Rattle.vbr_set.specs.Laws.{AnswersStay, CallsStayInOrder, InsertsMakeProgress, LookUpsMakeProgress, MapsMakeProgress, RemovesMakeProgress, TokensHandOn};
-ghost use Rattle.vbr_set.specs.WalkProgress.{WalksMakeProgress};
+ghost use Rattle.vbr_set.specs.progress.WalkProgress.{WalksMakeProgress};
 
 use vbr_machine::laws::a_run_is_a_map;
 

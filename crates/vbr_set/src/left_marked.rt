@@ -1,6 +1,6 @@
 //! The laws of the nodes that callers have marked and that are in their lists still. Each function says
 //! its law in its contract, and does nothing.
-ghost use Rattle.vbr_set.specs.LeftMarked.{CallsLeaveNone, FewLeft, MarksAreLeft};
+ghost use Rattle.vbr_set.specs.progress.LeftMarked.{CallsLeaveNone, FewLeft, MarksAreLeft};
 
 /// A law: a caller leaves no node more that is marked and in its list, where no remove and no replacement
 /// of it is answered yes, and where the call has room in its budget for one more piece of eight steps

@@ -36,6 +36,7 @@
 //! the set with no slot in hand.
 #![tactic(auto)]
 
+pub mod at_set;
 pub mod batches;
 pub mod close_all_error;
 pub mod contents;
@@ -60,6 +61,7 @@ pub mod slot_laws;
 pub mod stretches;
 mod walking;
 
+pub use at_set::AtSet;
 pub use close_all_error::CloseAllError;
 pub use end_error::EndError;
 pub use kind::Kind;

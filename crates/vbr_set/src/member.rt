@@ -22,7 +22,7 @@ mod stake;
 pub mod tokens;
 
 ghost use Rattle.std.specs.Prelude.{◌≡◌};
-ghost use Rattle.vbr_set.specs.Sharing.{IsStake, member_with};
+ghost use Rattle.vbr_set.specs.members.Sharing.{IsStake, member_with};
 
 use crate::member::closing::leave;
 use crate::member::share::Share;
@@ -54,11 +54,11 @@ pub struct Member<N: Nodes = Keys> {
 }
 
 impl<N: Nodes> Model for Member<N> {
-    ghost use Rattle.vbr_set.specs.Members.{MemberView};
+    ghost use Rattle.vbr_set.specs.calls.Members.{MemberView};
 
     ghost Value = { MemberView };
 
-    ghost use Rattle.vbr_set.specs.MemberView.{member_view, IsMember};
+    ghost use Rattle.vbr_set.specs.members.MemberView.{member_view, IsMember};
 
     ghost view = { member_view };
 

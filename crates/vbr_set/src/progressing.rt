@@ -1,9 +1,9 @@
 //! The laws of progress of the whole set: a call with budget enough is answered, or another one is
 //! meanwhile. Each function says its law in its contract, and does nothing.
-ghost use Rattle.vbr_set.specs.Callers.{BatchesCall, CallsAreAnswered, MembersCall, StepsAreAnswered};
-ghost use Rattle.vbr_set.specs.Winning.{InsertsPayForGains, KnownBudgetsShowAnswers, NobodyGoesBeyond, PassesWinInNeed, ShapesTellWithoutSlots};
-ghost use Rattle.vbr_set.specs.Progressing.{AnswersDisturb, EpochsArePaid, FewUnanswered, MapRefusalsShowAnswers, PassesAdvanceInNeed, RefusalsShowAnswers, ShapesTellEnough};
-ghost use Rattle.vbr_set.specs.WalkProgress.{MembersWalk, ShapesTellEnoughToWalk, StepsOrWalksAreAnswered, WalksShowAnswers};
+ghost use Rattle.vbr_set.specs.progress.Callers.{BatchesCall, CallsAreAnswered, MembersCall, StepsAreAnswered};
+ghost use Rattle.vbr_set.specs.progress.Winning.{InsertsPayForGains, KnownBudgetsShowAnswers, NobodyGoesBeyond, PassesWinInNeed, ShapesTellWithoutSlots};
+ghost use Rattle.vbr_set.specs.progress.Progressing.{AnswersDisturb, EpochsArePaid, FewUnanswered, MapRefusalsShowAnswers, PassesAdvanceInNeed, RefusalsShowAnswers, ShapesTellEnough};
+ghost use Rattle.vbr_set.specs.progress.WalkProgress.{MembersWalk, ShapesTellEnoughToWalk, StepsOrWalksAreAnswered, WalksShowAnswers};
 
 /// A law: a pass has made each step that would advance the epoch where it needed that: it had a slot, in
 /// which it may give birth, that is stamped with the epoch. So it is when it is opened, and after each

@@ -4,13 +4,13 @@ ghost use Rattle.vbr_machine.specs.Acceptance.{IsInHand};
 ghost use Rattle.vbr_machine.specs.Records.{IsInHandAlone};
 ghost use Rattle.vbr_machine.specs.Runs.{Begins, BeginsFor, IsRun, know_after};
 ghost use Rattle.vbr_machine.specs.declared.event.Event.{Event};
-ghost use Rattle.vbr_slots.specs.Calls.{IsSame};
-ghost use Rattle.vbr_slots.specs.PassLaw.{PassLaw};
-ghost use Rattle.vbr_slots.specs.Views.{PassView};
-ghost use Rattle.vbr_at_table.specs.Aside.{IsPutAside};
-ghost use Rattle.vbr_at_table.specs.KeptSlots.{KeepsSlots};
+ghost use Rattle.vbr_slots.specs.steps.Calls.{IsSame};
+ghost use Rattle.vbr_slots.specs.steps.PassLaw.{PassLaw};
+ghost use Rattle.vbr_slots.specs.views.Views.{PassView};
+ghost use Rattle.vbr_at_table.specs.hands.Aside.{IsPutAside};
+ghost use Rattle.vbr_at_table.specs.hands.KeptSlots.{KeepsSlots};
 ghost use Rattle.vbr_at_table.specs.declared.aside.Aside.{Aside};
-ghost use Rattle.vbr_set.specs.HeldRoom.{HeldSlotsComeBack};
+ghost use Rattle.vbr_set.specs.whereabouts.HeldRoom.{HeldSlotsComeBack};
 
 /// A law: a slot that a member holds is in the hand of its pass alone while it makes no step, whatever
 /// others do meanwhile, and shows the birth that the pass gave there.

@@ -1,5 +1,4 @@
 //! The set, and the map.
-mod at_set;
 pub mod batches;
 pub mod calls;
 pub mod closing;
@@ -32,7 +31,7 @@ pub struct VbrSet<N: Nodes = Keys> {
 
 impl<N: Nodes> Model for VbrSet<N> {
     ghost use Rattle.std.specs.Prelude.{◌≡◌};
-    ghost use Rattle.vbr_slots.specs.Views.{TableView};
+    ghost use Rattle.vbr_slots.specs.views.Views.{TableView};
 
     ghost Value = { TableView };
 

@@ -30,11 +30,11 @@ pub struct VbrSetRef<'s, N: Nodes = Keys> {
 }
 
 impl<'s, N: Nodes> Model for VbrSetRef<'s, N> {
-    ghost use Rattle.vbr_set.specs.Members.{MemberView};
+    ghost use Rattle.vbr_set.specs.calls.Members.{MemberView};
 
     ghost Value = { MemberView };
 
-    ghost use Rattle.vbr_set.specs.SetRefView.{set_ref_view, IsSetRef};
+    ghost use Rattle.vbr_set.specs.calls.SetRefView.{set_ref_view, IsSetRef};
 
     ghost view = { set_ref_view };
 

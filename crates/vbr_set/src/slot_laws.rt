@@ -1,5 +1,5 @@
 //! The law of slots over a renewal. The function says it in its contract, and does nothing.
-ghost use Rattle.vbr_set.specs.RenewingWithSlots.{SlotsCarryOver};
+ghost use Rattle.vbr_set.specs.renewals.RenewingWithSlots.{SlotsCarryOver};
 
 use vbr_machine::record_laws::keys_open_in_slots_of_their_numbers;
 

@@ -1,6 +1,6 @@
 //! The laws of a stretch of a run: how often the calls of all passes can have disturbed one of them.
 //! Each function says its law in its contract, and does nothing.
-ghost use Rattle.vbr_set.specs.Stretches.{MapStretchesMakeProgress, PassesComeByCalls, StretchesDisturb, StretchesMakeProgress};
+ghost use Rattle.vbr_set.specs.progress.Stretches.{MapStretchesMakeProgress, PassesComeByCalls, StretchesDisturb, StretchesMakeProgress};
 
 /// A law: an insert or a store, answered or refused, makes at most one step that would advance the
 /// epoch; each other call makes none, and so it is of going over keys, of meeting others, of catching up,

@@ -4,8 +4,8 @@ ghost use Rattle.vbr_words.specs.Places.{IsIn, words_in};
 ghost use Rattle.vbr_machine.specs.Accounts.{incarnations_after};
 ghost use Rattle.vbr_machine.specs.declared.event.Event.{Event};
 ghost use Rattle.vbr_slots.specs.declared.rule.Opened.{Opened};
-ghost use Rattle.vbr_slots.specs.Rule.{with_opened};
-ghost use Rattle.vbr_set.specs.Walking.{AreAfter, NotesList, NotesLists, is_noted, link_in};
+ghost use Rattle.vbr_slots.specs.runs.Rule.{with_opened};
+ghost use Rattle.vbr_set.specs.reports.Walking.{AreAfter, NotesList, NotesLists, is_noted, link_in};
 
 use vbr_words::{Place, Shape, decode, place_index};
 

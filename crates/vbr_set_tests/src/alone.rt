@@ -1,7 +1,7 @@
 //! A set or a map with one pass.
 ghost use Rattle.std.specs.Prelude.{◌≡◌, ◌≤◌, length, IfOk};
 ghost use Rattle.std.specs.List.Sorted.{IsStrictlyIncreasing};
-ghost use Rattle.vbr_slots.specs.Views.{IsOf, new_pass};
+ghost use Rattle.vbr_slots.specs.views.Views.{IsOf, new_pass};
 
 use std::alloc::Global;
 use std::process::Abort;

@@ -1,6 +1,6 @@
 //! The balances of members, and members that are renewed.
 ghost use Rattle.std.specs.Prelude.{◌≡◌};
-ghost use Rattle.vbr_set.specs.AllMembers.{AreOfOneSet};
+ghost use Rattle.vbr_set.specs.members.AllMembers.{AreOfOneSet};
 
 use crate::members::{both, expect_insert, expect_remove, fill_two, open_two};
 use std::alloc::Global;

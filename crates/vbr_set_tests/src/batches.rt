@@ -1,7 +1,7 @@
 //! Look-ups in batches, of sets and of maps: the answers stand at the places of their keys, for any number of
 //! keys, and each key is refused by itself.
 ghost use Rattle.std.specs.Prelude.{◌≡◌, None};
-ghost use Rattle.vbr_slots.specs.Views.{IsOf};
+ghost use Rattle.vbr_slots.specs.views.Views.{IsOf};
 
 use crate::alone::open_alone;
 use std::alloc::Global;

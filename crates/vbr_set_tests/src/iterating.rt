@@ -1,6 +1,6 @@
 //! Going over the keys of a set, and the entries of a map, bucket by bucket, with exact steps.
 ghost use Rattle.std.specs.Prelude.{◌≡◌, None, IfOk};
-ghost use Rattle.vbr_slots.specs.Views.{IsOf};
+ghost use Rattle.vbr_slots.specs.views.Views.{IsOf};
 
 use crate::alone::open_alone;
 use std::alloc::Global;

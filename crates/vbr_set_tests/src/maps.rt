@@ -1,6 +1,6 @@
 //! Maps that open with entries, and maps that are renewed.
 ghost use Rattle.std.specs.Prelude.{◌≡◌, IfOk};
-ghost use Rattle.vbr_slots.specs.Views.{new_passes};
+ghost use Rattle.vbr_slots.specs.views.Views.{new_passes};
 
 use crate::alone::{expect_left, open_alone};
 use std::alloc::Global;

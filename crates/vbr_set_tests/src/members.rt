@@ -1,6 +1,6 @@
 //! Two members of a set, one of which meets the other.
 ghost use Rattle.std.specs.Prelude.{◌≡◌, [], ◌∷◌, IfSome};
-ghost use Rattle.vbr_set.specs.Meetings.{Shares};
+ghost use Rattle.vbr_set.specs.histories.Meetings.{Shares};
 
 use std::alloc::Global;
 use std::process::Abort;

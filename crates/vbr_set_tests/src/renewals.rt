@@ -1,8 +1,8 @@
 //! Sets that open with keys, and sets that are renewed.
 ghost use Rattle.std.specs.Prelude.{◌≡◌, ◌≤◌, None, length, IfOk, IfSome};
 ghost use Rattle.std.specs.List.Sorted.{IsStrictlyIncreasing};
-ghost use Rattle.vbr_slots.specs.Closing.{AllOf};
-ghost use Rattle.vbr_slots.specs.Views.{IsOf, new_passes};
+ghost use Rattle.vbr_slots.specs.runs.Closing.{AllOf};
+ghost use Rattle.vbr_slots.specs.views.Views.{IsOf, new_passes};
 
 use crate::set::{close, open_two};
 use std::alloc::Global;

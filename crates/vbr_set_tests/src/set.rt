@@ -1,9 +1,9 @@
 //! The set: rows call by call, closings that hand all back, and small budgets.
 ghost use Rattle.std.specs.Prelude.{◌≡◌, [], IfOk, IfErr, IfSome};
 ghost use Rattle.vbr_machine.specs.Start.{set_start};
-ghost use Rattle.vbr_slots.specs.Closing.{AllOf, HandsBack};
-ghost use Rattle.vbr_slots.specs.Views.{IsOf, new_pass, new_passes};
-ghost use Rattle.vbr_set.specs.Closing.{Closes};
+ghost use Rattle.vbr_slots.specs.runs.Closing.{AllOf, HandsBack};
+ghost use Rattle.vbr_slots.specs.views.Views.{IsOf, new_pass, new_passes};
+ghost use Rattle.vbr_set.specs.reports.Closing.{Closes};
 
 use std::alloc::Global;
 use std::process::Abort;

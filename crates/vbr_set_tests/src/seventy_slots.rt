@@ -1,7 +1,7 @@
 //! A set of seventy slots, whose flags take two words: two threads fill it, empty it, and fill it
 //! again. Each has a bucket of its own, so that each finds in the end all that it put there.
 ghost use Rattle.std.specs.Prelude.{◌≡◌, None};
-ghost use Rattle.vbr_slots.specs.Views.{IsOf};
+ghost use Rattle.vbr_slots.specs.views.Views.{IsOf};
 
 use crate::set::{close_both, open_two};
 use std::test::Fail;

@@ -1,6 +1,6 @@
 //! Members of a set that tell each other by tokens what they have seen.
 ghost use Rattle.std.specs.Prelude.{◌≡◌};
-ghost use Rattle.vbr_set.specs.Tokens.{IsTokenOf};
+ghost use Rattle.vbr_set.specs.histories.Tokens.{IsTokenOf};
 
 use crate::members::open_two;
 use std::mem::size_of;

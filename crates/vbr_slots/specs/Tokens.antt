@@ -3,7 +3,7 @@ use Rattle.std.specs.Prelude.{◌≡◌, List, ◌++◌}
 use Rattle.atomic_table.specs.Seated.{TableId}
 use Rattle.vbr_machine.specs.Runs.{IsRun, NoneOf}
 use Rattle.vbr_machine.specs.declared.event.Event.{Event}
-use Rattle.vbr_slots.specs.Views.{Trace, knows, steps_of}
+use Rattle.vbr_slots.specs.views.Views.{Trace, knows, steps_of}
 
 -- a token: which table it is of, and the events of the run that it tells
 pub record SeenView : Type 0 where

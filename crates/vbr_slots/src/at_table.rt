@@ -10,7 +10,7 @@ pub mod owning;
 pub mod pass;
 pub mod reading;
 
-ghost use Rattle.vbr_slots.specs.Views.{IsOf};
+ghost use Rattle.vbr_slots.specs.views.Views.{IsOf};
 
 use crate::slots::Slots;
 use crate::stepper::Stepper;

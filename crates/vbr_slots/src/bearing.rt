@@ -3,11 +3,11 @@ ghost use Rattle.std.specs.Prelude.{◌≡◌, ◌<◌, true, Some};
 ghost use Rattle.vbr_words.specs.Words.{link_of};
 ghost use Rattle.vbr_machine.specs.Acceptance.{MayBear, IsNextIn, IsNextHeld, stamp_in};
 ghost use Rattle.vbr_machine.specs.declared.event.Step.TheVariants.{StoreKey, StoreValue, StoreLink};
-ghost use Rattle.vbr_slots.specs.Asked.{IsWritten};
-ghost use Rattle.vbr_slots.specs.OwnSlots.{BearsIn, epoch_of, holding_of};
-ghost use Rattle.vbr_slots.specs.Pools.{HasRoomFor};
-ghost use Rattle.vbr_slots.specs.Views.{IsOf, Did, KeepsPool, knows};
-ghost use Rattle.vbr_slots.specs.WideWords.{wide_in};
+ghost use Rattle.vbr_slots.specs.steps.Asked.{IsWritten};
+ghost use Rattle.vbr_slots.specs.steps.OwnSlots.{BearsIn, epoch_of, holding_of};
+ghost use Rattle.vbr_slots.specs.pools.Pools.{HasRoomFor};
+ghost use Rattle.vbr_slots.specs.views.Views.{IsOf, Did, KeepsPool, knows};
+ghost use Rattle.vbr_slots.specs.words.WideWords.{wide_in};
 
 use crate::pass::{Pass, steps_after};
 use crate::slots::Slots;

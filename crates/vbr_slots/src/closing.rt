@@ -2,7 +2,7 @@
 ghost use Rattle.std.specs.Prelude.{◌≡◌, ◌<◌, ◌≤◌, ◌↔◌, [], length, IfOk, IfErr, OnOk};
 ghost use Rattle.std.specs.Vec.{vec_capacity};
 ghost use Rattle.std.specs.Mem.Slots.{slots_items, slots_len, IsFull};
-ghost use Rattle.vbr_slots.specs.Closing.{AllOf, Ends, HandsBack, IsMissing};
+ghost use Rattle.vbr_slots.specs.runs.Closing.{AllOf, Ends, HandsBack, IsMissing};
 
 use crate::close_error::CloseError;
 use crate::pass::Pass;

@@ -2,11 +2,11 @@
 ghost use Rattle.std.specs.Prelude.{◌<◌, OnOk, IfErr};
 ghost use Rattle.vbr_machine.specs.Acceptance.{Accepts, IsAtIn, IsOpIn};
 ghost use Rattle.vbr_machine.specs.declared.event.Step.TheVariants.{ConfirmPresent, ConfirmAbsent};
-ghost use Rattle.vbr_slots.specs.Asked.{IsChecked};
-ghost use Rattle.vbr_slots.specs.Expected.{Finds, FindsOther};
-ghost use Rattle.vbr_slots.specs.LookUpStep.{look_up};
-ghost use Rattle.vbr_slots.specs.Views.{IsOf, knows};
-ghost use Rattle.vbr_slots.specs.WideWords.{wide_in};
+ghost use Rattle.vbr_slots.specs.steps.Asked.{IsChecked};
+ghost use Rattle.vbr_slots.specs.steps.Expected.{Finds, FindsOther};
+ghost use Rattle.vbr_slots.specs.steps.LookUpStep.{look_up};
+ghost use Rattle.vbr_slots.specs.views.Views.{IsOf, knows};
+ghost use Rattle.vbr_slots.specs.words.WideWords.{wide_in};
 
 use crate::pass::{Pass, steps_after};
 use crate::slots::Slots;

@@ -1,8 +1,8 @@
 //! The steps on the epoch, counted.
 ghost use Rattle.std.specs.Prelude.{ℕ, ◌<◌, ◌≤◌, MatchBool};
 ghost use Rattle.vbr_machine.specs.declared.event.Step.TheVariants.{ReadEpoch, Advance};
-ghost use Rattle.vbr_slots.specs.Expected.{Finds, FindsOther};
-ghost use Rattle.vbr_slots.specs.Views.{IsOf, Did, KeepsPool};
+ghost use Rattle.vbr_slots.specs.steps.Expected.{Finds, FindsOther};
+ghost use Rattle.vbr_slots.specs.views.Views.{IsOf, Did, KeepsPool};
 
 use crate::pass::{Pass, steps_after};
 use crate::slots::Slots;

@@ -2,10 +2,10 @@
 ghost use Rattle.std.specs.Prelude.{◌≡◌, ◌<◌, true, Some, OnOk, IfErr};
 ghost use Rattle.vbr_machine.specs.Acceptance.{IsAtIn};
 ghost use Rattle.vbr_machine.specs.declared.event.Step.TheVariants.{Publish, Mark, Replace, Unlink};
-ghost use Rattle.vbr_slots.specs.Asked.{IsChecked, IsWritten};
-ghost use Rattle.vbr_slots.specs.Expected.{Finds, FindsOther, Publishes, ReplacesNode};
-ghost use Rattle.vbr_slots.specs.Views.{IsOf};
-ghost use Rattle.vbr_slots.specs.WideWords.{wide_in};
+ghost use Rattle.vbr_slots.specs.steps.Asked.{IsChecked, IsWritten};
+ghost use Rattle.vbr_slots.specs.steps.Expected.{Finds, FindsOther, Publishes, ReplacesNode};
+ghost use Rattle.vbr_slots.specs.views.Views.{IsOf};
+ghost use Rattle.vbr_slots.specs.words.WideWords.{wide_in};
 
 use crate::pass::{Pass, steps_after};
 use crate::slots::Slots;

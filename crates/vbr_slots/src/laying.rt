@@ -6,7 +6,7 @@ ghost use Rattle.vbr_words.specs.Places.{words_in};
 ghost use Rattle.vbr_machine.specs.Making.{opening_from, with_key_ahead};
 ghost use Rattle.vbr_machine.specs.Machine.{World, opening};
 ghost use Rattle.vbr_machine.specs.Start.{ArePaired, IsStart, start_with};
-ghost use Rattle.vbr_slots.specs.Words.{AreWordsOf, HeadsFit};
+ghost use Rattle.vbr_slots.specs.words.Words.{AreWordsOf, HeadsFit};
 
 use std::alloc::{AllocError, Global};
 use vbr_words::flags::{all_but, flag_words, full_flags, word_of_flag};

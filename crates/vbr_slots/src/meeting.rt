@@ -2,7 +2,7 @@
 ghost use Rattle.std.specs.Prelude.{◌≡◌, ℕ};
 ghost use Rattle.vbr_machine.specs.Runs.{BeginsFor};
 ghost use Rattle.vbr_machine.specs.declared.event.Step.TheVariants.{ReadEpoch};
-ghost use Rattle.vbr_slots.specs.Views.{IsOf, Did, KeepsPool};
+ghost use Rattle.vbr_slots.specs.views.Views.{IsOf, Did, KeepsPool};
 
 use crate::pass::{Pass, steps_after};
 use crate::slots::Slots;

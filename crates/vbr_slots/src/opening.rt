@@ -3,8 +3,8 @@ ghost use Rattle.std.specs.Prelude.{true, false, ◌≡◌, ◌<◌, ◌≤◌, 
 ghost use Rattle.std.specs.List.Sorted.{IsStrictlyIncreasing};
 ghost use Rattle.vbr_machine.specs.Maps.{keys_listed, map_start};
 ghost use Rattle.vbr_machine.specs.Start.{ArePaired, set_start, start_with};
-ghost use Rattle.vbr_slots.specs.Openings.{OpensAs};
-ghost use Rattle.vbr_slots.specs.Tried.{first_tried};
+ghost use Rattle.vbr_slots.specs.runs.Openings.{OpensAs};
+ghost use Rattle.vbr_slots.specs.pools.Tried.{first_tried};
 ghost use Rattle.vbr_slots.specs.declared.opening.TheConstants.{MAX_MANY_PASSES};
 
 use crate::laying::opening_words;

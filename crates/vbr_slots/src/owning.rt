@@ -2,9 +2,9 @@
 ghost use Rattle.std.specs.Prelude.{◌≡◌, ℕ, ◌<◌, OnOk, IfErr, IsSome};
 ghost use Rattle.vbr_machine.specs.Acceptance.{IsReread, MayBear};
 ghost use Rattle.vbr_machine.specs.declared.event.Step.TheVariants.{LoadStamp, StoreStamp, Raise};
-ghost use Rattle.vbr_slots.specs.OwnSlots.{IsKnownStamp, MissesFlag, TakesFlag, epoch_of, holding_of};
-ghost use Rattle.vbr_slots.specs.Pools.{hand_without, without};
-ghost use Rattle.vbr_slots.specs.Views.{IsOf, Did, KeepsPool};
+ghost use Rattle.vbr_slots.specs.steps.OwnSlots.{IsKnownStamp, MissesFlag, TakesFlag, epoch_of, holding_of};
+ghost use Rattle.vbr_slots.specs.pools.Pools.{hand_without, without};
+ghost use Rattle.vbr_slots.specs.views.Views.{IsOf, Did, KeepsPool};
 
 use crate::pass::{Pass, steps_after};
 use crate::slots::Slots;

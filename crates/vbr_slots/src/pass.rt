@@ -3,11 +3,11 @@ ghost use Rattle.std.specs.Fn.{FnOnceTakesAtMut};
 ghost use Rattle.std.specs.Prelude.{◌≡◌, ◌<◌, ◌≤◌, ◌⊎◌, [], ◌∷◌, ◌+◌, ◌++◌, length, Some, None, Contains};
 ghost use Rattle.vbr_machine.specs.Acceptance.{IsFree, IsInHand};
 ghost use Rattle.vbr_machine.specs.Runs.{IsRun};
-ghost use Rattle.vbr_slots.specs.Forsaking.{Forsakes};
-ghost use Rattle.vbr_slots.specs.Lending.{Lends, LendsWith, TakesWith, TellsSteps, TellsStepsWith};
-ghost use Rattle.vbr_slots.specs.PassLaw.{PassLaw};
-ghost use Rattle.vbr_slots.specs.Pools.{OwnPool, hand_without};
-ghost use Rattle.vbr_slots.specs.Views.{counted_steps, knows, steps_of};
+ghost use Rattle.vbr_slots.specs.pools.Forsaking.{Forsakes};
+ghost use Rattle.vbr_slots.specs.steps.Lending.{Lends, LendsWith, TakesWith, TellsSteps, TellsStepsWith};
+ghost use Rattle.vbr_slots.specs.steps.PassLaw.{PassLaw};
+ghost use Rattle.vbr_slots.specs.pools.Pools.{OwnPool, hand_without};
+ghost use Rattle.vbr_slots.specs.views.Views.{counted_steps, knows, steps_of};
 
 use crate::stepper::{Stepper, put};
 use std::marker::Model;
@@ -26,11 +26,11 @@ pub struct Pass {
 }
 
 impl Model for Pass {
-    ghost use Rattle.vbr_slots.specs.Views.{PassView};
+    ghost use Rattle.vbr_slots.specs.views.Views.{PassView};
 
     ghost Value = { PassView };
 
-    ghost use Rattle.vbr_slots.specs.PassView.{lent_of, IsExact};
+    ghost use Rattle.vbr_slots.specs.views.PassView.{lent_of, IsExact};
 
     ghost view = { lent_of };
 

@@ -17,11 +17,11 @@ pub struct Pool {
 }
 
 impl Model for Pool {
-    ghost use Rattle.vbr_slots.specs.Pools.{PoolView};
+    ghost use Rattle.vbr_slots.specs.pools.Pools.{PoolView};
 
     ghost Value = { PoolView };
 
-    ghost use Rattle.vbr_slots.specs.PoolView.{pool_of, IsInRoom};
+    ghost use Rattle.vbr_slots.specs.views.PoolView.{pool_of, IsInRoom};
 
     ghost view = { pool_of };
 

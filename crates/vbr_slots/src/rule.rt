@@ -27,11 +27,11 @@ pub struct OpeningWithEntries {
 }
 
 impl Model for OpeningWithEntries {
-    ghost use Rattle.vbr_slots.specs.TableStart.{TableStart};
+    ghost use Rattle.vbr_slots.specs.runs.TableStart.{TableStart};
 
     ghost Value = { TableStart };
 
-    ghost use Rattle.vbr_slots.specs.OpeningView.{opening_with};
+    ghost use Rattle.vbr_slots.specs.views.OpeningView.{opening_with};
 
     ghost view = { opening_with };
 }
@@ -80,7 +80,7 @@ pub struct Witness {
 pub struct RunRule;
 
 impl TableRule<(), LinkedList<Witness>, OpeningWithEntries> for RunRule {
-    ghost use Rattle.vbr_slots.specs.Rule.{Kept, first_witnesses};
+    ghost use Rattle.vbr_slots.specs.runs.Rule.{Kept, first_witnesses};
 
     ghost holds = { Kept };
 
@@ -90,7 +90,7 @@ impl TableRule<(), LinkedList<Witness>, OpeningWithEntries> for RunRule {
 /// Which event a step is, at which table. Each call picks it.
 pub trait Naming {
     ghost use Rattle.vbr_machine.specs.declared.event.Event.{Event};
-    ghost use Rattle.vbr_slots.specs.TableStart.{TableStart};
+    ghost use Rattle.vbr_slots.specs.runs.TableStart.{TableStart};
 
     ghost event: { Event };
 
@@ -98,7 +98,7 @@ pub trait Naming {
 }
 
 impl Naming for Brand {
-    ghost use Rattle.vbr_slots.specs.Rule.{no_event, no_opening};
+    ghost use Rattle.vbr_slots.specs.runs.Rule.{no_event, no_opening};
 
     ghost event = { no_event };
 
@@ -111,7 +111,7 @@ pub struct Does<E> {
 }
 
 impl<E: Naming> Play<(), LinkedList<Witness>> for Does<E> {
-    ghost use Rattle.vbr_slots.specs.Rule.{Told};
+    ghost use Rattle.vbr_slots.specs.runs.Rule.{Told};
 
     ghost then = { λ _. Told E.opening E.event };
 }
@@ -123,7 +123,7 @@ pub struct DoesAtLink<E> {
 
 impl<E: Naming> Play<(), LinkedList<Witness>> for DoesAtLink<E> {
     ghost use Rattle.vbr_words.specs.Packing.{slot_bits, unpacked};
-    ghost use Rattle.vbr_slots.specs.Rule.{Told};
+    ghost use Rattle.vbr_slots.specs.runs.Rule.{Told};
 
     ghost then = { λ _ m r n. Told E.opening E.event m
         (unpacked (slot_bits E.opening.start.shape.slots) r) n };
@@ -136,7 +136,7 @@ pub struct Catches<E> {
 }
 
 impl<E: Naming> Play<(), LinkedList<Witness>> for Catches<E> {
-    ghost use Rattle.vbr_slots.specs.Rule.{Caught};
+    ghost use Rattle.vbr_slots.specs.runs.Rule.{Caught};
 
     ghost then = { λ _ m _ n. Caught E.opening E.event.pass m n };
 }
@@ -148,7 +148,7 @@ pub struct Surveys<E> {
 }
 
 impl<E: Naming> Play<(), LinkedList<Witness>> for Surveys<E> {
-    ghost use Rattle.vbr_slots.specs.Snapshots.{ReadsWord};
+    ghost use Rattle.vbr_slots.specs.runs.Snapshots.{ReadsWord};
 
     ghost then = { λ step m r n. ReadsWord E.opening step.word m r n };
 }
@@ -166,7 +166,7 @@ impl Play<(), LinkedList<Witness>> for Nobody {
 pub struct First;
 
 impl Split<LinkedList<Witness>> for First {
-    ghost use Rattle.vbr_slots.specs.Rule.{head_of, tail_of};
+    ghost use Rattle.vbr_slots.specs.runs.Rule.{head_of, tail_of};
 
     ghost left = { head_of };
 
@@ -177,7 +177,7 @@ impl Split<LinkedList<Witness>> for First {
 pub struct Note;
 
 impl Split<LinkedList<Witness>> for Note {
-    ghost use Rattle.vbr_slots.specs.Rule.{noted};
+    ghost use Rattle.vbr_slots.specs.runs.Rule.{noted};
 
     ghost left = { λ v. v };
 

@@ -1,6 +1,6 @@
-//! What makes the steps of one pass.
+//! The seat of a pass at its table: what a step alone needs of the pass.
 ghost use Rattle.std.specs.Prelude.{◌≡◌};
-ghost use Rattle.vbr_slots.specs.Views.{epoch_after, knows};
+ghost use Rattle.vbr_slots.specs.views.Views.{epoch_after, knows};
 
 use crate::rule::{Opening, Witness};
 use atomic_table::Seat;
@@ -8,7 +8,7 @@ use std::collections::LinkedList;
 use std::marker::Model;
 use vbr_machine::Step;
 
-/// What makes the steps of one pass: its seat at the table, its number, and the last epoch that it
+/// What a step needs of its pass: its seat at the table, its number, and the last epoch that it
 /// read.
 #[derive(Drop)]
 pub struct Runner {
@@ -19,11 +19,11 @@ pub struct Runner {
 }
 
 impl Model for Runner {
-    ghost use Rattle.vbr_slots.specs.Views.{Trace};
+    ghost use Rattle.vbr_slots.specs.views.Views.{Trace};
 
     ghost Value = { Trace };
 
-    ghost use Rattle.vbr_slots.specs.RunnerView.{trace_of_runner, IsSoundRunner};
+    ghost use Rattle.vbr_slots.specs.views.RunnerView.{trace_of_runner, IsSoundRunner};
 
     ghost view = { trace_of_runner };
 

@@ -2,7 +2,7 @@
 ghost use Rattle.std.specs.Prelude.{◌≡◌};
 ghost use Rattle.vbr_machine.specs.Runs.{Begins};
 ghost use Rattle.vbr_slots.specs.Tokens.{Since};
-ghost use Rattle.vbr_slots.specs.Views.{IsOf, KeepsPool};
+ghost use Rattle.vbr_slots.specs.views.Views.{IsOf, KeepsPool};
 
 use crate::pass::Pass;
 use crate::rule::Witness;
@@ -24,7 +24,7 @@ impl Model for Seen {
 
     ghost Value = { SeenView };
 
-    ghost use Rattle.vbr_slots.specs.TokenView.{token_of, IsToken};
+    ghost use Rattle.vbr_slots.specs.views.TokenView.{token_of, IsToken};
 
     ghost view = { token_of };
 

@@ -22,11 +22,11 @@ pub struct Slots<N: Nodes = Keys> {
 }
 
 impl<N: Nodes> Model for Slots<N> {
-    ghost use Rattle.vbr_slots.specs.Views.{TableView};
+    ghost use Rattle.vbr_slots.specs.views.Views.{TableView};
 
     ghost Value = { TableView };
 
-    ghost use Rattle.vbr_slots.specs.SlotsView.{table_of, IsBuilt};
+    ghost use Rattle.vbr_slots.specs.views.SlotsView.{table_of, IsBuilt};
 
     ghost view = { table_of };
 

@@ -2,8 +2,8 @@
 ghost use Rattle.std.specs.Prelude.{◌≡◌, ◌≤◌, [], length, IfOk};
 ghost use Rattle.std.specs.Vec.{vec_capacity};
 ghost use Rattle.vbr_words.specs.Places.{words_in};
-ghost use Rattle.vbr_slots.specs.Closing.{AllOf, Ends};
-ghost use Rattle.vbr_slots.specs.Snapshots.{AreHalted, AreReadBy, IsJoined, witnesses_of};
+ghost use Rattle.vbr_slots.specs.runs.Closing.{AllOf, Ends};
+ghost use Rattle.vbr_slots.specs.runs.Snapshots.{AreHalted, AreReadBy, IsJoined, witnesses_of};
 
 use crate::pass::Pass;
 use crate::pool::Pool;

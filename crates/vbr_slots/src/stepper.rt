@@ -1,9 +1,9 @@
-//! What makes the steps of a pass: all that it has but the count of its steps.
+//! All that a pass has but the count of its steps: its seat, its own pool and its hand.
 ghost use Rattle.std.specs.List.{position_from};
 ghost use Rattle.std.specs.Prelude.{◌≡◌, ◌==◌, ◌<◌, [], ◌∷◌, ◌++◌, length};
-ghost use Rattle.vbr_slots.specs.Forsaking.{Forsakes};
-ghost use Rattle.vbr_slots.specs.PassLaw.{PassLaw};
-ghost use Rattle.vbr_slots.specs.Pools.{hand_without, without};
+ghost use Rattle.vbr_slots.specs.pools.Forsaking.{Forsakes};
+ghost use Rattle.vbr_slots.specs.steps.PassLaw.{PassLaw};
+ghost use Rattle.vbr_slots.specs.pools.Pools.{hand_without, without};
 
 use crate::pass::POOL;
 use crate::pool::Pool;
@@ -22,11 +22,11 @@ pub struct Stepper {
 }
 
 impl Model for Stepper {
-    ghost use Rattle.vbr_slots.specs.Views.{PassView};
+    ghost use Rattle.vbr_slots.specs.views.Views.{PassView};
 
     ghost Value = { PassView };
 
-    ghost use Rattle.vbr_slots.specs.StepperView.{view_of, IsWell};
+    ghost use Rattle.vbr_slots.specs.views.StepperView.{view_of, IsWell};
 
     ghost view = { view_of };
 

@@ -10,13 +10,13 @@ ghost use Rattle.vbr_machine.specs.Machine.{Load, Store, Exchange, FetchOr, Fetc
 ghost use Rattle.vbr_machine.specs.Runs.{Begins, BeginsFor};
 ghost use Rattle.vbr_machine.specs.declared.event.Step.TheVariants.{ReadEpoch};
 ghost use Rattle.vbr_words.specs.Places as places;
-ghost use Rattle.vbr_slots.specs.LookUpStep.{link_from};
-ghost use Rattle.vbr_slots.specs.Reads.{Reads};
-ghost use Rattle.vbr_slots.specs.Stepping.{NamesStep};
+ghost use Rattle.vbr_slots.specs.steps.LookUpStep.{link_from};
+ghost use Rattle.vbr_slots.specs.steps.Reads.{Reads};
+ghost use Rattle.vbr_slots.specs.steps.Stepping.{NamesStep};
 ghost use Rattle.vbr_slots.specs.Tokens.{Since};
-ghost use Rattle.vbr_slots.specs.Views.{IsOf, Did, KeepsPool, knows, epoch_after};
-ghost use Rattle.vbr_slots.specs.Words.{IsPlain};
-ghost use Rattle.vbr_slots.specs.WideWords.{wide_in};
+ghost use Rattle.vbr_slots.specs.views.Views.{IsOf, Did, KeepsPool, knows, epoch_after};
+ghost use Rattle.vbr_slots.specs.words.Words.{IsPlain};
+ghost use Rattle.vbr_slots.specs.words.WideWords.{wide_in};
 
 use crate::rule::{Both, Catches, Does, DoesAtLink, First, Naming, Note, Whole};
 use crate::runner::{Runner, keep_epoch, keep_epoch_found};

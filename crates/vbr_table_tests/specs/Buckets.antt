@@ -1,6 +1,6 @@
 -- A table that a row of a map plays on.
 use Rattle.std.specs.Prelude.{◌≡◌, ◌<◌, true}
-use Rattle.vbr_slots.specs.Views.{TableView}
+use Rattle.vbr_slots.specs.views.Views.{TableView}
 
 -- a table has buckets, whose lists are of entries
 abbrev pub HasEntryLists : TableView → Type 0

@@ -6,7 +6,7 @@ use Rattle.vbr_machine.specs.Machine.{World, opening}
 use Rattle.vbr_machine.specs.Start.{empty_start}
 use Rattle.vbr_machine.specs.declared.event.Effect.{Effect}
 use Rattle.vbr_machine.specs.declared.event.Step.{Step}
-use Rattle.vbr_slots.specs.Views.{Trace, TableView, IsOf, knows}
+use Rattle.vbr_slots.specs.views.Views.{Trace, TableView, IsOf, knows}
 use Rattle.vbr_event_lists.specs.Worked.{AreWorked, IsNamedWord}
 
 -- a pass of the table with this number, which knows what it knows in the world

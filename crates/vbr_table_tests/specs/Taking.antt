@@ -4,8 +4,8 @@ use Rattle.vbr_machine.specs.Start.{Start}
 use Rattle.vbr_machine.specs.Runs.{IsRun, world_after}
 use Rattle.vbr_machine.specs.declared.event.Event.{Event}
 use Rattle.vbr_machine.specs.declared.event.Step.TheVariants.{TakeFlag}
-use Rattle.vbr_slots.specs.Views.{event_of}
-use Rattle.vbr_slots.specs.Words.{AreWordsOf}
+use Rattle.vbr_slots.specs.views.Views.{event_of}
+use Rattle.vbr_slots.specs.words.Words.{AreWordsOf}
 
 -- the event stands in the run
 abbrev pub HasEvent : List Event → Event → Type 0

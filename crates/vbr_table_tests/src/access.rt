@@ -1,6 +1,6 @@
 //! Checked access: checkpoints, reads that a moved epoch rolls back, and the steps that calls make.
 ghost use Rattle.std.specs.Prelude.{◌≡◌, ◌<◌, ◌≤◌, true, IfOk};
-ghost use Rattle.vbr_slots.specs.Views.{IsOf, new_passes};
+ghost use Rattle.vbr_slots.specs.views.Views.{IsOf, new_passes};
 
 use crate::retiring::{read_one, read_value};
 use crate::running_table::{Opened, expect_closed, expect_pass, two_passes};

@@ -1,6 +1,6 @@
 //! The list of one bucket where nodes have values: worked calls of a map, with their steps.
 ghost use Rattle.std.specs.Prelude.{◌≡◌, None};
-ghost use Rattle.vbr_slots.specs.Views.{IsOf};
+ghost use Rattle.vbr_slots.specs.views.Views.{IsOf};
 
 use crate::rows::{
     Call, Row, expect, expect_alone, expect_answer, expect_left, helped_away, with_17_steps,

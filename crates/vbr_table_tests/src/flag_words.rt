@@ -1,6 +1,6 @@
 //! The flag words of the shared pool, on seventy slots: sixty-four flags in one word, six in the next.
 ghost use Rattle.std.specs.Prelude.{◌≡◌, ◌≤◌};
-ghost use Rattle.vbr_slots.specs.Views.{IsOf};
+ghost use Rattle.vbr_slots.specs.views.Views.{IsOf};
 
 use crate::pools::expect_taken;
 use crate::running_table::{Opened, close_two, two_passes};

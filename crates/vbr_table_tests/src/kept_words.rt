@@ -1,6 +1,6 @@
 //! Link words as a table keeps them, and their numbers.
 ghost use Rattle.std.specs.Prelude.{◌≡◌, false, Some};
-ghost use Rattle.vbr_slots.specs.WideWords.{wide_in};
+ghost use Rattle.vbr_slots.specs.words.WideWords.{wide_in};
 ghost use Rattle.vbr_words.specs.Words.{link_of};
 
 use std::process::Abort;

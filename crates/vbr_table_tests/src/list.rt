@@ -1,8 +1,8 @@
 //! The list of one bucket: worked calls, with their steps.
 ghost use Rattle.std.specs.Prelude.{◌≡◌, ◌<◌, false, None, IfOk};
 ghost use Rattle.vbr_words.specs.Words.{link_of};
-ghost use Rattle.vbr_slots.specs.Views.{IsOf, knows};
-ghost use Rattle.vbr_at_table.specs.Held.{IsHeld, HoldsMarked, Names, said, said_marked};
+ghost use Rattle.vbr_slots.specs.views.Views.{IsOf, knows};
+ghost use Rattle.vbr_at_table.specs.reads.Held.{IsHeld, HoldsMarked, Names, said, said_marked};
 
 use crate::entries;
 use crate::retiring::{read_one, read_value};

@@ -1,6 +1,6 @@
 //! The pools: rows call by call.
 ghost use Rattle.std.specs.Prelude.{◌≡◌, None};
-ghost use Rattle.vbr_slots.specs.Views.{IsOf};
+ghost use Rattle.vbr_slots.specs.views.Views.{IsOf};
 
 use crate::retiring::{insert_one, remove_one};
 use crate::running_table::{Opened, expect_pool, two_passes};

@@ -1,7 +1,7 @@
 //! Rows: calls one after another on a table with two passes, each with what it is answered, and after
 //! it with its steps and with what a pass knows. What a call is, its kind of nodes says.
 ghost use Rattle.std.specs.Prelude.{◌≡◌, None};
-ghost use Rattle.vbr_slots.specs.Views.{IsOf};
+ghost use Rattle.vbr_slots.specs.views.Views.{IsOf};
 
 use crate::running_table::{Opened, close_two, open_two, shape_of};
 use std::alloc::Global;

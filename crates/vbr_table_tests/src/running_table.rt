@@ -7,9 +7,9 @@ ghost use Rattle.vbr_machine.specs.Learning.{birth_in_hand};
 ghost use Rattle.vbr_machine.specs.declared.event.Step.TheVariants.{TakeFlag};
 ghost use Rattle.vbr_machine.specs.declared.knowledge.Holding.TheVariants.{Free};
 ghost use Rattle.vbr_machine.specs.Start.{empty_start};
-ghost use Rattle.vbr_slots.specs.Closing.{AllOf, Ends, HandsBack};
-ghost use Rattle.vbr_slots.specs.OwnSlots.{epoch_of, holding_of};
-ghost use Rattle.vbr_slots.specs.Views.{IsOf, KeepsPool, event_of, new_pass, new_passes};
+ghost use Rattle.vbr_slots.specs.runs.Closing.{AllOf, Ends, HandsBack};
+ghost use Rattle.vbr_slots.specs.steps.OwnSlots.{epoch_of, holding_of};
+ghost use Rattle.vbr_slots.specs.views.Views.{IsOf, KeepsPool, event_of, new_pass, new_passes};
 ghost use Rattle.vbr_table_tests.specs.OnlyPass.{IsOnlyPass};
 ghost use Rattle.vbr_table_tests.specs.Taking.{HasEvent, BothTook};
 

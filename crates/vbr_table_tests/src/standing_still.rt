@@ -1,6 +1,6 @@
 //! A pass that stands still, wherever it is in a call, holds up no other.
 ghost use Rattle.std.specs.Prelude.{◌≡◌, ◌<◌, ◌≤◌, None};
-ghost use Rattle.vbr_slots.specs.Views.{IsOf};
+ghost use Rattle.vbr_slots.specs.views.Views.{IsOf};
 ghost use Rattle.vbr_table_tests.specs.Following.{IsWorkedOn};
 
 use crate::listed_calls::table_after;

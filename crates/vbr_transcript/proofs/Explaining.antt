@@ -8,7 +8,7 @@ use Rattle.std.specs.Prelude.{nat_le, zip, All}
 use Rattle.vbr_machine.specs.Start.{Start}
 use Rattle.vbr_machine.specs.History.{calls_by}
 use Rattle.vbr_machine.specs.Runs as machine
-use Rattle.vbr_machine.specs.Runs.{world_after}
+use Rattle.vbr_machine.specs.Runs.{Begins, world_after}
 use Rattle.vbr_machine.specs.Safety.{IsSafe}
 use Rattle.vbr_machine.specs.declared.event.Event.{Event}
 use Rattle.vbr_transcript.specs.Calls.{Outcome, answered_calls, lines_by, lines_up_to, outcomes_by, outcomes_up_to}
@@ -16,7 +16,7 @@ use Rattle.vbr_transcript.specs.Merging.{replies_by, IsMerged}
 use Rattle.vbr_script.specs.Scripts.{ArePhased}
 use Rattle.vbr_script.specs.declared.script.Kind.{Kind}
 use Rattle.vbr_transcript.specs.Contents.{IsLegalFrom, opening_contents}
-use Rattle.vbr_transcript.specs.Phases.{HaveCalled, HavePlayed}
+use Rattle.vbr_transcript.specs.Phases.{HaveCalled}
 use Rattle.vbr_transcript.specs.Runs.{EndsIn, Manner, MayBeAnswered, IsSetRun}
 use Rattle.vbr_script.specs.declared.script.Line.{Line}
 use Rattle.vbr_transcript.specs.declared.reply.Reply.{Reply}
@@ -25,6 +25,29 @@ use Rattle.vbr_transcript.proofs.MachineCalls.{no_calls_beyond}
 use Rattle.vbr_transcript.proofs.Filters.{filter_all, filter_none}
 use Rattle.vbr_transcript.proofs.Outcomes.{calls_by-answered, outcomes_by-own, all_outcomes, lines_by-ascend}
 use Rattle.vbr_transcript.proofs.Outcomes.{outcomes_up_to-zip, lines_by-up_to, outcomes_by-up_to}
+
+-- the replies of each worker are such as its lines may be answered at this epoch
+abbrev pub MayAnswer : Kind → ℕ → ℕ → ℕ → List Line → List (List Reply) → Type 0
+MayAnswer kind last epoch workers lines own =
+    (who : ℕ) → who < workers →
+    All (λ outcome. MayBeAnswered kind last epoch outcome.0.op outcome.1)
+    (zip (lines_by who lines) (replies_by who own))
+
+-- a phase ends within a run: at some point of it each worker has called its lines of the phases up to this one, and no
+-- more
+pub record EndsWithin (kind : Kind) (start : Start) (workers : ℕ) (lines : List Line) (own : List (List Reply))
+    (run : List Event) (phase : ℕ) : Type 0 where
+  pub seen : List Event
+  pub begins : Begins seen run
+  pub called : HaveCalled kind start workers (lines_up_to phase lines) own seen
+
+-- workers have played a script: each has called its lines, each phase ended before the next, and no reply was given
+-- that its line may not have
+pub record HavePlayed (kind : Kind) (start : Start) (workers phases : ℕ) (lines : List Line) (own : List (List Reply))
+    (run : List Event) : Type 0 where
+  pub called : HaveCalled kind start workers lines own run
+  pub ends : (phase : ℕ) → phase < phases → EndsWithin kind start workers lines own run phase
+  pub answers : MayAnswer kind start.shape.last_epoch (world_after start run).epoch workers lines own
 
 -- what holds of each line holds of the line of each outcome
 pub all_lines : (P : Line → Type 0) (lines : List Line) (replies : List Reply) → All P lines →

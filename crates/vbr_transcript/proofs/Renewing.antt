@@ -61,11 +61,6 @@ legal-append : (kind : Kind) (opening : Contents kind) (calls more : List Call) 
 legal-append Set opening calls more first then = set_legal-append opening calls more first then
 legal-append Map opening calls more first then = map_legal-append opening calls more first then
 
--- a set that opens with the keys that another was left with has just these
-pub set_opens : (start : Start) (listed : List ℕ) (left : Keys) → AreContents Set listed left →
-    opening_contents Set (opened_with Set start listed) ≡ left
-set_opens start listed left are = λ i key. are.same key i
-
 -- ---- outcomes, cut at a phase
 
 abbrev UpTo : ℕ → List Outcome → Type 0

@@ -1,5 +1,5 @@
 -- What a pass knows as lists and as functions, and that what it reads and holds has room in words.
-use Rattle.std.proofs.Common.{◌≡◌, ◌≢◌, ℕ, zero, suc, ◌<◌, ◌≤◌, Bool, true, false, if◌then◌else◌, List, [], ◌∷◌, ◌++◌}
+use Rattle.std.proofs.Common.{◌≡◌, ◌≢◌, ℕ, ◌<◌, ◌≤◌, Bool, true, false, if◌then◌else◌, List, [], ◌∷◌, ◌++◌}
 use Rattle.std.proofs.Common.{map, length, get_or, set, Option, Some, None, refl, inl, inr, arith}
 use Rattle.std.specs.Prelude.{◌⊎◌, ◌&&◌, IfSome, unwrap_or}
 use Rattle.std.specs.List.{AllByRecursion}
@@ -21,12 +21,6 @@ use Rattle.vbr_machine.specs.declared.knowledge.Holding.{Holding}
 use Rattle.vbr_machine.specs.declared.knowledge.Holding.TheVariants.{Free, Unlinked, InHand}
 
 -- ---- what holds of each element of a list
-
--- of what is at an index, or of the default
-pub all-at : {X : Type 0} (P : X → Type 0) (xs : List X) (i : ℕ) (d : X) → AllByRecursion P xs → P d → P (get_or xs i d)
-all-at P [] i d p q = q
-all-at P (x ∷ xs) zero d p q = p.0
-all-at P (x ∷ xs) (suc i) d p q = all-at P xs i d p.1 q
 
 -- of a list with each element changed by a function that keeps it
 pub all-map : {X : Type 0} (P : X → Type 0) (f : X → X) (xs : List X) → ((x : X) → P x → P (f x)) →

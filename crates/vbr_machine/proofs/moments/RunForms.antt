@@ -1,7 +1,6 @@
 -- What runs say to the layers above, of what a pass knows by membership.
 -- That is of keys in the set when a link was loaded, and of chains of marked links.
 use Rattle.std.proofs.Common.{◌≡◌, ℕ, ◌<◌, ◌≤◌, true, false, List, [], ◌∷◌, ◌++◌, Some, refl, sym, subst}
-use Rattle.std.specs.Prelude.{unwrap_or}
 use Rattle.std.proofs.lemmas.List.Elements.{All-contains, All-from_recursion}
 use Rattle.vbr_machine.specs.Start.{Start, IsStart}
 use Rattle.vbr_words.specs.Words.{link_of}
@@ -11,15 +10,14 @@ use Rattle.vbr_words.specs.declared.place.At.TheVariants.{Head, Slot}
 use Rattle.vbr_machine.specs.Put.{put}
 use Rattle.vbr_machine.specs.Opened.{opening_keys, opening_payloads, payload_kept}
 use Rattle.vbr_machine.specs.History.{set_after, values_after}
-use Rattle.vbr_machine.specs.Knowledge.{key_in, birth_in}
 use Rattle.vbr_words.specs.Buckets.{bucket_of}
 use Rattle.vbr_machine.specs.Acceptance.{Accepts}
 use Rattle.vbr_machine.specs.Learning.{link_written, call_of, present_reply, present_value}
 use Rattle.vbr_machine.specs.Machine.{World, opening, link_at, found, after}
 use Rattle.vbr_machine.specs.Runs.{AreAccepted, IsRun, world_after, know_after}
 use Rattle.vbr_machine.specs.Moments.{WasShown}
-use Rattle.vbr_machine.specs.Membership.{Knows, IsHeldSlot, IsHeldPlace, HeldIn, LeadsTo, KeyAt, StandsBehind}
-use Rattle.vbr_machine.specs.Membership.{StandsBefore, WritesLink, AcceptsKnown}
+use Rattle.vbr_machine.specs.Membership.{Knows, IsHeldPlace, HeldIn, LeadsTo, KeyAt, StandsBehind}
+use Rattle.vbr_machine.specs.Membership.{StandsBefore, AcceptsKnown}
 use Rattle.vbr_machine.specs.Incarnations.{Incarnations, Marked, at_opening}
 use Rattle.vbr_machine.specs.Chronicles.{incarnations_from}
 use Rattle.vbr_machine.specs.Sound.{IsListed, Grows}
@@ -34,14 +32,14 @@ use Rattle.vbr_machine.specs.declared.event.Step.TheVariants.{LoadLink, Mark, Co
 use Rattle.vbr_machine.specs.declared.history.Op.{Op}
 use Rattle.vbr_machine.specs.declared.history.Op.TheVariants.{Remove, Get}
 use Rattle.vbr_machine.specs.declared.knowledge.Read.{Read}
-use Rattle.vbr_machine.specs.declared.knowledge.Read.TheVariants.{LinkAt, BirthOf, KeyOf, ValueOf}
+use Rattle.vbr_machine.specs.declared.knowledge.Read.TheVariants.{LinkAt, KeyOf, ValueOf}
 use Rattle.vbr_machine.proofs.chronicles.Growth.{grows_after}
 use Rattle.vbr_machine.proofs.steps.Steps.{agrees_at_first, at_put}
 use Rattle.vbr_machine.proofs.reads.KnownReads as reads
 use Rattle.vbr_machine.proofs.moments.AtLoads as loads
 use Rattle.vbr_machine.proofs.reads.HeldBuckets.{AreOrdered, ordered_on, ordered_with}
 use Rattle.vbr_machine.proofs.reads.HeldBuckets as buckets
-use Rattle.vbr_machine.proofs.reads.KnownAcceptance.{slot_known, place_known}
+use Rattle.vbr_machine.proofs.reads.KnownAcceptance.{place_known, WritesLink}
 use Rattle.vbr_machine.proofs.reads.KnownAcceptance as acceptance
 use Rattle.vbr_machine.proofs.reads.HeldSlots.{IsOfHeldPlace}
 use Rattle.vbr_machine.proofs.runs.SafeRuns.{run_reads}
@@ -94,24 +92,6 @@ module _ (start : Start) (passes : ℕ) (run : List Event) (is : IsStart start) 
       i ≡ j
   one_key s i j k l = reads.one_key agrees.sound (agrees.knows p) s i j k l
 
-  pub one_birth : (s i j : ℕ) → Knows (know_after start run p) (BirthOf s i) →
-      Knows (know_after start run p) (BirthOf s j) → i ≡ j
-  one_birth s i j k l = reads.one_birth agrees.sound (agrees.knows p) s i j k l
-
-  -- and all its known marked links name the same
-  pub one_mark : (s : ℕ) (x y : Link) → Knows (know_after start run p) (LinkAt (Slot s) x) →
-      Knows (know_after start run p) (LinkAt (Slot s) y) → x.mark ≡ true → y.mark ≡ true → x.slot ≡ y.slot
-  one_mark s x y k l i j = reads.one_mark agrees.sound (agrees.knows p) s x y k l i j
-
-  -- a search of a key or of a birth finds any known one
-  pub key_looked_up : (s key : ℕ) → Knows (know_after start run p) (KeyOf s key) →
-      unwrap_or (key_in (know_after start run p).checked s) 0 ≡ key
-  key_looked_up s key k = acceptance.key_looked_up agrees.sound (agrees.knows p) s key k
-
-  pub birth_looked_up : (s birth : ℕ) → Knows (know_after start run p) (BirthOf s birth) →
-      unwrap_or (birth_in (know_after start run p).checked s) 0 ≡ birth
-  birth_looked_up s birth k = acceptance.birth_looked_up agrees.sound (agrees.knows p) s birth k
-
   -- a known link at a head is unmarked
   pub head_unmarked : (b : ℕ) (link : Link) → Knows (know_after start run p) (LinkAt (Head b) link) → link.mark ≡ false
   head_unmarked b link k = reads.head_unmarked (agrees.knows p) b link k
@@ -120,17 +100,6 @@ module _ (start : Start) (passes : ℕ) (run : List Event) (is : IsStart start) 
   pub link_held : (place : At) (link : Link) → Knows (know_after start run p) (LinkAt place link) →
       IsHeldPlace (know_after start run p) place
   link_held place link k = place_known (know_after start run p) place (of_held (LinkAt place link) k)
-
-  pub birth_held : (s birth : ℕ) → Knows (know_after start run p) (BirthOf s birth) →
-      IsHeldSlot (know_after start run p) s
-  birth_held s birth k = slot_known (know_after start run p) s (of_held (BirthOf s birth) k)
-
-  pub key_held : (s key : ℕ) → Knows (know_after start run p) (KeyOf s key) → IsHeldSlot (know_after start run p) s
-  key_held s key k = slot_known (know_after start run p) s (of_held (KeyOf s key) k)
-
-  pub value_held : (s value : ℕ) → Knows (know_after start run p) (ValueOf s value) →
-      IsHeldSlot (know_after start run p) s
-  value_held s value k = slot_known (know_after start run p) s (of_held (ValueOf s value) k)
 
   -- a known key of a slot that is held in a bucket is one of the bucket
   pub held_in_bucket : (s b key : ℕ) → HeldIn (know_after start run p) (Slot s) b →

@@ -14,7 +14,7 @@ use Rattle.vbr_machine.specs.Chronicles.{Allowed, Entry, IsLawful, Removes, beco
 use Rattle.vbr_machine.specs.Disturbances.{is_met, met}
 use Rattle.vbr_machine.specs.Incarnations.{State, Linked, Marked, Unlinked, Stamped, Unborn, InHand, GivenUp}
 use Rattle.vbr_machine.specs.Incarnations.{Incarnations}
-use Rattle.vbr_machine.specs.Nodes.{behind, count_below, is_behind, InList, Stands}
+use Rattle.vbr_machine.specs.Nodes.{behind, count_below, is_behind}
 use Rattle.vbr_machine.specs.Opened.{opening_keys}
 use Rattle.vbr_machine.specs.Removals.{HasLeft, MarkedLeft}
 use Rattle.vbr_machine.specs.Runs.{Begins, IsRun}
@@ -22,7 +22,7 @@ use Rattle.vbr_machine.specs.Sound.{IsInserted, IsListed, Sound}
 use Rattle.vbr_machine.specs.declared.event.Event.{Event}
 use Rattle.vbr_machine.proofs.runs.EveryRun.{run_agrees}
 use Rattle.vbr_machine.proofs.reads.FoundReads.{first_or_later, none_in}
-use Rattle.vbr_machine.proofs.progress.ListedNodes.{count_falls, in_list_from, slot_is_one}
+use Rattle.vbr_machine.proofs.progress.ListedNodes.{InList, Stands, count_falls, in_list_from, slot_is_one}
 use Rattle.vbr_machine.proofs.progress.MetNodes.{IsMet, StaysOut, count_taken, gone, met_is, stays_out, still}
 use Rattle.vbr_machine.proofs.moments.Removals.{left_stays}
 use Rattle.vbr_machine.proofs.progress.Since.{Since, own_since, since}

@@ -11,7 +11,6 @@ use Rattle.vbr_words.specs.declared.place.At.TheVariants.{Head}
 use Rattle.vbr_words.specs.Buckets.{bucket_of}
 use Rattle.vbr_machine.specs.Acceptance.{Accepts}
 use Rattle.vbr_machine.specs.Accounts.{incarnations_after, notes_after, happens, just, entry_of_call, after_giving_up}
-use Rattle.vbr_machine.specs.Calls.{calls_added}
 use Rattle.vbr_machine.specs.Chronicles.{Entry, Advances, Gains, Probes, Bears, Keyed, Valued, Aims, Inserts, Raises}
 use Rattle.vbr_machine.specs.Chronicles.{Removes, Replaces, Stamps, Unlinks, Confirms, Allowed, becomes}
 use Rattle.vbr_machine.specs.Chronicles.{incarnations_from, IsLawful}
@@ -36,6 +35,7 @@ use Rattle.vbr_machine.proofs.runs.EveryRun.{incarnations_after-snoc, run_agrees
 use Rattle.vbr_machine.proofs.progress.ListedNodes.{behind_same, count_same, stamps_none, unlinks_add_none}
 use Rattle.vbr_machine.proofs.progress.ListedRuns.{birth_leaves, raised_none}
 use Rattle.vbr_machine.proofs.words.Puts.{put_here, put_other}
+use Rattle.vbr_machine.proofs.runs.RunsGoOn.{calls_added}
 
 -- ---- one event
 

@@ -21,12 +21,27 @@ use Rattle.vbr_machine.specs.Notes.{before_at}
 use Rattle.vbr_machine.specs.declared.knowledge.SlotPlace.{SlotPlace}
 use Rattle.vbr_machine.specs.declared.knowledge.SlotPlace.TheVariants.{Shared, Own, Hand, Listed}
 use Rattle.vbr_machine.specs.Nodes.{state_shown, state_in, is_listed, key_in_slot, rank_shown, rank_in_slot, is_lower}
-use Rattle.vbr_machine.specs.Nodes.{is_in_list, is_there, is_above, is_behind, count_below, behind, Stands, InList}
+use Rattle.vbr_machine.specs.Nodes.{is_in_list, is_above, is_behind, count_below, behind}
 use Rattle.vbr_machine.specs.Sound.{IsListed, IsOrderedBefore, IsApart, IsFrom, Sound}
 use Rattle.vbr_machine.proofs.words.Puts.{put_here, put_other}
 use Rattle.vbr_machine.proofs.chronicles.Lists.{next_listed, places_differ}
 use Rattle.vbr_machine.proofs.reads.HeldReads.{same_pair}
 use Rattle.vbr_machine.proofs.chronicles.Slots.{late_born, listed_late, listed_last, one_late}
+
+-- the last incarnation of a slot is this one, and it is in a list
+pub record Stands (a : Incarnations) (s c : ℕ) : Type 0 where
+  pub last : a.last s ≡ Some c
+  pub listed : IsListed (a.state c)
+
+-- whether a place is in a list: a head is, and a slot whose last incarnation is
+abbrev pub is_there : Incarnations → At → Bool
+is_there a (Head b) = true
+is_there a (Slot s) = is_listed (state_in a s)
+
+-- the node of a slot is in the list of a bucket
+pub record InList (start : Start) (a : Incarnations) (bucket s c : ℕ) : Type 0 where
+  pub stands : Stands a s c
+  pub of_bucket : bucket_of start.shape (a.key c) ≡ bucket
 
 -- ---- counts
 

@@ -20,7 +20,7 @@ use Rattle.vbr_machine.specs.Chronicles.{incarnations_from, IsLawful, next_of}
 use Rattle.vbr_machine.specs.Accounts.{incarnations_after, happens, notes_after, just, after_giving_up}
 use Rattle.vbr_machine.specs.Agreement.{IsHeldAt, IsHeldNext, Agrees}
 use Rattle.vbr_machine.specs.Notes.{before_at}
-use Rattle.vbr_machine.specs.Nodes.{behind, is_above, is_listed, is_there, state_in}
+use Rattle.vbr_machine.specs.Nodes.{behind, is_above}
 use Rattle.vbr_machine.specs.Removals.{IsTakenOut}
 use Rattle.vbr_machine.specs.Sound.{Sound}
 use Rattle.vbr_machine.specs.declared.event.Event.{Event}
@@ -32,8 +32,8 @@ use Rattle.vbr_machine.proofs.reads.KnownReads.{good_link}
 use Rattle.vbr_machine.proofs.runs.EveryRun.{incarnations_after-snoc, run_agrees, step_agrees}
 use Rattle.vbr_machine.proofs.moments.Removals.{marked_out}
 use Rattle.vbr_machine.proofs.moments.RunForms as forms
-use Rattle.vbr_machine.proofs.progress.ListedNodes.{IsFollowed, IsNextOf, IsPlaceOf, next_of_followed, same_followed}
-use Rattle.vbr_machine.proofs.progress.ListedNodes.{stands_listed, stands_there, one_fewer, stamps_none, stamps_links}
+use Rattle.vbr_machine.proofs.progress.ListedNodes.{IsFollowed, IsPlaceOf, is_there, next_of_followed, same_followed}
+use Rattle.vbr_machine.proofs.progress.ListedNodes.{stamps_none, stamps_links}
 use Rattle.vbr_machine.proofs.progress.ListedNodes.{unlinks_one, bears_none, gives_up_none, gives_up_links}
 use Rattle.vbr_machine.proofs.chronicles.SoundAfter.{sound_kept}
 use Rattle.vbr_machine.specs.declared.knowledge.Holding.{Holding}
@@ -57,13 +57,6 @@ place_of_bucket start a epoch bucket (Slot t) None names pair held is = absurd h
 place_of_bucket start a epoch bucket (Slot t) (Some c) names pair held is =
     let e : c ≡ pair.0 = (let q = pair.1 in cc) in
     ap (bucket_of start.shape) (ap (key_shown a) pair.2 ∙ ap a.key (sym e)) ∙ is c held
-
--- the link names the slot of the successor
-named_next : (a : Incarnations) (epoch s : ℕ) (slot names : Option ℕ) → slot ≡ Some s → IsHeldNext a epoch slot names →
-    (n : ℕ) × (names ≡ Some n) × (a.slot n ≡ s)
-named_next a epoch s None names q h = absurd (cc)
-named_next a epoch s (Some t) None q h = absurd h
-named_next a epoch s (Some t) (Some n) q h = (n, refl, h.slot ∙ (let e : t ≡ s = cc in e))
 
 module _ (start : Start) (passes : ℕ) (run : List Event) (is : IsStart start) (ok : IsRun start passes run) (p : ℕ)
     (bucket : ℕ) (place : At) (link : Link)
@@ -91,34 +84,6 @@ module _ (start : Start) (passes : ℕ) (run : List Event) (is : IsStart start) 
             (place_in_bucket agrees.sound (agrees.knows p) (forms.ordered start passes run is ok p) place bucket
             inside);
       }
-
-  -- the incarnation in the slot that the link names is the next behind the place
-  next_named : (s : ℕ) (q : link.slot ≡ Some s) →
-      IsNextOf start (incarnations_after start run) bucket place
-      (named_next (incarnations_after start run) (know_after start run p).epoch s link.slot stands_in_bucket.names q
-      stands_in_bucket.next).0
-  next_named s q =
-      let x = stands_in_bucket in
-      let n = named_next a (know_after start run p).epoch s link.slot x.names q x.next in
-      let P : Option ℕ → Type 0 = λ m. IsFollowed a place x.of m in
-      next_of_followed agrees.sound bucket place x.of n.0 (subst P n.1 x.followed) x.place
-
-  -- a law: behind the slot that the link names stands one node fewer than behind the place
-  pub one_fewer_behind : (s : ℕ) → link.slot ≡ Some s →
-      behind start (incarnations_after start run) bucket place
-      ≡ suc (behind start (incarnations_after start run) bucket (Slot s))
-  one_fewer_behind s q =
-      let x = stands_in_bucket in
-      let n = named_next a (know_after start run p).epoch s link.slot x.names q x.next in
-      one_fewer agrees.sound agrees.fits bucket place n.0 (next_named s q)
-      ∙ ap (λ t. suc (behind start a bucket (Slot t))) n.2
-
-  -- a law: the slot that the link names is in a list
-  pub named_there : (s : ℕ) → link.slot ≡ Some s → is_there (incarnations_after start run) (Slot s) ≡ true
-  named_there s q =
-      let n = named_next a (know_after start run p).epoch s link.slot stands_in_bucket.names q stands_in_bucket.next in
-      ap (λ t. is_listed (state_in a t)) (sym n.2)
-      ∙ stands_listed (stands_there agrees.sound agrees.fits n.0 (next_named s q).listed).1
 
 -- ---- what is given up
 

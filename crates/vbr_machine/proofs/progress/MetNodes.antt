@@ -18,11 +18,9 @@ use Rattle.vbr_machine.specs.Chronicles.{Happening, Advances, Gains, Probes, Rai
 use Rattle.vbr_machine.specs.Chronicles.{Aims, Inserts, Removes, Replaces, Unlinks, Stamps, Confirms, AtHead, AtNode}
 use Rattle.vbr_machine.specs.Chronicles.{Entry, Allowed, MayStamp, becomes, incarnations_from, IsLawful, unlinked_at}
 use Rattle.vbr_machine.specs.Disturbances.{changes, one_if, disturbances_in, is_inserted, has_left, is_met, met}
-use Rattle.vbr_machine.specs.Disturbances.{is_met_below, met_below}
 use Rattle.vbr_machine.specs.Nodes.{count_below, behind, is_behind, is_lower}
 use Rattle.vbr_machine.specs.Removals.{HasLeft}
 use Rattle.vbr_machine.specs.Sound.{IsInserted, IsListed, IsOrderedBefore, Sound, Grows}
-use Rattle.vbr_machine.proofs.progress.Calm.{NoneBy}
 use Rattle.vbr_machine.proofs.chronicles.Growth.{inserted_stays}
 use Rattle.vbr_machine.proofs.progress.ListedNodes.{count_falls, in_list_is, lower_from, lower_is, lower_not}
 use Rattle.vbr_machine.proofs.progress.ListedNodes.{stands_there}
@@ -31,6 +29,14 @@ use Rattle.vbr_machine.proofs.words.Puts.{put_here, put_other}
 use Rattle.vbr_machine.proofs.moments.Removals.{left_stays}
 use Rattle.vbr_machine.proofs.chronicles.Slots.{inserted_late, late_born}
 use Rattle.vbr_machine.proofs.chronicles.SoundAfter.{sound_kept}
+
+-- and how many of them are ordered before a key with a rank
+abbrev pub is_met_below : Start → Incarnations → Incarnations → ℕ → ℕ → ℕ → ℕ → Bool
+is_met_below start before now bucket key rank c =
+    is_met start before now bucket c && is_lower (now.key c) (now.rank c) key rank
+
+abbrev pub met_below : Start → Incarnations → Incarnations → ℕ → ℕ → ℕ → ℕ
+met_below start before now bucket key rank = count_below (is_met_below start before now bucket key rank) now.count
 
 -- ---- states
 
@@ -585,10 +591,6 @@ comes_less start a bucket who pass (Confirms call) none = omega arith
 -- a pass links nothing by these events
 abbrev pub InsertsNone : ℕ → List Entry → Type 0
 InsertsNone who entries = AllByRecursion (λ (entry : Entry). entry.pass ≡ who → is_insert entry.what ≡ false) entries
-
-pub none_inserts : (who : ℕ) (entries : List Entry) → NoneBy who entries → InsertsNone who entries
-none_inserts who [] none = tt
-none_inserts who (entry ∷ entries) none = (λ is. absurd (none.0 is), none_inserts who entries none.1)
 
 -- a law of chronicles: each node that comes to be met is an event that disturbs a pass which links none itself
 pub met_since : (start : Start) (keys : Keys) (first a : Incarnations) (who bucket : ℕ) (entries : List Entry) →

@@ -24,7 +24,7 @@ use Rattle.vbr_machine.specs.Notes.{Notes, notes_with}
 use Rattle.vbr_machine.specs.Disturbances.{disturbances, how_many, is_removal, one_if, updates}
 use Rattle.vbr_machine.specs.Needs.{AdvancesInNeed, NeedsAdvance}
 use Rattle.vbr_machine.specs.Nodes.{marked_after}
-use Rattle.vbr_machine.specs.Unretired.{is_retirement, is_unretired, removes, unretired_after}
+use Rattle.vbr_machine.specs.Unretired.{is_unretired, removes, unretired_after}
 use Rattle.vbr_machine.specs.declared.history.Call.{Call}
 use Rattle.vbr_machine.specs.declared.event.Event.{Event}
 use Rattle.vbr_machine.specs.declared.event.Step.{Step}
@@ -40,7 +40,7 @@ use Rattle.vbr_machine.proofs.runs.OwnEntries.{chronicle_from-append}
 use Rattle.vbr_machine.proofs.runs.RunsGoOn.{is_run_after, is_run_before, world_after-append}
 use Rattle.vbr_machine.proofs.progress.Progress.{disturbances_paid}
 use Rattle.vbr_machine.proofs.progress.Retirements.{all_follow, how_many-append, removals_are_calls, unretired_births}
-use Rattle.vbr_machine.proofs.progress.Retirements.{removals_are_removes, unretired_once}
+use Rattle.vbr_machine.proofs.progress.Retirements.{is_retirement, removals_are_removes, unretired_once}
 use Rattle.vbr_machine.proofs.whereabouts.OutsidePool.{count_none}
 use Rattle.vbr_machine.proofs.words.Puts.{put_here, put_other}
 

@@ -16,7 +16,7 @@ use Rattle.vbr_machine.specs.Chronicles.{MayStamp, MayTakePlace, becomes, calls_
 use Rattle.vbr_machine.specs.Chronicles.{unlinked_at}
 use Rattle.vbr_machine.specs.Disturbances.{how_many, is_removal, one_if, updates}
 use Rattle.vbr_machine.specs.Nodes.{count_below, state_in, state_shown}
-use Rattle.vbr_machine.specs.Unretired.{is_retirement, is_unretired, removes, unretired_after}
+use Rattle.vbr_machine.specs.Unretired.{is_unretired, removes, unretired_after}
 use Rattle.vbr_machine.specs.Runs.{IsRun}
 use Rattle.vbr_machine.specs.Sound.{IsPassed, Sound}
 use Rattle.vbr_machine.specs.declared.event.Event.{Event}
@@ -27,6 +27,11 @@ use Rattle.vbr_machine.proofs.chronicles.SoundAfter.{sound_kept}
 use Rattle.vbr_machine.proofs.progress.ListedNodes.{count_falls, count_same}
 use Rattle.vbr_machine.proofs.progress.MetNodes.{count_taken}
 use Rattle.vbr_machine.proofs.words.Puts.{put_here, put_other}
+
+-- whether an event retires an incarnation
+abbrev pub is_retirement : Happening → Bool
+is_retirement (Stamps c stamp) = true
+is_retirement _ = false
 
 -- ---- counts
 

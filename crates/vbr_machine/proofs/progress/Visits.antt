@@ -1,5 +1,5 @@
 -- Each node of a walk in one epoch was in the list since it began, and comes after those visited.
-use Rattle.std.proofs.Common.{◌≡◌, ℕ, suc, ◌+◌, ◌<◌, ◌≤◌, false, List, Option, Some, None, refl, sym, ap, ◌∙◌, subst}
+use Rattle.std.proofs.Common.{◌≡◌, ℕ, suc, ◌<◌, ◌≤◌, false, List, Option, Some, None, refl, sym, ap, ◌∙◌, subst}
 use Rattle.std.proofs.Common.{arith}
 use Rattle.vbr_words.specs.Buckets.{bucket_of}
 use Rattle.vbr_words.specs.declared.link.Link.{Link}
@@ -11,13 +11,12 @@ use Rattle.vbr_machine.specs.Links.{marked}
 use Rattle.vbr_machine.specs.Machine.{link_at}
 use Rattle.vbr_machine.specs.Membership.{HeldIn, Knows}
 use Rattle.vbr_machine.specs.Runs.{Begins, IsRun, know_after, world_after}
-use Rattle.vbr_machine.specs.Accounts.{incarnations_after, notes_after, own_entries}
+use Rattle.vbr_machine.specs.Accounts.{incarnations_after, notes_after}
 use Rattle.vbr_machine.specs.Agreement.{Agrees, IsHeldAt, IsHeldIncarnation, IsPair}
 use Rattle.vbr_machine.specs.Images.{link_in_state, link_shown, link_shown_at, link_to_next, slot_shown}
 use Rattle.vbr_machine.specs.Incarnations.{State, Unborn, InHand, GivenUp, Linked, Marked, Unlinked, Stamped}
 use Rattle.vbr_machine.specs.Incarnations.{Incarnations, IsLate}
-use Rattle.vbr_machine.specs.Disturbances.{disturbances, HasVisited, IsAhead, IsOpenIn, met, met_below}
-use Rattle.vbr_machine.specs.Nodes.{behind}
+use Rattle.vbr_machine.specs.Disturbances.{IsOpenIn, met}
 use Rattle.vbr_machine.specs.Removals.{HasLeft}
 use Rattle.vbr_machine.specs.Sound.{IsInserted, IsListed}
 use Rattle.vbr_machine.specs.declared.event.Event.{Event}
@@ -27,13 +26,28 @@ use Rattle.vbr_machine.proofs.reads.HeldBuckets.{IsOfBucket, place_in_bucket}
 use Rattle.vbr_machine.proofs.reads.HeldReads.{held_last, same_pair, stays_held}
 use Rattle.vbr_machine.proofs.reads.KnownReads.{good_link}
 use Rattle.vbr_machine.proofs.moments.RunForms as forms
-use Rattle.vbr_machine.proofs.progress.MetNodes.{listed_not_left, IsMet, StaysOut, met_at_first, met_below_grows}
-use Rattle.vbr_machine.proofs.progress.MetNodes.{met_earlier, met_grows, met_since, none_inserts, one_more_below}
+use Rattle.vbr_machine.proofs.progress.MetNodes.{listed_not_left, IsMet, StaysOut, met_below_grows, met_below}
+use Rattle.vbr_machine.proofs.progress.MetNodes.{met_earlier, met_grows, one_more_below}
 use Rattle.vbr_machine.proofs.progress.MetNodes.{one_more_of_all, stays_out}
 use Rattle.vbr_machine.proofs.runs.RunsGoOn.{begins_run, begins_trans}
 use Rattle.vbr_machine.proofs.chronicles.Shown.{stands}
-use Rattle.vbr_machine.proofs.progress.Since.{Since, since, none_since, disturbances_sum}
+use Rattle.vbr_machine.proofs.progress.Since.{Since, since}
 use Rattle.vbr_machine.proofs.chronicles.Slots.{late_born, late_inserted, listed_late}
+
+-- a node of the bucket is held at a slot, which was in the list since an earlier moment; and so many nodes that are
+-- ordered before it were, at the least
+pub record IsAhead (start : Start) (before now : Incarnations) (epoch bucket visited s : ℕ) : Type 0 where
+  pub node : ℕ
+  pub held : IsHeldIncarnation now epoch s node
+  pub since : HasLeft (before.state node) → ⊥
+  pub of_bucket : bucket_of start.shape (now.key node) ≡ bucket
+  pub few : visited ≤ met_below start before now bucket (now.key node) (now.rank node)
+
+-- so many nodes were visited before what a link names, all of which were in the list since an earlier moment; at the
+-- end of the list too
+abbrev pub HasVisited : Start → Incarnations → Incarnations → ℕ → ℕ → ℕ → Option ℕ → Type 0
+HasVisited start before now epoch bucket visited None = visited ≤ met start before now bucket
+HasVisited start before now epoch bucket visited (Some s) = IsAhead start before now epoch bucket visited s
 
 -- what stays out since a beginning of a run
 out_since : {start : Start} {first run : List Event} → Since start first run →
@@ -82,9 +96,6 @@ module _ (start : Start) (passes : ℕ) (first then moment run : List Event) (is
 
   ok_moment : IsRun start passes moment
   ok_moment = begins_run start passes moment run c ok
-
-  ok_then : IsRun start passes then
-  ok_then = begins_run start passes then moment b ok_moment
 
   good : Agrees start (world_after start moment) (incarnations_after start moment) (notes_after start moment)
   good = run_agrees start passes moment is ok_moment
@@ -320,23 +331,6 @@ module _ (start : Start) (passes : ℕ) (first run : List Event) (is : IsStart s
     (begins : Begins first run) where
   abbrev x : Since start first run
   x = since start passes first run is ok begins
-
-  -- a law: the nodes that a pass which added none to its own events can have met are no more than were in the list
-  -- at first, and than it was disturbed since
-  pub met_bound : (who bucket h : ℕ) → own_entries start run who ≡ own_entries start first who →
-      met start (incarnations_after start first) (incarnations_after start run) bucket
-      + disturbances start first who bucket
-      ≤ behind start (incarnations_after start first) bucket (Head h) + disturbances start run who bucket
-  met_bound who bucket h same =
-      let good = run_agrees start passes first is (begins_run start passes first run begins ok) in
-      let y = since start passes first run is ok begins in
-      let a = incarnations_after start first in
-      let at_start = met_at_first good.sound good.fits bucket h in
-      let more = met_since start (opening_keys start) a a who bucket y.entries good.sound y.lawful
-      (none_inserts who y.entries (none_since y who same)) in
-      let sum = disturbances_sum y who bucket in
-      let made = ap (λ b. met start a b bucket) y.makes in
-      omega (arith, at_start, more, sum, made)
 
   -- of a later beginning they are no more
   pub met_later : (earlier : List Event) → Begins earlier first → (bucket : ℕ) →

@@ -17,7 +17,7 @@ use Rattle.vbr_machine.specs.Acceptance.{HasValueFor, HasChecked, IsBehind, IsBe
 use Rattle.vbr_machine.specs.Acceptance.{MayReplace, IsInRange, Accepts}
 use Rattle.vbr_machine.specs.Learning.{link_written, call_of, present_reply, present_value, birth_in_hand}
 use Rattle.vbr_machine.specs.Membership.{Knows, IsHeldSlot, IsHeldPlace, BirthAt, BirthNamed, StandsBehind}
-use Rattle.vbr_machine.specs.Membership.{StandsBefore, StandsBeforeOn, IsUnlinkLink, WritesLink, KnowsValue}
+use Rattle.vbr_machine.specs.Membership.{StandsBefore, StandsBeforeOn, IsUnlinkLink, KnowsValue}
 use Rattle.vbr_machine.specs.Membership.{KnowsValueFor, IsKnown, MayPublishKnown, MayReplaceKnown, IsInRangeKnown}
 use Rattle.vbr_machine.specs.Membership.{AcceptsKnown}
 use Rattle.vbr_machine.specs.Incarnations.{Incarnations}
@@ -41,6 +41,18 @@ use Rattle.vbr_machine.proofs.reads.FoundReads.{holds_among, link_there, marked_
 use Rattle.vbr_machine.proofs.reads.KnownReads.{key_known, value_known, behind_known, before_known, birth_held}
 use Rattle.vbr_machine.proofs.reads.KnownReads.{key_held, value_held, one_mark}
 use Rattle.vbr_machine.proofs.reads.ValueReads.{some_value}
+
+-- the step writes this link, by births and a marked link that are known; other steps write none
+abbrev pub WritesLink : Know → Step → Link → Type 0
+WritesLink know (StoreLink s next) new =
+    (birth : ℕ) × BirthNamed know next birth × (new ≡ link_to next (birth_in_hand (know.own s)) birth)
+WritesLink know (Publish pred expected s) new =
+    (birth : ℕ) × BirthAt know pred birth × (new ≡ link_to (Some s) birth (birth_in_hand (know.own s)))
+WritesLink know (Mark s expected) new = new ≡ marked (link_of expected)
+WritesLink know (Replace s expected t) new =
+    (birth : ℕ) × Knows know (BirthOf s birth) × (new ≡ marked (link_to (Some t) birth (birth_in_hand (know.own t))))
+WritesLink know (Unlink pred expected s) new = IsUnlinkLink know pred s new
+WritesLink know _ new = ⊥
 
 -- ---- what is looked up is known
 

@@ -75,11 +75,6 @@ pub one_key : {start : Start} {a : Incarnations} {know : Know} {notes : Notes} �
     FitsNotes a know notes → (s i j : ℕ) → Knows know (KeyOf s i) → Knows know (KeyOf s j) → i ≡ j
 one_key snd k s i j m n = let x = key_held k s i m in sym x.2 ∙ known_key snd k s x.0 j x.1 n
 
--- a slot has one known birth
-pub one_birth : {start : Start} {a : Incarnations} {know : Know} {notes : Notes} → Sound start a →
-    FitsNotes a know notes → (s i j : ℕ) → Knows know (BirthOf s i) → Knows know (BirthOf s j) → i ≡ j
-one_birth snd k s i j m n = let x = birth_held k s i m in sym x.2 ∙ known_birth snd k s x.0 j x.1 n
-
 -- what a good link names has the slot that the link names
 slot_named : (a : Incarnations) (e : ℕ) (v n : Option ℕ) → IsHeldNext a e v n → v ≡ slot_shown a n
 slot_named a e None None h = refl

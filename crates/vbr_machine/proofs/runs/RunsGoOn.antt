@@ -17,7 +17,7 @@ use Rattle.vbr_machine.specs.Machine.{World, opening, found, stamp_shown, after}
 use Rattle.vbr_machine.specs.Making.{ahead_made, call_made}
 use Rattle.vbr_machine.specs.Runs.{IsAccepted, world_from, AreAccepted, IsRun, world_after, know_after, NoneOf, Begins}
 use Rattle.vbr_machine.specs.Runs.{BeginsFor}
-use Rattle.vbr_machine.specs.Calls.{calls_added, own_calls}
+use Rattle.vbr_machine.specs.Calls.{own_calls}
 use Rattle.vbr_machine.specs.declared.history.Call.{Call}
 use Rattle.vbr_machine.specs.declared.event.Event.{Event}
 use Rattle.vbr_machine.specs.declared.event.Step.{Step}
@@ -28,6 +28,10 @@ use Rattle.vbr_machine.specs.declared.event.Step.TheVariants.{LoadBirth, LoadKey
 use Rattle.vbr_machine.specs.declared.event.Step.TheVariants.{ConfirmPresent, ConfirmAbsent, StoreValue, LoadValue}
 use Rattle.vbr_machine.proofs.words.Puts.{put_here, put_other}
 use Rattle.vbr_machine.proofs.words.Branches.{by_both}
+
+-- the calls that a step adds: its call, if it makes a call and finds its word, and the one ahead of it
+abbrev pub calls_added : Start → World → ℕ → Step → List Call
+calls_added start w p step = option_to_list (ahead_made start w p step) ++ option_to_list (call_made start w p step)
 
 -- ---- one list of events after another
 

@@ -5,7 +5,7 @@ use Rattle.std.proofs.lemmas.Bool.{cases_eq}
 use Rattle.vbr_machine.specs.Start.{Start}
 use Rattle.vbr_machine.specs.Opened.{opening_keys}
 use Rattle.vbr_machine.specs.Machine.{World}
-use Rattle.vbr_machine.specs.Incarnations.{State, Unborn, Linked, Marked, GivenUp, Stamped, Incarnations, IsLate}
+use Rattle.vbr_machine.specs.Incarnations.{GivenUp, Incarnations}
 use Rattle.vbr_machine.specs.Incarnations.{last_in}
 use Rattle.vbr_machine.specs.Incarnations as state
 use Rattle.vbr_machine.specs.Images.{link_shown, link_in_state, link_shown_at, IsImage}

@@ -29,10 +29,6 @@ pub sum_on : (passes : ℕ) (f g h : ℕ → ℕ) → ((p : ℕ) → h p ≡ f p
 sum_on zero f g h e = refl
 sum_on (suc p) f g h e = let before = sum_on p f g h e in let now = e p in omega (arith, before, now)
 
-none_summed : (passes : ℕ) → sum_of passes (λ p. 0) ≡ 0
-none_summed zero = refl
-none_summed (suc p) = let before = none_summed p in omega (arith, before)
-
 pub in_sum : (passes who : ℕ) (f : ℕ → ℕ) → who < passes → f who ≤ sum_of passes f
 in_sum zero who f low = omega (arith, low)
 in_sum (suc i) who f low = go (cases_order i who) (λ l. in_sum i who f l)

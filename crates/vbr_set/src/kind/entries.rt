@@ -1,10 +1,10 @@
 //! The nodes of a map: it opens with entries, and its report lists entries.
 ghost use Rattle.std.specs.Prelude.{◌≡◌, List, refl, true};
-ghost use Rattle.vbr_slots.specs.Views.{PassView, TableView};
-ghost use Rattle.vbr_set.specs.Closing.{ReportsLegally};
-ghost use Rattle.vbr_set.specs.Contents.{TellsEnd, entry_in_slot};
-ghost use Rattle.vbr_set.specs.Kinds.{as_map};
-ghost use Rattle.vbr_set.specs.KindLaws.{counts_entries, entries_ascend, keys_of_entries, map_reopens};
+ghost use Rattle.vbr_slots.specs.views.Views.{PassView, TableView};
+ghost use Rattle.vbr_set.specs.reports.Closing.{ReportsLegally};
+ghost use Rattle.vbr_set.specs.reports.Contents.{TellsEnd, entry_in_slot};
+ghost use Rattle.vbr_set.specs.reports.Kinds.{as_map};
+ghost use Rattle.vbr_set.specs.reports.KindLaws.{counts_entries, entries_ascend, keys_of_entries, map_reopens};
 
 use crate::contents::Contents;
 use crate::kind::{Kind, OpenedSlots};

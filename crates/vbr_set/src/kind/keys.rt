@@ -1,11 +1,11 @@
 //! The nodes of a set: it opens with keys, and its report lists keys.
 ghost use Rattle.std.specs.Prelude.{◌≡◌, List, false, refl};
 ghost use Rattle.vbr_machine.specs.Nodes.{key_in_slot};
-ghost use Rattle.vbr_slots.specs.Views.{PassView, TableView};
-ghost use Rattle.vbr_set.specs.Closing.{ReportsLegally};
-ghost use Rattle.vbr_set.specs.Contents.{TellsEnd};
-ghost use Rattle.vbr_set.specs.Kinds.{as_set};
-ghost use Rattle.vbr_set.specs.KindLaws.{counts_keys, keys_ascend, keys_of_keys, set_reopens};
+ghost use Rattle.vbr_slots.specs.views.Views.{PassView, TableView};
+ghost use Rattle.vbr_set.specs.reports.Closing.{ReportsLegally};
+ghost use Rattle.vbr_set.specs.reports.Contents.{TellsEnd};
+ghost use Rattle.vbr_set.specs.reports.Kinds.{as_set};
+ghost use Rattle.vbr_set.specs.reports.KindLaws.{counts_keys, keys_ascend, keys_of_keys, set_reopens};
 
 use crate::contents::Contents;
 use crate::kind::{Kind, OpenedSlots};

@@ -2,14 +2,14 @@
 ghost use Rattle.std.specs.Prelude.{◌≡◌, ◌≤◌, [], true, false, length, IfOk, IfErr, IfSome};
 ghost use Rattle.std.specs.Arc.{arc_value};
 ghost use Rattle.std.specs.Vec.{vec_capacity};
-ghost use Rattle.vbr_slots.specs.Closing.{AllOf};
-ghost use Rattle.vbr_at_table.specs.Aside.{HasAside};
-ghost use Rattle.vbr_set.specs.Balances.{balance_of};
-ghost use Rattle.vbr_set.specs.Closing.{ClosesBy};
-ghost use Rattle.vbr_set.specs.Ends.{AreNumbered, ClosesMember, EndsBy, IsBack, IsLast, EndLacksMemory};
-ghost use Rattle.vbr_set.specs.Mailboxes.{IsIdle};
-ghost use Rattle.vbr_set.specs.Members.{as_member};
-ghost use Rattle.vbr_set.specs.Sharing.{AreOthers, ArePassesOf, AreMailboxesOf, HasOthers, IsSeatOf};
+ghost use Rattle.vbr_slots.specs.runs.Closing.{AllOf};
+ghost use Rattle.vbr_at_table.specs.hands.Aside.{HasAside};
+ghost use Rattle.vbr_set.specs.members.Balances.{balance_of};
+ghost use Rattle.vbr_set.specs.reports.Closing.{ClosesBy};
+ghost use Rattle.vbr_set.specs.members.Ends.{AreNumbered, ClosesMember, EndsBy, IsBack, IsLast, EndLacksMemory};
+ghost use Rattle.vbr_set.specs.members.Mailboxes.{IsIdle};
+ghost use Rattle.vbr_set.specs.calls.Members.{as_member};
+ghost use Rattle.vbr_set.specs.members.Sharing.{AreOthers, ArePassesOf, AreMailboxesOf, HasOthers, IsSeatOf};
 
 use crate::end_error::EndError;
 use crate::kind::Kind;

@@ -1,9 +1,9 @@
 //! All members of a set or of a map at once.
 ghost use Rattle.std.specs.Prelude.{◌≡◌, ◌≤◌, ◌↔◌, [], true, false, length, IfErr, IfOk, OnOk};
 ghost use Rattle.std.specs.Vec.{vec_capacity};
-ghost use Rattle.vbr_set.specs.AllMembers.{AreOfOneSet, AreTooFew, HasBack, LacksMembers, ReportsAllBy};
-ghost use Rattle.vbr_set.specs.Apart.{AreParts, members_of};
-ghost use Rattle.vbr_set.specs.Closing.{ClosesBy};
+ghost use Rattle.vbr_set.specs.members.AllMembers.{AreOfOneSet, AreTooFew, HasBack, LacksMembers, ReportsAllBy};
+ghost use Rattle.vbr_set.specs.members.Apart.{AreParts, members_of};
+ghost use Rattle.vbr_set.specs.reports.Closing.{ClosesBy};
 
 use crate::close_all_error::CloseAllError;
 use crate::kind::Kind;

@@ -1,7 +1,7 @@
 //! The balance of a member.
 ghost use Rattle.std.specs.Prelude.{◌≡◌};
-ghost use Rattle.vbr_list.specs.Wanted.{wants};
-ghost use Rattle.vbr_set.specs.Balances.{balance_of, one_where};
+ghost use Rattle.vbr_list.specs.updates.Wanted.{wants};
+ghost use Rattle.vbr_set.specs.members.Balances.{balance_of, one_where};
 
 use crate::member::Member;
 use vbr_list::{Refusal, Wanted};

@@ -1,7 +1,7 @@
 //! Giving the slots of a member back.
 ghost use Rattle.std.specs.Prelude.{◌≡◌, None};
-ghost use Rattle.vbr_slots.specs.Forsaking.{Forsakes};
-ghost use Rattle.vbr_at_table.specs.GivingSlotsBack.{GivesSlotsBack};
+ghost use Rattle.vbr_slots.specs.pools.Forsaking.{Forsakes};
+ghost use Rattle.vbr_at_table.specs.pools.GivingSlotsBack.{GivesSlotsBack};
 
 use crate::member::Member;
 use vbr_words::Nodes;

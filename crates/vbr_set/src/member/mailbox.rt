@@ -1,6 +1,6 @@
 //! A mailbox for one pass of a set to come back to.
 ghost use Rattle.std.specs.Prelude.{◌≡◌, [], None, Some, IfOk, IfSome};
-ghost use Rattle.vbr_set.specs.Mailboxes.{IsIdle};
+ghost use Rattle.vbr_set.specs.members.Mailboxes.{IsIdle};
 
 use crate::set::VbrSet;
 use atomic_table::{Play, Seat, Table, TableRule};
@@ -17,7 +17,7 @@ pub struct HoldsOne;
 
 impl<N: Nodes> TableRule<Option<Pass>, SeatKnows, VbrSet<N>> for HoldsOne {
     ghost use Rattle.std.specs.Prelude.{None};
-    ghost use Rattle.vbr_set.specs.Mailboxes.{IsMailbox};
+    ghost use Rattle.vbr_set.specs.members.Mailboxes.{IsMailbox};
 
     ghost holds = { IsMailbox };
 
@@ -38,7 +38,7 @@ pub struct Lays;
 
 impl Play<Option<Pass>, SeatKnows> for Lays {
     ghost use Rattle.std.specs.Prelude.{◌≡◌, [], ◌∷◌, Some};
-    ghost use Rattle.vbr_slots.specs.Views.{PassView};
+    ghost use Rattle.vbr_slots.specs.views.Views.{PassView};
 
     ghost then = { λ _ before _ after. (pass : PassView) →
         before.1 ≡ (0, Some pass) ∷ [] → after ≡ (Some (Some pass), []) };

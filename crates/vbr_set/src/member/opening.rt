@@ -1,14 +1,14 @@
 //! Opening a set or a map for members.
 ghost use Rattle.std.specs.Prelude.{◌≡◌, ◌<◌, ◌≤◌, ◌↔◌, ◌⊎◌, All, [], length, map, IfOk, IsErrOf, None};
 ghost use Rattle.std.specs.List.Sorted.{IsStrictlyIncreasing};
-ghost use Rattle.vbr_slots.specs.Calls.{made_by};
-ghost use Rattle.vbr_slots.specs.Views.{TableView, new_passes};
+ghost use Rattle.vbr_slots.specs.steps.Calls.{made_by};
+ghost use Rattle.vbr_slots.specs.views.Views.{TableView, new_passes};
 ghost use Rattle.vbr_slots.specs.declared.opening.TheConstants.{MAX_MANY_PASSES};
-ghost use Rattle.vbr_set.specs.MemberView.{IsMember};
-ghost use Rattle.vbr_set.specs.Balances.{balance_of};
-ghost use Rattle.vbr_set.specs.Members.{AreNew, as_member};
-ghost use Rattle.vbr_set.specs.Seats.{AreSeats};
-ghost use Rattle.vbr_set.specs.Sharing.{HasOthers, IsStake, member_with};
+ghost use Rattle.vbr_set.specs.members.MemberView.{IsMember};
+ghost use Rattle.vbr_set.specs.members.Balances.{balance_of};
+ghost use Rattle.vbr_set.specs.calls.Members.{AreNew, as_member};
+ghost use Rattle.vbr_set.specs.members.Seats.{AreSeats};
+ghost use Rattle.vbr_set.specs.members.Sharing.{HasOthers, IsStake, member_with};
 
 use crate::kind::Kind;
 use crate::member::Member;

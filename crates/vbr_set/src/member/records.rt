@@ -2,13 +2,14 @@
 //! slot at most: then it is in the hand of its pass alone, until it is published or let go, whatever calls
 //! the member makes meanwhile, and the program may write its record.
 ghost use Rattle.std.specs.Prelude.{◌≡◌, None, is_some};
-ghost use Rattle.vbr_set.specs.Answers.{AnswersAll};
-ghost use Rattle.vbr_set.specs.HeldStores.{PutsHeldBy, ReplacesHeldBy, answer_unreplaced};
-ghost use Rattle.vbr_set.specs.LettingGo.{LetsGo};
-ghost use Rattle.vbr_set.specs.MapCalls.{MapAnswersAll};
-ghost use Rattle.vbr_set.specs.RecordCalls.{AsksStill, FindsEntry, TakesAside, InsertsHeldBy, answer_held, insert_told, slot_aside, store_told, FindsKey};
-ghost use Rattle.vbr_set.specs.RemovingExactly.{TakesExactly, TakesKeyExactly};
+ghost use Rattle.vbr_set.specs.histories.Answers.{AnswersAll};
+ghost use Rattle.vbr_set.specs.calls.HeldStores.{PutsHeldBy, ReplacesHeldBy, answer_unreplaced};
+ghost use Rattle.vbr_set.specs.members.LettingGo.{LetsGo};
+ghost use Rattle.vbr_set.specs.calls.MapCalls.{MapAnswersAll};
+ghost use Rattle.vbr_set.specs.calls.RecordCalls.{AsksStill, FindsEntry, TakesAside, InsertsHeldBy, answer_held, insert_told, slot_aside, store_told, FindsKey};
+ghost use Rattle.vbr_set.specs.calls.RemovingExactly.{TakesExactly, TakesKeyExactly};
 
+use crate::at_set::at_set;
 use crate::member::Member;
 use crate::member::counting::{one_if_wanted, one_if_yes};
 use crate::record_refusals::{HeldRefusal, HoldRefusal};
@@ -73,9 +74,7 @@ impl<N: Nodes> Member<N> {
         true
     }
 
-    /// Whether the slot of an entry shows its birth still, in one step: [`VbrSet::is_still`] by its pass.
-    ///
-    /// [`VbrSet::is_still`]: crate::VbrSet::is_still
+    /// [`VbrSet::is_still`] by its pass.
     #[inline]
     pub fn is_still(&mut self, entry: &Entry) -> bool
         ensures asks { AsksStill self.old self.new entry.now result }
@@ -86,39 +85,22 @@ impl<N: Nodes> Member<N> {
 }
 
 impl Member {
-    /// The entry of a key, if the key is there, in at most `budget` steps: [`VbrSet::get_entry`] by its pass.
-    ///
-    /// # Errors
-    ///
-    /// OutOfSteps alone. The member has made no call then, and can go on at once.
-    ///
-    /// [`VbrSet::get_entry`]: crate::VbrSet::get_entry
+    /// [`AtSet::get_entry`] by its pass.
     #[inline]
     pub fn get_entry(&mut self, key: u64, budget: u32) -> Result<Option<Entry>, Refusal>
         ensures finds { FindsKey self.old self.new key budget result }
         ensures aside { self.new.aside ≡ self.old.aside }
     {
-        self.share.set().get_entry(&mut self.pass, key, budget)
+        at_set!(self.share.set(), self.pass).get_entry(key, budget)
     }
 
-    /// Takes a key out where its node is that of this entry, in at most `budget` steps, and says whether it
-    /// did: [`VbrSet::remove_exactly`] by its pass. Else it makes no call: the set lacked the entry at a moment
-    /// of it.
-    ///
-    /// # Errors
-    ///
-    /// OutOfSteps alone. The member has made no call then, and can go on at once.
-    ///
-    /// [`VbrSet::remove_exactly`]: crate::VbrSet::remove_exactly
+    /// [`AtSet::remove_exactly`] by its pass.
     #[inline]
     pub fn remove_exactly(&mut self, key: u64, entry: &Entry, budget: u32) -> Result<bool, Refusal>
         ensures takes { TakesKeyExactly self.old self.new key entry.now budget result }
         ensures aside { self.new.aside ≡ self.old.aside }
     {
-        let answer = self
-            .share
-            .set()
-            .remove_exactly(&mut self.pass, key, entry, budget);
+        let answer = at_set!(self.share.set(), self.pass).remove_exactly(key, entry, budget);
         self.balance = self.balance.wrapping_sub(one_if_yes(&answer));
         answer
     }
@@ -164,30 +146,16 @@ impl Member {
 }
 
 impl Member<Entries> {
-    /// The entry of a key, if the key is there, in at most `budget` steps: [`VbrMap::get_entry`] by its pass.
-    ///
-    /// # Errors
-    ///
-    /// OutOfSteps alone. The member has made no call then, and can go on at once.
-    ///
-    /// [`VbrMap::get_entry`]: crate::VbrMap::get_entry
+    /// [`AtSet::get_entry`] by its pass.
     #[inline]
     pub fn get_entry(&mut self, key: u64, budget: u32) -> Result<Option<Entry>, Refusal>
         ensures finds { FindsEntry self.old self.new key budget result }
         ensures aside { self.new.aside ≡ self.old.aside }
     {
-        self.share.set().get_entry(&mut self.pass, key, budget)
+        at_set!(self.share.set(), self.pass).get_entry(key, budget)
     }
 
-    /// Takes a key out where its node is that of this entry, in at most `budget` steps, and gives the value
-    /// that was there: [`VbrMap::remove_exactly`] by its pass. Else it makes no call and gives none: the map
-    /// lacked the entry at a moment of it.
-    ///
-    /// # Errors
-    ///
-    /// OutOfSteps alone. The member has made no call then, and can go on at once.
-    ///
-    /// [`VbrMap::remove_exactly`]: crate::VbrMap::remove_exactly
+    /// [`AtSet::remove_exactly`] by its pass.
     #[inline]
     pub fn remove_exactly(
         &mut self,
@@ -198,10 +166,7 @@ impl Member<Entries> {
         ensures takes { TakesExactly self.old self.new key entry.now budget result }
         ensures aside { self.new.aside ≡ self.old.aside }
     {
-        let answer = self
-            .share
-            .set()
-            .remove_exactly(&mut self.pass, key, entry, budget);
+        let answer = at_set!(self.share.set(), self.pass).remove_exactly(key, entry, budget);
         self.balance = self
             .balance
             .wrapping_sub(one_if_wanted(&answer, Wanted::Present));

@@ -1,8 +1,8 @@
 //! Renewing a set or a map by all its members.
 ghost use Rattle.std.specs.Prelude.{◌≡◌, None, length, IfErr, IfOk, IfSome, OnOk};
-ghost use Rattle.vbr_set.specs.AllMembers.{AreOfOneSet};
-ghost use Rattle.vbr_set.specs.BalanceSums.{added_balances};
-ghost use Rattle.vbr_set.specs.RenewingAll.{AreNotAll, IsWhyUnrenewed, RenewsAllBy};
+ghost use Rattle.vbr_set.specs.members.AllMembers.{AreOfOneSet};
+ghost use Rattle.vbr_set.specs.members.BalanceSums.{added_balances};
+ghost use Rattle.vbr_set.specs.renewals.RenewingAll.{AreNotAll, IsWhyUnrenewed, RenewsAllBy};
 
 use crate::close_all_error::CloseAllError;
 use crate::kind::Kind;

@@ -1,8 +1,8 @@
 //! Renewing a set or a map by all its members, and telling the slots that its entries had.
 ghost use Rattle.std.specs.Prelude.{IfErr, IfOk, OnOk};
-ghost use Rattle.vbr_set.specs.AllMembers.{AreOfOneSet};
-ghost use Rattle.vbr_set.specs.RenewingAll.{AreNotAll, IsWhyUnrenewed};
-ghost use Rattle.vbr_set.specs.RenewingWithSlots.{RenewsAllWithSlots};
+ghost use Rattle.vbr_set.specs.members.AllMembers.{AreOfOneSet};
+ghost use Rattle.vbr_set.specs.renewals.RenewingAll.{AreNotAll, IsWhyUnrenewed};
+ghost use Rattle.vbr_set.specs.renewals.RenewingWithSlots.{RenewsAllWithSlots};
 
 use crate::close_all_error::CloseAllError;
 use crate::kind::Kind;

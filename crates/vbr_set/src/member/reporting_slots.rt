@@ -1,8 +1,8 @@
 //! The slots of what is in a set or a map, by all its members at once.
 ghost use Rattle.std.specs.Prelude.{◌≡◌, ◌↔◌, IfErr, IfOk, OnOk};
-ghost use Rattle.vbr_set.specs.AllMembers.{AreOfOneSet, AreTooFew, HasBack, LacksMembers, ReportsAllBy};
-ghost use Rattle.vbr_set.specs.Apart.{AreParts, members_of};
-ghost use Rattle.vbr_set.specs.EntrySlots.{ClosesWithSlots};
+ghost use Rattle.vbr_set.specs.members.AllMembers.{AreOfOneSet, AreTooFew, HasBack, LacksMembers, ReportsAllBy};
+ghost use Rattle.vbr_set.specs.members.Apart.{AreParts, members_of};
+ghost use Rattle.vbr_set.specs.reports.EntrySlots.{ClosesWithSlots};
 
 use crate::close_all_error::CloseAllError;
 use crate::kind::Kind;

@@ -1,6 +1,6 @@
 //! The set that a member has a share of.
 ghost use Rattle.std.specs.Prelude.{◌≡◌};
-ghost use Rattle.vbr_set.specs.Sharing.{set_shared};
+ghost use Rattle.vbr_set.specs.members.Sharing.{set_shared};
 
 use crate::member::share::Share;
 use crate::set::VbrSet;

@@ -1,8 +1,8 @@
 //! Closing a set or a map.
 ghost use Rattle.std.specs.Prelude.{◌<◌, ◌≤◌, ◌↔◌, length, IfOk, IfErr, OnOk};
-ghost use Rattle.vbr_slots.specs.Closing.{AllOf, HandsBack, IsMissing};
-ghost use Rattle.vbr_set.specs.Closing.{ClosesBy};
-ghost use Rattle.vbr_set.specs.Contents.{TellsEnd};
+ghost use Rattle.vbr_slots.specs.runs.Closing.{AllOf, HandsBack, IsMissing};
+ghost use Rattle.vbr_set.specs.reports.Closing.{ClosesBy};
+ghost use Rattle.vbr_set.specs.reports.Contents.{TellsEnd};
 
 use crate::contents::{Contents, contents_of};
 use crate::kind::Kind;

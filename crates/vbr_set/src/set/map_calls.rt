@@ -1,28 +1,17 @@
-//! The calls of a map: inserts, removes, gets and stores.
+//! The calls of a map by a pass beside it.
 ghost use Rattle.std.specs.Prelude.{◌≡◌, None};
-ghost use Rattle.vbr_slots.specs.Views.{IsOf};
-ghost use Rattle.vbr_set.specs.MapCalls.{ExchangesEntry, GetsEntry, GetsOrInsertsEntry, InsertsEntry, PutsEntry, RemovesEntry, RemovesIf, ReplacesEntry, StoresEntry};
-ghost use Rattle.vbr_set.specs.Members.{as_member};
+ghost use Rattle.vbr_slots.specs.views.Views.{IsOf};
+ghost use Rattle.vbr_set.specs.calls.MapCalls.{ExchangesEntry, GetsEntry, GetsOrInsertsEntry, InsertsEntry, PutsEntry, RemovesEntry, RemovesIf, ReplacesEntry, StoresEntry};
+ghost use Rattle.vbr_set.specs.calls.Members.{as_member};
 
+use crate::at_set::AtSet;
 use crate::set::VbrSet;
-use vbr_list::{
-    Refusal, Wanted, compare_exchange, get, get_or_insert, insert_entry, put, remove_entry,
-    remove_if, replace, store,
-};
-use vbr_machine::laws::a_run_is_a_map;
+use vbr_list::{Refusal, Wanted};
 use vbr_slots::Pass;
 use vbr_words::Entries;
 
 impl VbrSet<Entries> {
-    /// Adds a key with its value, in at most `budget` steps, and says whether the key was absent. Where it
-    /// was present, its value stays: [`VbrMap::store`] is the call that changes it.
-    ///
-    /// It is the insert of a set, [`VbrSet::insert`], which has the source, with a step more to store the
-    /// value, so that an answer takes at most one more; budgets and refusals are those. After each the pass has made no call and has no slot in
-    /// hand, and no history has the call.
-    ///
-    /// [`VbrSet::insert`]: crate::VbrSet::insert
-    /// [`VbrMap::store`]: crate::VbrMap::store
+    /// [`AtSet::insert`] by a pass.
     #[inline]
     pub fn insert(
         &self,
@@ -36,20 +25,10 @@ impl VbrSet<Entries> {
         ensures { InsertsEntry (as_member self.now pass.old) (as_member self.now pass.new)
             key value budget result }
     {
-        a_run_is_a_map();
-        pass.law();
-        let answer = insert_entry(&self.slots, pass, key, value, budget);
-        pass.law();
-        answer
+        AtSet { set: self, pass }.insert(key, value, budget)
     }
 
-    /// Takes a key out, in at most `budget` steps, and gives the value that was stored with it, if it was
-    /// there. The value is read before the node is marked, and is that of the node since it was published.
-    ///
-    /// It is the remove of a set, [`VbrSet::remove`], which has the source; budgets and refusals are those.
-    /// An answer takes two steps more: while the other passes stand still, at most 9n + 12.
-    ///
-    /// [`VbrSet::remove`]: crate::VbrSet::remove
+    /// [`AtSet::remove`] by a pass.
     #[inline]
     pub fn remove(&self, pass: &mut Pass, key: u64, budget: u32) -> Result<Option<u64>, Refusal>
         requires own { IsOf pass.old.trace self.now }
@@ -57,19 +36,10 @@ impl VbrSet<Entries> {
         ensures { RemovesEntry (as_member self.now pass.old) (as_member self.now pass.new)
             key budget result }
     {
-        a_run_is_a_map();
-        pass.law();
-        let answer = remove_entry(&self.slots, pass, key, budget);
-        pass.law();
-        answer
+        AtSet { set: self, pass }.remove(key, budget)
     }
 
-    /// The value that is stored with a key, if the key is there, in at most `budget` steps. It goes the way
-    /// of a look-up of a set, and only loads words, two more of them than [`VbrSet::has`], which has the
-    /// source; budgets and refusals are those. While the other passes stand still, an answer takes at most
-    /// 5n + 6.
-    ///
-    /// [`VbrSet::has`]: crate::VbrSet::has
+    /// [`AtSet::get`] by a pass.
     #[inline]
     pub fn get(&self, pass: &mut Pass, key: u64, budget: u32) -> Result<Option<u64>, Refusal>
         requires own { IsOf pass.old.trace self.now }
@@ -77,21 +47,10 @@ impl VbrSet<Entries> {
         ensures { GetsEntry (as_member self.now pass.old) (as_member self.now pass.new)
             key budget result }
     {
-        a_run_is_a_map();
-        pass.law();
-        let answer = get(&self.slots, pass, key, budget);
-        pass.law();
-        answer
+        AtSet { set: self, pass }.get(key, budget)
     }
 
-    /// Takes a key out where its value is the one that is expected, in at most `budget` steps, and gives
-    /// what was there: the value that the key had, or none where it was absent. So the key was taken out
-    /// exactly where the value that is expected is given. Else the call is a get of what was there.
-    ///
-    /// It goes the way of [`VbrMap::remove`], which compares the value once it has read it; budgets,
-    /// refusals and what an answer takes are those.
-    ///
-    /// [`VbrMap::remove`]: crate::VbrMap::remove
+    /// [`AtSet::remove_if`] by a pass.
     #[inline]
     pub fn remove_if(
         &self,
@@ -105,44 +64,10 @@ impl VbrSet<Entries> {
         ensures { RemovesIf (as_member self.now pass.old) (as_member self.now pass.new)
             key expected budget result }
     {
-        a_run_is_a_map();
-        pass.law();
-        let answer = remove_if(&self.slots, pass, key, expected, budget);
-        pass.law();
-        answer
+        AtSet { set: self, pass }.remove_if(key, expected, budget)
     }
 
-    /// Gives a key a value where what is there is as it is wanted, in at most `budget` steps, and gives
-    /// what was there: the value that the key had, or none where it was absent. So the value was stored
-    /// exactly where [`Wanted::wants`] what is given.
-    ///
-    /// The answer's point is one step, and where the key was there that is two calls of the history, next to
-    /// each other: the key is removed with its value, and inserted with the new one, and no call of
-    /// another pass stands between. Where what was there isn't as it is wanted, nothing changes, and the
-    /// call is a get.
-    ///
-    /// A new value has a new node, so a replacement needs one slot more than the map has keys. The node
-    /// that it replaced has left its list when the call returns, unless less than eight steps are left of
-    /// the budget, and its slot is back, in the pass's own pool while that has room.
-    ///
-    /// The budgets that are enough are those of [`VbrMap::insert`], and two steps more for
-    /// [`Wanted::Value`]: while the other passes stand still, 18n + 82, or 18n + w + 20 if that is more, with
-    /// n nodes in the key's bucket and w = slots / 64, rounded up; and 18n + 82 with a slot in the pass's own
-    /// pool, unless the epoch is spent. What is answered took at most six steps more than is enough, and with eight more a node that was replaced has left
-    /// its list.
-    ///
-    /// # Errors
-    ///
-    /// After each the pass has made no call and has no slot in hand, no history has the call, and what was
-    /// there stays.
-    ///
-    /// - OutOfSteps: the steps that were made leave less than eight of the budget.
-    /// - NoSlot: what was there was as it is wanted, the own pool was empty, and each slot was outside the
-    ///   shared pool at a moment of the call.
-    /// - EpochSpent: what was there was as it is wanted, the epoch is the last, and each slot of the own
-    ///   pool is stamped with it. The budget had room to advance it.
-    ///
-    /// [`VbrMap::insert`]: crate::VbrMap::insert
+    /// [`AtSet::store`] by a pass.
     #[inline]
     pub fn store(
         &self,
@@ -157,16 +82,10 @@ impl VbrSet<Entries> {
         ensures { StoresEntry (as_member self.now pass.old) (as_member self.now pass.new)
             key value wanted budget result }
     {
-        a_run_is_a_map();
-        pass.law();
-        let answer = store(&self.slots, pass, key, value, wanted, budget);
-        pass.law();
-        answer
+        AtSet { set: self, pass }.store(key, value, wanted, budget)
     }
 
-    /// As [`VbrMap::store`] where [`Wanted::Present`] is wanted, which has the source, and compiled for that.
-    ///
-    /// [`VbrMap::store`]: crate::VbrMap::store
+    /// [`AtSet::replace`] by a pass.
     #[inline]
     pub fn replace(
         &self,
@@ -180,16 +99,10 @@ impl VbrSet<Entries> {
         ensures { ReplacesEntry (as_member self.now pass.old) (as_member self.now pass.new)
             key value budget result }
     {
-        a_run_is_a_map();
-        pass.law();
-        let answer = replace(&self.slots, pass, key, value, budget);
-        pass.law();
-        answer
+        AtSet { set: self, pass }.replace(key, value, budget)
     }
 
-    /// As [`VbrMap::store`] where [`Wanted::Anything`] is wanted, which has the source, and compiled for that.
-    ///
-    /// [`VbrMap::store`]: crate::VbrMap::store
+    /// [`AtSet::put`] by a pass.
     #[inline]
     pub fn put(
         &self,
@@ -203,16 +116,10 @@ impl VbrSet<Entries> {
         ensures { PutsEntry (as_member self.now pass.old) (as_member self.now pass.new)
             key value budget result }
     {
-        a_run_is_a_map();
-        pass.law();
-        let answer = put(&self.slots, pass, key, value, budget);
-        pass.law();
-        answer
+        AtSet { set: self, pass }.put(key, value, budget)
     }
 
-    /// As [`VbrMap::store`] where [`Wanted::Absent`] is wanted, which has the source, and compiled for that.
-    ///
-    /// [`VbrMap::store`]: crate::VbrMap::store
+    /// [`AtSet::get_or_insert`] by a pass.
     #[inline]
     pub fn get_or_insert(
         &self,
@@ -226,16 +133,10 @@ impl VbrSet<Entries> {
         ensures { GetsOrInsertsEntry (as_member self.now pass.old) (as_member self.now pass.new)
             key value budget result }
     {
-        a_run_is_a_map();
-        pass.law();
-        let answer = get_or_insert(&self.slots, pass, key, value, budget);
-        pass.law();
-        answer
+        AtSet { set: self, pass }.get_or_insert(key, value, budget)
     }
 
-    /// As [`VbrMap::store`] where [`Wanted::Value`] is wanted, which has the source, and compiled for that.
-    ///
-    /// [`VbrMap::store`]: crate::VbrMap::store
+    /// [`AtSet::compare_exchange`] by a pass.
     #[inline]
     pub fn compare_exchange(
         &self,
@@ -250,10 +151,6 @@ impl VbrSet<Entries> {
         ensures { ExchangesEntry (as_member self.now pass.old) (as_member self.now pass.new)
             key expected value budget result }
     {
-        a_run_is_a_map();
-        pass.law();
-        let answer = compare_exchange(&self.slots, pass, key, expected, value, budget);
-        pass.law();
-        answer
+        AtSet { set: self, pass }.compare_exchange(key, expected, value, budget)
     }
 }

@@ -1,7 +1,7 @@
 //! The meeting of two passes.
 ghost use Rattle.std.specs.Prelude.{◌≡◌};
-ghost use Rattle.vbr_slots.specs.Views.{IsOf};
-ghost use Rattle.vbr_set.specs.Meetings.{HasMet};
+ghost use Rattle.vbr_slots.specs.views.Views.{IsOf};
+ghost use Rattle.vbr_set.specs.histories.Meetings.{HasMet};
 
 use crate::set::VbrSet;
 use vbr_slots::Pass;

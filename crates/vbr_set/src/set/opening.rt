@@ -1,7 +1,7 @@
 //! Opening a set or a map.
 ghost use Rattle.std.specs.Prelude.{◌≡◌, ◌<◌, ◌≤◌, ◌↔◌, ◌⊎◌, [], length, IfOk, IsErrOf};
 ghost use Rattle.std.specs.List.Sorted.{IsStrictlyIncreasing};
-ghost use Rattle.vbr_slots.specs.Views.{new_passes};
+ghost use Rattle.vbr_slots.specs.views.Views.{new_passes};
 ghost use Rattle.vbr_slots.specs.declared.opening.TheConstants.{MAX_MANY_PASSES};
 
 use crate::kind::Kind;

@@ -1,25 +1,26 @@
 //! The calls for a program that keeps a record of its own beside each slot.
 ghost use Rattle.std.specs.Prelude.{◌≡◌, None, IfOk, IfErr};
-ghost use Rattle.vbr_slots.specs.Calls.{Quiet};
-ghost use Rattle.vbr_slots.specs.Views.{IsOf};
-ghost use Rattle.vbr_at_table.specs.Hands.{IsHandOf};
-ghost use Rattle.vbr_at_table.specs.Refusals.{RefusesTake};
-ghost use Rattle.vbr_at_table.specs.Taking.{Takes};
-ghost use Rattle.vbr_list.specs.Holding.{HoldsSlot};
-ghost use Rattle.vbr_list.specs.Inserting.{HasHandAndRoom};
-ghost use Rattle.vbr_set.specs.Answers.{AnswersAll};
-ghost use Rattle.vbr_set.specs.HeldStores.{PutsByHeld, ReplacesByHeld};
-ghost use Rattle.vbr_set.specs.LettingGo.{ComesBack};
-ghost use Rattle.vbr_set.specs.MapCalls.{MapAnswersAll};
-ghost use Rattle.vbr_set.specs.Members.{as_member};
-ghost use Rattle.vbr_set.specs.RecordCalls.{AsksStill, FindsEntry, FindsKey, InsertsByHeld, insert_told, store_told};
-ghost use Rattle.vbr_set.specs.RemovingExactly.{TakesExactly, TakesKeyExactly};
+ghost use Rattle.vbr_slots.specs.steps.Calls.{Quiet};
+ghost use Rattle.vbr_slots.specs.views.Views.{IsOf};
+ghost use Rattle.vbr_at_table.specs.hands.Hands.{IsHandOf};
+ghost use Rattle.vbr_at_table.specs.pools.Refusals.{RefusesTake};
+ghost use Rattle.vbr_at_table.specs.pools.Taking.{Takes};
+ghost use Rattle.vbr_list.specs.updates.Holding.{HoldsSlot};
+ghost use Rattle.vbr_list.specs.updates.Inserting.{HasHandAndRoom};
+ghost use Rattle.vbr_set.specs.histories.Answers.{AnswersAll};
+ghost use Rattle.vbr_set.specs.calls.HeldStores.{PutsByHeld, ReplacesByHeld};
+ghost use Rattle.vbr_set.specs.members.LettingGo.{ComesBack};
+ghost use Rattle.vbr_set.specs.calls.MapCalls.{MapAnswersAll};
+ghost use Rattle.vbr_set.specs.calls.Members.{as_member};
+ghost use Rattle.vbr_set.specs.calls.RecordCalls.{AsksStill, FindsEntry, FindsKey, InsertsByHeld, insert_told, store_told};
+ghost use Rattle.vbr_set.specs.calls.RemovingExactly.{TakesExactly, TakesKeyExactly};
 
+use crate::at_set::AtSet;
 use crate::set::VbrSet;
 use vbr_at_table::Hand;
 use vbr_list::{
-    Entry, NotReplaced, Refusal, StillInHand, get_entry, has_entry, hold, insert_entry_held,
-    insert_held, is_still, put_held, remove_exactly, remove_key_exactly, replace_held,
+    Entry, NotReplaced, Refusal, StillInHand, hold, insert_entry_held, insert_held, is_still,
+    put_held, replace_held,
 };
 use vbr_machine::laws::a_run_is_a_map;
 use vbr_slots::Pass;
@@ -72,9 +73,7 @@ impl<N: Nodes> VbrSet<N> {
 }
 
 impl VbrSet {
-    /// As [`VbrSet::has`], which has the source: gives the entry of the key, with the value 0.
-    ///
-    /// [`VbrSet::has`]: crate::VbrSet::has
+    /// [`AtSet::get_entry`] by a pass.
     #[inline]
     pub fn get_entry(
         &self,
@@ -87,19 +86,10 @@ impl VbrSet {
         ensures { FindsKey (as_member self.now pass.old) (as_member self.now pass.new)
             key budget result }
     {
-        pass.law();
-        let answer = has_entry(&self.slots, pass, key, budget);
-        pass.law();
-        answer
+        AtSet { set: self, pass }.get_entry(key, budget)
     }
 
-    /// Takes a key out where its node is that of this entry, by its slot and its birth, in at most `budget`
-    /// steps, and says whether it did: [`remove_key_exactly`]. Else it makes no call: at a moment of it the set
-    /// lacked the entry.
-    ///
-    /// Budgets, the refusal and what an answer takes are those of [`VbrSet::remove`].
-    ///
-    /// [`VbrSet::remove`]: crate::VbrSet::remove
+    /// [`AtSet::remove_exactly`] by a pass.
     #[inline]
     pub fn remove_exactly(
         &self,
@@ -113,10 +103,7 @@ impl VbrSet {
         ensures { TakesKeyExactly (as_member self.now pass.old) (as_member self.now pass.new)
             key entry.now budget result }
     {
-        pass.law();
-        let answer = remove_key_exactly(&self.slots, pass, key, entry, budget);
-        pass.law();
-        answer
+        AtSet { set: self, pass }.remove_exactly(key, entry, budget)
     }
 
     /// Adds a key by the slot in hand, in at most `budget` steps: [`insert_held`].
@@ -142,9 +129,7 @@ impl VbrSet {
 }
 
 impl VbrSet<Entries> {
-    /// As [`VbrMap::get`], which has the source: gives the entry of the key, with its value.
-    ///
-    /// [`VbrMap::get`]: crate::VbrMap::get
+    /// [`AtSet::get_entry`] by a pass.
     #[inline]
     pub fn get_entry(
         &self,
@@ -157,20 +142,10 @@ impl VbrSet<Entries> {
         ensures { FindsEntry (as_member self.now pass.old) (as_member self.now pass.new)
             key budget result }
     {
-        a_run_is_a_map();
-        pass.law();
-        let answer = get_entry(&self.slots, pass, key, budget);
-        pass.law();
-        answer
+        AtSet { set: self, pass }.get_entry(key, budget)
     }
 
-    /// Takes a key out where its node is that of this entry, by its slot and its birth, in at most `budget`
-    /// steps, and gives the value that was there: [`remove_exactly`]. Else it makes no call and gives none: at
-    /// a moment of it the map lacked the entry.
-    ///
-    /// Budgets, the refusal and what an answer takes are those of [`VbrMap::remove`].
-    ///
-    /// [`VbrMap::remove`]: crate::VbrMap::remove
+    /// [`AtSet::remove_exactly`] by a pass.
     #[inline]
     pub fn remove_exactly(
         &self,
@@ -184,11 +159,7 @@ impl VbrSet<Entries> {
         ensures { TakesExactly (as_member self.now pass.old) (as_member self.now pass.new)
             key entry.now budget result }
     {
-        a_run_is_a_map();
-        pass.law();
-        let answer = remove_exactly(&self.slots, pass, key, entry, budget);
-        pass.law();
-        answer
+        AtSet { set: self, pass }.remove_exactly(key, entry, budget)
     }
 
     /// Adds a key with its value by the slot in hand, in at most `budget` steps: [`insert_entry_held`].

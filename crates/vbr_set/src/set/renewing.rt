@@ -1,8 +1,8 @@
 //! Renewing a set or a map.
 ghost use Rattle.std.specs.Prelude.{◌≡◌, ◌<◌, ◌≤◌, ◌↔◌, length, IfOk, IfErr, OnOk};
-ghost use Rattle.vbr_slots.specs.Closing.{AllOf};
-ghost use Rattle.vbr_slots.specs.Views.{new_passes};
-ghost use Rattle.vbr_set.specs.Renewing.{IsUnrenewedBy, LacksPasses, RenewsBy};
+ghost use Rattle.vbr_slots.specs.runs.Closing.{AllOf};
+ghost use Rattle.vbr_slots.specs.views.Views.{new_passes};
+ghost use Rattle.vbr_set.specs.renewals.Renewing.{IsUnrenewedBy, LacksPasses, RenewsBy};
 
 use crate::kind::Kind;
 use crate::renew_error::RenewError;

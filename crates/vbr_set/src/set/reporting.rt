@@ -1,8 +1,8 @@
 //! Telling what is in a set or a map that stays open.
 ghost use Rattle.std.specs.Prelude.{◌≡◌, ◌≤◌, length, IfOk};
-ghost use Rattle.vbr_slots.specs.Closing.{AllOf};
-ghost use Rattle.vbr_set.specs.Closing.{ClosesBy};
-ghost use Rattle.vbr_set.specs.Contents.{TellsEnd};
+ghost use Rattle.vbr_slots.specs.runs.Closing.{AllOf};
+ghost use Rattle.vbr_set.specs.reports.Closing.{ClosesBy};
+ghost use Rattle.vbr_set.specs.reports.Contents.{TellsEnd};
 
 use crate::contents::{Contents, contents_of};
 use crate::kind::Kind;

@@ -1,7 +1,7 @@
 //! Telling what is in a set or a map that stays open, and in which slots.
 ghost use Rattle.std.specs.Prelude.{◌≡◌, ◌≤◌, length, IfOk};
-ghost use Rattle.vbr_slots.specs.Closing.{AllOf};
-ghost use Rattle.vbr_set.specs.EntrySlots.{ClosesWithSlots, TellsEndWithSlots};
+ghost use Rattle.vbr_slots.specs.runs.Closing.{AllOf};
+ghost use Rattle.vbr_set.specs.reports.EntrySlots.{ClosesWithSlots, TellsEndWithSlots};
 
 use crate::contents::Contents;
 use crate::entry_slots::contents_with_slots;

@@ -1,8 +1,8 @@
 //! Taking slots into a pass's own pool ahead of its inserts.
 ghost use Rattle.std.specs.Prelude.{ℕ};
-ghost use Rattle.vbr_slots.specs.Calls.{Took};
-ghost use Rattle.vbr_slots.specs.Views.{IsOf};
-ghost use Rattle.vbr_at_table.specs.Reserving.{Reserves, TopsUp};
+ghost use Rattle.vbr_slots.specs.steps.Calls.{Took};
+ghost use Rattle.vbr_slots.specs.views.Views.{IsOf};
+ghost use Rattle.vbr_at_table.specs.pools.Reserving.{Reserves, TopsUp};
 
 use crate::set::VbrSet;
 use vbr_slots::{AtTable, Pass, Slots, Stepper};

@@ -1,7 +1,7 @@
 //! Tokens of what a pass has seen.
 ghost use Rattle.std.specs.Prelude.{◌≡◌};
-ghost use Rattle.vbr_slots.specs.Views.{IsOf};
-ghost use Rattle.vbr_set.specs.Tokens.{CatchesUp, IsTokenOf};
+ghost use Rattle.vbr_slots.specs.views.Views.{IsOf};
+ghost use Rattle.vbr_set.specs.histories.Tokens.{CatchesUp, IsTokenOf};
 
 use crate::set::VbrSet;
 use vbr_slots::{Pass, Seen};
@@ -9,7 +9,17 @@ use vbr_words::Nodes;
 
 impl<N: Nodes> VbrSet<N> {
     /// A token of what the pass has seen, its answered calls among it. It is no step, and the pass stays
-    /// as it was; it costs one load, whose value is dropped. It can't fail.
+    /// as it was; it costs one load, whose value is dropped. It can't fail. A token has no bytes, and may be
+    /// sent, kept in a lock, or dropped; the set can be closed without it.
+    ///
+    /// # Example
+    ///
+    /// ```rattle file=crates/vbr_set_tests/src/tokens.rt
+    /// let answer = one.insert(key, 100);
+    /// (answer, one.seen())
+    /// ...
+    /// other.catch_up(token);
+    /// ```
     #[inline]
     pub fn seen(&self, pass: &mut Pass) -> Seen
         requires own { IsOf pass.old.trace self.now }

@@ -1,11 +1,12 @@
 //! The calls of a pass with a reference to its set.
 ghost use Rattle.std.specs.Prelude.{◌≡◌, None};
 ghost use Rattle.vbr_machine.specs.declared.history.Op.TheVariants.{Insert, Remove, Has};
-ghost use Rattle.vbr_slots.specs.Views.{IsOf};
-ghost use Rattle.vbr_set.specs.Meetings.{HasMet};
-ghost use Rattle.vbr_set.specs.Members.{Called, as_member};
-ghost use Rattle.vbr_set.specs.Tokens.{CatchesUp, IsTokenOf};
+ghost use Rattle.vbr_slots.specs.views.Views.{IsOf};
+ghost use Rattle.vbr_set.specs.histories.Meetings.{HasMet};
+ghost use Rattle.vbr_set.specs.calls.Members.{Called, as_member};
+ghost use Rattle.vbr_set.specs.histories.Tokens.{CatchesUp, IsTokenOf};
 
+use crate::at_set::at_set;
 use crate::set::VbrSet;
 use crate::set_ref::VbrSetRef;
 use vbr_list::Refusal;
@@ -32,78 +33,33 @@ impl<N: Nodes> VbrSet<N> {
 }
 
 impl<'s> VbrSetRef<'s> {
-    /// Adds a key, in at most `budget` steps, and says whether it was absent: [`VbrSet::insert`],
-    /// which has the source. While the other passes stand still, 18n + 82 steps are enough, or 18n + w + 20
-    /// if that is more, with n nodes in the key's bucket and w = slots / 64, rounded up. Then an answer takes
-    /// at most 18n + 77, or 18n + w + 15.
-    ///
-    /// # Errors
-    ///
-    /// OutOfSteps, NoSlot and EpochSpent, as there. After each the pass has made no call, and can go on
-    /// at once.
-    ///
-    /// # Example
-    ///
-    /// ```rattle file=crates/vbr_set_tests/src/seventy_slots.rt
-    /// if caller.insert(key, BUDGET) != Ok(true) {
-    /// ```
+    /// [`AtSet::insert`] by its pass.
     #[inline]
     pub fn insert(&mut self, key: u64, budget: u32) -> Result<bool, Refusal>
         ensures { Called Insert self.old self.new key budget result }
     {
-        self.set.insert(&mut self.pass, key, budget)
+        at_set!(self.set, self.pass).insert(key, budget)
     }
 
-    /// Takes a key out, in at most `budget` steps, and says whether it was there: [`VbrSet::remove`],
-    /// which has the source. While the other passes stand still, 9n + 11 steps are enough, with n nodes in
-    /// the key's bucket, and an answer takes at most 9n + 10.
-    ///
-    /// # Errors
-    ///
-    /// OutOfSteps alone. The pass has made no call then, and can go on at once.
-    ///
-    /// # Example
-    ///
-    /// ```rattle file=crates/vbr_set_tests/src/seventy_slots.rt
-    /// if caller.remove(key, BUDGET) != Ok(true) {
-    /// ```
+    /// [`AtSet::remove`] by its pass.
     #[inline]
     pub fn remove(&mut self, key: u64, budget: u32) -> Result<bool, Refusal>
         ensures { Called Remove self.old self.new key budget result }
     {
-        self.set.remove(&mut self.pass, key, budget)
+        at_set!(self.set, self.pass).remove(key, budget)
     }
 }
 
 impl<'s, N: Nodes> VbrSetRef<'s, N> {
-    /// Whether a key is in the set, in at most `budget` steps: [`VbrSet::has`], which has the source. It
-    /// only loads words. While the other passes stand still, 5n + 11 steps are enough, with n nodes in the
-    /// key's bucket, and an answer takes at most 5n + 4.
-    ///
-    /// # Errors
-    ///
-    /// OutOfSteps alone. The pass has made no call then, and can go on at once.
-    ///
-    /// # Example
-    ///
-    /// ```rattle file=crates/vbr_set_tests/src/set.rt
-    /// Op::Has => caller.has(key, budget),
-    /// ```
+    /// [`AtSet::has`] by its pass.
     #[inline]
     pub fn has(&mut self, key: u64, budget: u32) -> Result<bool, Refusal>
         ensures { Called Has self.old self.new key budget result }
     {
-        self.set.has(&mut self.pass, key, budget)
+        at_set!(self.set, self.pass).has(key, budget)
     }
 
-    /// Lets its pass see all that another of its set has seen: [`VbrSet::meet`]. It is one step, and
-    /// can't fail. `a.meet(&mut b)` lets `a` see what `b` has seen.
-    ///
-    /// # Example
-    ///
-    /// ```rattle file=crates/vbr_set_tests/src/set.rt
-    /// caller.meet(other);
-    /// ```
+    /// [`VbrSet::meet`] by its pass and that of the other.
     #[inline]
     pub fn meet(&mut self, other: &mut VbrSetRef<N>)
         requires { other.old.set ≡ self.old.set }
@@ -114,9 +70,7 @@ impl<'s, N: Nodes> VbrSetRef<'s, N> {
         self.set.meet(&mut self.pass, &mut other.pass);
     }
 
-    /// A token of what the caller has seen, as [`Member::seen`]. It is no step, and can't fail.
-    ///
-    /// [`Member::seen`]: crate::Member::seen
+    /// [`VbrSet::seen`] by its pass.
     #[inline]
     pub fn seen(&mut self) -> Seen
         ensures same { self.new ≡ self.old }
@@ -125,9 +79,7 @@ impl<'s, N: Nodes> VbrSetRef<'s, N> {
         self.set.seen(&mut self.pass)
     }
 
-    /// Another token that tells the same, as [`Member::seen_again`]. It is no step, and can't fail.
-    ///
-    /// [`Member::seen_again`]: crate::Member::seen_again
+    /// [`VbrSet::seen_again`].
     #[inline]
     pub fn seen_again(&self, token: &mut Seen) -> Seen
         requires { token.old.table ≡ self.now.set.table }
@@ -137,10 +89,7 @@ impl<'s, N: Nodes> VbrSetRef<'s, N> {
         self.set.seen_again(token)
     }
 
-    /// Lets the caller see all that a token of its set tells, which is spent, as [`Member::catch_up`]. It
-    /// is no step, and can't fail.
-    ///
-    /// [`Member::catch_up`]: crate::Member::catch_up
+    /// [`VbrSet::catch_up`] by its pass.
     #[inline]
     pub fn catch_up(&mut self, token: Seen)
         requires { token.table ≡ self.old.set.table }

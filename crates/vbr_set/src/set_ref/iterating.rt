@@ -1,6 +1,7 @@
 //! Going over the keys of a set, or the entries of a map, by a pass with a reference to it.
-ghost use Rattle.vbr_set.specs.Iterating.{CallsNext, CallsNextEntry, CallsNextNamedEntry, CallsNextNamedKey, CountsKeys, ListsEntries, ListsKeys};
+ghost use Rattle.vbr_set.specs.calls.Iterating.{CallsNext, CallsNextEntry, CallsNextNamedEntry, CallsNextNamedKey, CountsKeys, ListsEntries, ListsKeys};
 
+use crate::at_set::at_set;
 use crate::list_error::ListError;
 use crate::set_ref::VbrSetRef;
 use std::alloc::Global;
@@ -8,37 +9,31 @@ use vbr_list::{Cursor, Entry, Refusal};
 use vbr_words::{Entries, Nodes};
 
 impl<'s, N: Nodes> VbrSetRef<'s, N> {
-    /// The next key at a cursor, in at most `budget` steps: [`VbrSet::next_key`], which has the source.
-    ///
-    /// [`VbrSet::next_key`]: crate::VbrSet::next_key
+    /// [`AtSet::next_key`] by its pass.
     #[inline]
     pub fn next_key(&mut self, cursor: &mut Cursor, budget: u32) -> Result<Option<u64>, Refusal>
         ensures { CallsNext self.old self.new cursor.old cursor.new budget result }
     {
-        self.set.next_key(&mut self.pass, cursor, budget)
+        at_set!(self.set, self.pass).next_key(cursor, budget)
     }
 
-    /// All keys, by calls of at most `budget` steps each: [`VbrSet::keys_now`], which has the errors.
-    ///
-    /// [`VbrSet::keys_now`]: crate::VbrSet::keys_now
+    /// [`AtSet::keys_now`] by its pass.
     pub fn keys_now(&mut self, alloc: Global, budget: u32) -> Result<Vec<u64>, ListError>
         ensures { ListsKeys (λ keys. keys.items) self.old self.new budget result }
     {
-        self.set.keys_now(alloc, &mut self.pass, budget)
+        at_set!(self.set, self.pass).keys_now(alloc, budget)
     }
 
-    /// How many keys that would list: [`VbrSet::count_now`], which has the errors.
-    ///
-    /// [`VbrSet::count_now`]: crate::VbrSet::count_now
+    /// [`AtSet::count_now`] by its pass.
     pub fn count_now(&mut self, budget: u32) -> Result<u64, Refusal>
         ensures { CountsKeys self.old self.new budget result }
     {
-        self.set.count_now(&mut self.pass, budget)
+        at_set!(self.set, self.pass).count_now(budget)
     }
 }
 
 impl<'s> VbrSetRef<'s> {
-    /// The next key at a cursor with its entry, in at most `budget` steps: `VbrSet::next_named`.
+    /// [`AtSet::next_named`] by its pass.
     #[inline]
     pub fn next_named(
         &mut self,
@@ -47,12 +42,12 @@ impl<'s> VbrSetRef<'s> {
     ) -> Result<Option<(u64, Entry)>, Refusal>
         ensures { CallsNextNamedKey self.old self.new cursor.old cursor.new budget result }
     {
-        self.set.next_named(&mut self.pass, cursor, budget)
+        at_set!(self.set, self.pass).next_named(cursor, budget)
     }
 }
 
 impl<'s> VbrSetRef<'s, Entries> {
-    /// The next key at a cursor with its value, in at most `budget` steps: `VbrMap::next_entry`.
+    /// [`AtSet::next_entry`] by its pass.
     #[inline]
     pub fn next_entry(
         &mut self,
@@ -61,10 +56,10 @@ impl<'s> VbrSetRef<'s, Entries> {
     ) -> Result<Option<(u64, u64)>, Refusal>
         ensures { CallsNextEntry self.old self.new cursor.old cursor.new budget result }
     {
-        self.set.next_entry(&mut self.pass, cursor, budget)
+        at_set!(self.set, self.pass).next_entry(cursor, budget)
     }
 
-    /// The next key at a cursor with its entry, in at most `budget` steps: `VbrMap::next_named`.
+    /// [`AtSet::next_named`] by its pass.
     #[inline]
     pub fn next_named(
         &mut self,
@@ -73,13 +68,13 @@ impl<'s> VbrSetRef<'s, Entries> {
     ) -> Result<Option<(u64, Entry)>, Refusal>
         ensures { CallsNextNamedEntry self.old self.new cursor.old cursor.new budget result }
     {
-        self.set.next_named(&mut self.pass, cursor, budget)
+        at_set!(self.set, self.pass).next_named(cursor, budget)
     }
 
-    /// All keys with their values, by calls of at most `budget` steps each: `VbrMap::entries_now`.
+    /// [`AtSet::entries_now`] by its pass.
     pub fn entries_now(&mut self, alloc: Global, budget: u32) -> Result<Vec<(u64, u64)>, ListError>
         ensures { ListsEntries (λ entries. entries.items) self.old self.new budget result }
     {
-        self.set.entries_now(alloc, &mut self.pass, budget)
+        at_set!(self.set, self.pass).entries_now(alloc, budget)
     }
 }

@@ -1,74 +1,37 @@
 //! The calls of a pass with a reference to its map: inserts, removes, gets and stores.
-ghost use Rattle.vbr_set.specs.MapCalls.{ExchangesEntry, GetsEntry, GetsOrInsertsEntry, InsertsEntry, PutsEntry, RemovesEntry, RemovesIf, ReplacesEntry};
+ghost use Rattle.vbr_set.specs.calls.MapCalls.{ExchangesEntry, GetsEntry, GetsOrInsertsEntry, InsertsEntry, PutsEntry, RemovesEntry, RemovesIf, ReplacesEntry};
 
+use crate::at_set::at_set;
 use crate::set_ref::VbrSetRef;
-use vbr_list::{Refusal, Wanted};
+use vbr_list::Refusal;
 use vbr_words::Entries;
 
 impl<'s> VbrSetRef<'s, Entries> {
-    /// Adds a key with its value, in at most `budget` steps, and says whether the key was absent. Where it
-    /// was present, its value stays. It is [`VbrMap::insert`], which has the source.
-    ///
-    /// # Errors
-    ///
-    /// OutOfSteps, NoSlot and EpochSpent, as there. After each the pass has made no call, and can go on
-    /// at once.
-    ///
-    /// # Example
-    ///
-    /// ```rattle file=crates/vbr_set_tests/src/maps.rt
-    /// assert_eq!(rt; caller.insert(5, 70, 100), Ok(true));
-    /// assert_eq!(rt; caller.insert(5, 71, 100), Ok(false));
-    /// assert_eq!(rt; caller.get(5, 100), Ok(Some(70)));
-    /// ```
-    ///
-    /// [`VbrMap::insert`]: crate::VbrMap::insert
+    /// [`AtSet::insert`] by its pass.
     #[inline]
     pub fn insert(&mut self, key: u64, value: u64, budget: u32) -> Result<bool, Refusal>
         ensures { InsertsEntry self.old self.new key value budget result }
     {
-        self.set.insert(&mut self.pass, key, value, budget)
+        at_set!(self.set, self.pass).insert(key, value, budget)
     }
 
-    /// Takes a key out, in at most `budget` steps, and gives the value that was stored with it, if it was
-    /// there: [`VbrMap::remove`], which has the source.
-    ///
-    /// # Errors
-    ///
-    /// OutOfSteps alone. The pass has made no call then, and can go on at once.
-    ///
-    /// [`VbrMap::remove`]: crate::VbrMap::remove
+    /// [`AtSet::remove`] by its pass.
     #[inline]
     pub fn remove(&mut self, key: u64, budget: u32) -> Result<Option<u64>, Refusal>
         ensures { RemovesEntry self.old self.new key budget result }
     {
-        self.set.remove(&mut self.pass, key, budget)
+        at_set!(self.set, self.pass).remove(key, budget)
     }
 
-    /// The value that is stored with a key, if the key is there, in at most `budget` steps:
-    /// [`VbrMap::get`], which has the source. It only loads words.
-    ///
-    /// # Errors
-    ///
-    /// OutOfSteps alone. The pass has made no call then, and can go on at once.
-    ///
-    /// [`VbrMap::get`]: crate::VbrMap::get
+    /// [`AtSet::get`] by its pass.
     #[inline]
     pub fn get(&mut self, key: u64, budget: u32) -> Result<Option<u64>, Refusal>
         ensures { GetsEntry self.old self.new key budget result }
     {
-        self.set.get(&mut self.pass, key, budget)
+        at_set!(self.set, self.pass).get(key, budget)
     }
 
-    /// Takes a key out where its value is the one that is expected, in at most `budget` steps, and gives
-    /// what was there: it took the key out exactly where that is `Some(expected)`. It is
-    /// [`VbrMap::remove_if`], which has the source.
-    ///
-    /// # Errors
-    ///
-    /// OutOfSteps alone. The pass has made no call then, and can go on at once.
-    ///
-    /// [`VbrMap::remove_if`]: crate::VbrMap::remove_if
+    /// [`AtSet::remove_if`] by its pass.
     #[inline]
     pub fn remove_if(
         &mut self,
@@ -78,56 +41,26 @@ impl<'s> VbrSetRef<'s, Entries> {
     ) -> Result<Option<u64>, Refusal>
         ensures { RemovesIf self.old self.new key expected budget result }
     {
-        self.set.remove_if(&mut self.pass, key, expected, budget)
+        at_set!(self.set, self.pass).remove_if(key, expected, budget)
     }
 
-    /// Gives a key that is there another value, in at most `budget` steps, and gives the value that it had;
-    /// none where the key is absent, and then it stays so. It is [`VbrMap::store`] where
-    /// [`Wanted::Present`] is wanted, which has the source: a replacement needs one slot more than the map
-    /// has keys, and the old one is back when it returns.
-    ///
-    /// # Errors
-    ///
-    /// OutOfSteps, NoSlot and EpochSpent, as there. After each the pass has made no call, what was there
-    /// stays, and it can go on at once.
-    ///
-    /// [`VbrMap::store`]: crate::VbrMap::store
+    /// [`AtSet::replace`] by its pass.
     #[inline]
     pub fn replace(&mut self, key: u64, value: u64, budget: u32) -> Result<Option<u64>, Refusal>
         ensures { ReplacesEntry self.old self.new key value budget result }
     {
-        self.set
-            .store(&mut self.pass, key, value, Wanted::Present, budget)
+        at_set!(self.set, self.pass).replace(key, value, budget)
     }
 
-    /// Gives a key a value, in at most `budget` steps, whether it is there or not, and gives the value that
-    /// it had, if it was there. It is [`VbrMap::store`] where [`Wanted::Anything`] is wanted, which
-    /// has the source. It takes a slot in each case.
-    ///
-    /// # Errors
-    ///
-    /// OutOfSteps, NoSlot and EpochSpent, as there. After each the pass has made no call, what was there
-    /// stays, and it can go on at once.
-    ///
-    /// [`VbrMap::store`]: crate::VbrMap::store
+    /// [`AtSet::put`] by its pass.
     #[inline]
     pub fn put(&mut self, key: u64, value: u64, budget: u32) -> Result<Option<u64>, Refusal>
         ensures { PutsEntry self.old self.new key value budget result }
     {
-        self.set
-            .store(&mut self.pass, key, value, Wanted::Anything, budget)
+        at_set!(self.set, self.pass).put(key, value, budget)
     }
 
-    /// Gives a key another value where it has the one that is expected, in at most `budget` steps, and gives
-    /// what was there: the value was exchanged exactly where that is `Some(expected)`. It is
-    /// [`VbrMap::store`] where [`Wanted::Value`] is wanted, which has the source.
-    ///
-    /// # Errors
-    ///
-    /// OutOfSteps, NoSlot and EpochSpent, as there. After each the pass has made no call, what was there
-    /// stays, and it can go on at once.
-    ///
-    /// [`VbrMap::store`]: crate::VbrMap::store
+    /// [`AtSet::compare_exchange`] by its pass.
     #[inline]
     pub fn compare_exchange(
         &mut self,
@@ -138,19 +71,10 @@ impl<'s> VbrSetRef<'s, Entries> {
     ) -> Result<Option<u64>, Refusal>
         ensures { ExchangesEntry self.old self.new key expected value budget result }
     {
-        self.set.store(&mut self.pass, key, value, Wanted::Value(expected), budget)
+        at_set!(self.set, self.pass).compare_exchange(key, expected, value, budget)
     }
 
-    /// Gives a key a value where it is absent, in at most `budget` steps, and gives what was there: none
-    /// where the value was stored, else the value that the key has. It is [`VbrMap::store`] where
-    /// [`Wanted::Absent`] is wanted, which has the source.
-    ///
-    /// # Errors
-    ///
-    /// OutOfSteps, NoSlot and EpochSpent, as there. After each the pass has made no call, what was there
-    /// stays, and it can go on at once.
-    ///
-    /// [`VbrMap::store`]: crate::VbrMap::store
+    /// [`AtSet::get_or_insert`] by its pass.
     #[inline]
     pub fn get_or_insert(
         &mut self,
@@ -160,7 +84,6 @@ impl<'s> VbrSetRef<'s, Entries> {
     ) -> Result<Option<u64>, Refusal>
         ensures { GetsOrInsertsEntry self.old self.new key value budget result }
     {
-        self.set
-            .store(&mut self.pass, key, value, Wanted::Absent, budget)
+        at_set!(self.set, self.pass).get_or_insert(key, value, budget)
     }
 }

@@ -1,8 +1,8 @@
 //! Members of a map.
 ghost use Rattle.std.specs.Prelude.{◌≡◌, [], ◌∷◌, IfSome};
 ghost use Rattle.vbr_machine.specs.Maps.{map_start};
-ghost use Rattle.vbr_set.specs.AllMembers.{AreOfOneSet};
-ghost use Rattle.vbr_set.specs.Members.{AreNew};
+ghost use Rattle.vbr_set.specs.members.AllMembers.{AreOfOneSet};
+ghost use Rattle.vbr_set.specs.calls.Members.{AreNew};
 
 use crate::refusals::round::is_right;
 use std::alloc::Global;

@@ -1,8 +1,8 @@
 //! Renewals of a set and of a map.
 ghost use Rattle.std.specs.Prelude.{◌≡◌, ◌≤◌, length, IfSome};
 ghost use Rattle.std.specs.List.Sorted.{IsStrictlyIncreasing};
-ghost use Rattle.vbr_slots.specs.Closing.{AllOf};
-ghost use Rattle.vbr_slots.specs.Views.{new_passes};
+ghost use Rattle.vbr_slots.specs.runs.Closing.{AllOf};
+ghost use Rattle.vbr_slots.specs.views.Views.{new_passes};
 
 use crate::refusals::maps::ENTRIES;
 use crate::refusals::round::is_right;

@@ -1,8 +1,8 @@
 //! The set; and how a set or a map is opened with items, reported and closed.
 ghost use Rattle.std.specs.Prelude.{◌≡◌, ◌≤◌, None, length, IfSome};
 ghost use Rattle.std.specs.List.Sorted.{IsStrictlyIncreasing};
-ghost use Rattle.vbr_slots.specs.Closing.{AllOf};
-ghost use Rattle.vbr_slots.specs.Views.{IsOf, new_passes};
+ghost use Rattle.vbr_slots.specs.runs.Closing.{AllOf};
+ghost use Rattle.vbr_slots.specs.views.Views.{IsOf, new_passes};
 
 use crate::refusals::round::is_right;
 use std::alloc::Global;

@@ -1,7 +1,7 @@
 //! The running table.
 ghost use Rattle.std.specs.Prelude.{◌≡◌, ◌≤◌, length, IfOk, IfSome};
-ghost use Rattle.vbr_slots.specs.Closing.{AllOf};
-ghost use Rattle.vbr_slots.specs.Views.{new_passes};
+ghost use Rattle.vbr_slots.specs.runs.Closing.{AllOf};
+ghost use Rattle.vbr_slots.specs.views.Views.{new_passes};
 
 use crate::refusals::round::is_right;
 use std::alloc::Global;

@@ -3,12 +3,12 @@ ghost use Rattle.std.specs.Prelude.{◌≡◌, ◌<◌, true, Some};
 ghost use Rattle.vbr_words.specs.Words.{link_of};
 ghost use Rattle.vbr_machine.specs.Acceptance.{MayBear, IsNextIn, IsNextHeld, stamp_in};
 ghost use Rattle.vbr_machine.specs.declared.event.Step.TheVariants.{StoreKey, StoreValue, StoreLink};
-ghost use Rattle.vbr_slots.specs.Asked.{IsWritten};
-ghost use Rattle.vbr_slots.specs.AtTables.{IsSameTable, pass_of, trace_of};
-ghost use Rattle.vbr_slots.specs.OwnSlots.{BearsIn, epoch_of, holding_of};
-ghost use Rattle.vbr_slots.specs.Pools.{HasRoomFor};
-ghost use Rattle.vbr_slots.specs.Views.{Did, KeepsPool, knows};
-ghost use Rattle.vbr_slots.specs.WideWords.{wide_at};
+ghost use Rattle.vbr_slots.specs.steps.Asked.{IsWritten};
+ghost use Rattle.vbr_slots.specs.steps.AtTables.{IsSameTable, pass_of, trace_of};
+ghost use Rattle.vbr_slots.specs.steps.OwnSlots.{BearsIn, epoch_of, holding_of};
+ghost use Rattle.vbr_slots.specs.pools.Pools.{HasRoomFor};
+ghost use Rattle.vbr_slots.specs.views.Views.{Did, KeepsPool, knows};
+ghost use Rattle.vbr_slots.specs.words.WideWords.{wide_at};
 
 use crate::at_table::AtTable;
 use vbr_machine::Step;

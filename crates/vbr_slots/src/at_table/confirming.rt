@@ -2,12 +2,12 @@
 ghost use Rattle.std.specs.Prelude.{◌≡◌, ◌<◌, OnOk, IfErr};
 ghost use Rattle.vbr_machine.specs.Acceptance.{Accepts, IsAtIn, IsOpIn};
 ghost use Rattle.vbr_machine.specs.declared.event.Step.TheVariants.{ConfirmPresent, ConfirmAbsent};
-ghost use Rattle.vbr_slots.specs.Asked.{IsChecked};
-ghost use Rattle.vbr_slots.specs.AtTables.{IsSameTable, pass_of, trace_of};
-ghost use Rattle.vbr_slots.specs.Expected.{Finds, FindsOther};
-ghost use Rattle.vbr_slots.specs.LookUpStep.{look_up};
-ghost use Rattle.vbr_slots.specs.Views.{knows};
-ghost use Rattle.vbr_slots.specs.WideWords.{wide_at};
+ghost use Rattle.vbr_slots.specs.steps.Asked.{IsChecked};
+ghost use Rattle.vbr_slots.specs.steps.AtTables.{IsSameTable, pass_of, trace_of};
+ghost use Rattle.vbr_slots.specs.steps.Expected.{Finds, FindsOther};
+ghost use Rattle.vbr_slots.specs.steps.LookUpStep.{look_up};
+ghost use Rattle.vbr_slots.specs.views.Views.{knows};
+ghost use Rattle.vbr_slots.specs.words.WideWords.{wide_at};
 
 use crate::at_table::AtTable;
 use std::marker::Brand;

@@ -1,9 +1,9 @@
 //! The steps on the epoch.
 ghost use Rattle.std.specs.Prelude.{ℕ, ◌<◌, ◌≤◌, MatchBool};
 ghost use Rattle.vbr_machine.specs.declared.event.Step.TheVariants.{ReadEpoch, Advance};
-ghost use Rattle.vbr_slots.specs.AtTables.{IsSameTable, pass_of, trace_of};
-ghost use Rattle.vbr_slots.specs.Expected.{Finds, FindsOther};
-ghost use Rattle.vbr_slots.specs.Views.{Did, KeepsPool};
+ghost use Rattle.vbr_slots.specs.steps.AtTables.{IsSameTable, pass_of, trace_of};
+ghost use Rattle.vbr_slots.specs.steps.Expected.{Finds, FindsOther};
+ghost use Rattle.vbr_slots.specs.views.Views.{Did, KeepsPool};
 
 use crate::at_table::AtTable;
 use vbr_machine::Step;

@@ -3,10 +3,10 @@
 ghost use Rattle.std.specs.Prelude.{◌≡◌, ◌<◌, true, Some, OnOk, IfErr};
 ghost use Rattle.vbr_machine.specs.Acceptance.{IsAtIn};
 ghost use Rattle.vbr_machine.specs.declared.event.Step.TheVariants.{Publish, Mark, Replace, Unlink};
-ghost use Rattle.vbr_slots.specs.Asked.{IsChecked, IsWritten};
-ghost use Rattle.vbr_slots.specs.AtTables.{IsSameTable, pass_of, trace_of};
-ghost use Rattle.vbr_slots.specs.Expected.{Finds, FindsOther, Publishes, ReplacesNode};
-ghost use Rattle.vbr_slots.specs.WideWords.{wide_at};
+ghost use Rattle.vbr_slots.specs.steps.Asked.{IsChecked, IsWritten};
+ghost use Rattle.vbr_slots.specs.steps.AtTables.{IsSameTable, pass_of, trace_of};
+ghost use Rattle.vbr_slots.specs.steps.Expected.{Finds, FindsOther, Publishes, ReplacesNode};
+ghost use Rattle.vbr_slots.specs.words.WideWords.{wide_at};
 
 use crate::at_table::AtTable;
 use vbr_machine::Step;

@@ -2,10 +2,10 @@
 ghost use Rattle.std.specs.Prelude.{◌≡◌, ◌≢◌, ℕ, ◌<◌, Contains, Some, OnOk, IfErr, IsSome};
 ghost use Rattle.vbr_machine.specs.Acceptance.{IsFree, IsReread, MayBear};
 ghost use Rattle.vbr_machine.specs.declared.event.Step.TheVariants.{LoadStamp, StoreStamp, Raise};
-ghost use Rattle.vbr_slots.specs.AtTables.{IsSameTable, pass_of, trace_of};
-ghost use Rattle.vbr_slots.specs.OwnSlots.{IsKnownStamp, MissesFlag, TakesFlag, epoch_of, holding_of};
-ghost use Rattle.vbr_slots.specs.Pools.{hand_without, without};
-ghost use Rattle.vbr_slots.specs.Views.{Did, KeepsPool};
+ghost use Rattle.vbr_slots.specs.steps.AtTables.{IsSameTable, pass_of, trace_of};
+ghost use Rattle.vbr_slots.specs.steps.OwnSlots.{IsKnownStamp, MissesFlag, TakesFlag, epoch_of, holding_of};
+ghost use Rattle.vbr_slots.specs.pools.Pools.{hand_without, without};
+ghost use Rattle.vbr_slots.specs.views.Views.{Did, KeepsPool};
 
 use crate::at_table::AtTable;
 use std::marker::Brand;

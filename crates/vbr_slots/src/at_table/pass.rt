@@ -1,11 +1,11 @@
 //! What a pass has at its table: its law, its epoch and its own pool.
 ghost use Rattle.std.specs.Prelude.{◌≡◌, ◌<◌, ◌≤◌, ◌⊎◌, [], ◌∷◌, ◌++◌, length, Some, Contains};
 ghost use Rattle.vbr_machine.specs.Acceptance.{IsFree};
-ghost use Rattle.vbr_slots.specs.AtTables.{IsSameTable, pass_of, trace_of};
-ghost use Rattle.vbr_slots.specs.PassLaw.{PassLaw};
-ghost use Rattle.vbr_slots.specs.Pools.{OwnPool, hand_without};
-ghost use Rattle.vbr_slots.specs.Tried.{last_tried};
-ghost use Rattle.vbr_slots.specs.Views.{IsOf, knows};
+ghost use Rattle.vbr_slots.specs.steps.AtTables.{IsSameTable, pass_of, trace_of};
+ghost use Rattle.vbr_slots.specs.steps.PassLaw.{PassLaw};
+ghost use Rattle.vbr_slots.specs.pools.Pools.{OwnPool, hand_without};
+ghost use Rattle.vbr_slots.specs.pools.Tried.{last_tried};
+ghost use Rattle.vbr_slots.specs.views.Views.{IsOf, knows};
 
 use crate::at_table::AtTable;
 use crate::pass::POOL;

@@ -4,10 +4,10 @@ ghost use Rattle.std.specs.Prelude.{◌≡◌, ◌<◌, true, IsTrue};
 ghost use Rattle.vbr_machine.specs.Acceptance.{IsAtIn};
 ghost use Rattle.vbr_machine.specs.Knowledge.{holds, holds_at};
 ghost use Rattle.vbr_machine.specs.declared.event.Step.TheVariants.{LoadLink, LoadKey, LoadValue};
-ghost use Rattle.vbr_slots.specs.AtTables.{IsSameTable, pass_of, trace_of};
-ghost use Rattle.vbr_slots.specs.Reads.{Reads, ReadsNode};
-ghost use Rattle.vbr_slots.specs.Views.{KeepsPool, knows};
-ghost use Rattle.vbr_slots.specs.WideWords.{wide_at};
+ghost use Rattle.vbr_slots.specs.steps.AtTables.{IsSameTable, pass_of, trace_of};
+ghost use Rattle.vbr_slots.specs.steps.Reads.{Reads, ReadsNode};
+ghost use Rattle.vbr_slots.specs.views.Views.{KeepsPool, knows};
+ghost use Rattle.vbr_slots.specs.words.WideWords.{wide_at};
 
 use crate::at_table::AtTable;
 use vbr_machine::Step;

@@ -22,10 +22,10 @@ use Rattle.vbr_machine.specs.declared.event.Step.TheVariants.{LoadLink, LoadBirt
 use Rattle.vbr_machine.specs.declared.event.Step.TheVariants.{Replace, Unlink, ConfirmPresent, ConfirmAbsent}
 use Rattle.vbr_machine.specs.declared.knowledge.Holding.TheVariants.{Free, Unlinked}
 use Rattle.vbr_machine.proofs.Lemmas.{know_other, know_own, put_here}
-use Rattle.vbr_slots.specs.Expected.{Finds, FindsOther, Publishes, ReplacesNode}
-use Rattle.vbr_slots.specs.OwnSlots.{IsKnownStamp}
-use Rattle.vbr_slots.specs.Views.{Trace, PassView, TableView, Did, knows}
-use Rattle.vbr_slots.specs.WideWords.{wide_in}
+use Rattle.vbr_slots.specs.steps.Expected.{Finds, FindsOther, Publishes, ReplacesNode}
+use Rattle.vbr_slots.specs.steps.OwnSlots.{IsKnownStamp}
+use Rattle.vbr_slots.specs.views.Views.{Trace, PassView, TableView, Did, knows}
+use Rattle.vbr_slots.specs.words.WideWords.{wide_in}
 use Rattle.vbr_event_lists.specs.Worked.{others_of, names_link, AreWorked}
 use Rattle.vbr_table_tests.specs.Following.{KnowsAsInWorld, BothFollow, Learned}
 use Rattle.vbr_table_tests.proofs.running_table.OwnedSlots.{free_may_bear}

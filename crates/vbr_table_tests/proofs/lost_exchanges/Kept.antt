@@ -4,15 +4,15 @@ use Rattle.std.specs.Prelude.{Bool, ◌+◌, Result, Ok, Err, IfOk, IfErr, OnOk,
 use Rattle.vbr_machine.specs.Learning.{birth_in_hand}
 use Rattle.vbr_machine.specs.declared.history.Op.TheVariants.{Get}
 use Rattle.vbr_machine.specs.declared.knowledge.Holding.{Holding}
-use Rattle.vbr_slots.specs.Calls.{Took}
-use Rattle.vbr_slots.specs.Views.{IsOf, PassView, TableView, Trace}
-use Rattle.vbr_at_table.specs.Answering.{FindsAnother}
-use Rattle.vbr_at_table.specs.Exchanges.{GivesBack, StoresIn}
-use Rattle.vbr_at_table.specs.Hands.{HandView, IsHandOf}
-use Rattle.vbr_at_table.specs.Held.{said_marked, said_rollback}
-use Rattle.vbr_at_table.specs.KeptKnowledge.{KeepsOwn}
-use Rattle.vbr_at_table.specs.Replacing.{IsReplaceable, ReplacesHeld}
-use Rattle.vbr_at_table.specs.Values.{AnswersEntry, steps_to_update, steps_to_value}
+use Rattle.vbr_slots.specs.steps.Calls.{Took}
+use Rattle.vbr_slots.specs.views.Views.{IsOf, PassView, TableView, Trace}
+use Rattle.vbr_at_table.specs.answers.Answering.{FindsAnother}
+use Rattle.vbr_at_table.specs.answers.Exchanges.{GivesBack, StoresIn}
+use Rattle.vbr_at_table.specs.hands.Hands.{HandView, IsHandOf}
+use Rattle.vbr_at_table.specs.reads.Held.{said_marked, said_rollback}
+use Rattle.vbr_at_table.specs.reads.KeptKnowledge.{KeepsOwn}
+use Rattle.vbr_at_table.specs.answers.Replacing.{IsReplaceable, ReplacesHeld}
+use Rattle.vbr_at_table.specs.answers.Values.{AnswersEntry, steps_to_update, steps_to_value}
 use Rattle.vbr_at_table.specs.declared.held.Held.{Held}
 use Rattle.vbr_at_table.specs.declared.held.Marked.{Marked}
 use Rattle.vbr_at_table.specs.declared.rollback.Rollback.{Rollback}

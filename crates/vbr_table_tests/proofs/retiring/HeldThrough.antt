@@ -9,12 +9,12 @@ use Rattle.vbr_words.specs.Buckets.{bucket_of}
 use Rattle.vbr_words.proofs.Lemmas.{bucket_of-lt}
 use Rattle.vbr_machine.specs.Knowledge.{Know}
 use Rattle.vbr_machine.specs.Membership.{StandsBehind}
-use Rattle.vbr_slots.specs.Views.{IsOf, TableView, Trace, knows}
-use Rattle.vbr_at_table.specs.Answering.{IsPresent}
-use Rattle.vbr_at_table.specs.Exchanges.{LosesExchange}
-use Rattle.vbr_at_table.specs.Held.{IsHeld, said_marked, said_rollback}
-use Rattle.vbr_at_table.specs.KeptKnowledge.{Keeps}
-use Rattle.vbr_at_table.specs.Values.{IsValued, MarksEntry, ValueAt}
+use Rattle.vbr_slots.specs.views.Views.{IsOf, TableView, Trace, knows}
+use Rattle.vbr_at_table.specs.answers.Answering.{IsPresent}
+use Rattle.vbr_at_table.specs.answers.Exchanges.{LosesExchange}
+use Rattle.vbr_at_table.specs.reads.Held.{IsHeld, said_marked, said_rollback}
+use Rattle.vbr_at_table.specs.reads.KeptKnowledge.{Keeps}
+use Rattle.vbr_at_table.specs.answers.Values.{IsValued, MarksEntry, ValueAt}
 use Rattle.vbr_at_table.specs.declared.held.Held.{Held}
 use Rattle.vbr_at_table.specs.declared.held.Marked.{Marked}
 use Rattle.vbr_at_table.specs.declared.rollback.Rollback.{Rollback}

@@ -10,7 +10,7 @@ use Rattle.vbr_machine.specs.declared.event.Event.{Event}
 use Rattle.vbr_machine.specs.declared.event.Step.{Step}
 use Rattle.vbr_machine.specs.declared.event.Step.TheVariants.{ReadEpoch, TakeFlag}
 use Rattle.vbr_machine.proofs.Lemmas.{is_run_after, is_run_before, put_here}
-use Rattle.vbr_slots.specs.Views.{Trace, Did, event_of, knows}
+use Rattle.vbr_slots.specs.views.Views.{Trace, Did, event_of, knows}
 use Rattle.vbr_table_tests.proofs.running_table.Taking.{Reached}
 
 only_0 : (n : ℕ) → n < 1 → n ≡ 0

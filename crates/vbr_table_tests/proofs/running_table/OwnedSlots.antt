@@ -12,15 +12,14 @@ use Rattle.vbr_machine.specs.Links.{link_to}
 use Rattle.vbr_machine.specs.Acceptance.{MayBear}
 use Rattle.vbr_machine.specs.Knowledge.{Know, birth_of}
 use Rattle.vbr_machine.specs.Learning.{birth_in_hand, with_key, with_value}
-use Rattle.vbr_machine.specs.declared.event.Step.TheVariants.{ReadEpoch, LoadStamp, TakeFlag, StoreBirth, StoreKey}
+use Rattle.vbr_machine.specs.declared.event.Step.TheVariants.{LoadStamp, TakeFlag, StoreBirth, StoreKey}
 use Rattle.vbr_machine.specs.declared.event.Step.TheVariants.{StoreValue}
 use Rattle.vbr_machine.specs.declared.knowledge.Read.{Read}
 use Rattle.vbr_machine.specs.declared.knowledge.Holding.{Holding}
 use Rattle.vbr_machine.specs.declared.knowledge.Unpublished.{Unpublished}
 use Rattle.vbr_machine.specs.declared.knowledge.Holding.TheVariants.{Free, Unlinked, InHand}
 use Rattle.vbr_machine.proofs.Lemmas.{put_here}
-use Rattle.vbr_slots.specs.Views.{Trace, Did, knows}
-use Rattle.vbr_slots.proofs.Lemmas.{epoch_learned}
+use Rattle.vbr_slots.specs.views.Views.{Trace, Did, knows}
 use Rattle.vbr_table_tests.proofs.running_table.Taking.{Reached}
 
 -- the epoch that a pass knows
@@ -29,17 +28,6 @@ loaded_epoch p q t r d = ap (λ (k : Know). k.epoch) d.know
 
 pub loaded_own : (p q : Trace) (s t r : ℕ) → Did (LoadStamp t) p q r → (knows q).own s ≡ (knows p).own s
 loaded_own p q s t r d = ap (λ (k : Know). k.own s) d.know
-
-taken_epoch : (p q : Trace) (s r : ℕ) → Did (TakeFlag s) p q r → (knows q).epoch ≡ (knows p).epoch
-taken_epoch p q s r d = ap (λ (k : Know). k.epoch) d.know ∙ epoch_learned (TakeFlag s) r _ (knows p)
-
-pub reached_epoch : {T : Type 0} (p q : Trace) (s : ℕ) (answer : Result T ℕ) → Reached s p q answer →
-    (knows q).epoch ≡ (knows p).epoch
-reached_epoch p q s (Ok x) d = taken_epoch p q s d.0 d.1
-reached_epoch p q s (Err n) d = taken_epoch p q s n d.0
-
-pub read_epoch_is : (p q : Trace) (r : ℕ) → Did ReadEpoch p q r → (knows q).epoch ≡ r
-read_epoch_is p q r d = ap (λ (k : Know). k.epoch) d.know ∙ epoch_learned ReadEpoch r 0 (knows p)
 
 -- what a pass knows of a slot that is free
 abbrev pub IsFreeWith : Option Holding → Type 0

@@ -3,8 +3,8 @@ use Rattle.std.proofs.Common.{◌≡◌, ℕ, [], ◌++◌, sym, ◌∙◌, appe
 use Rattle.std.specs.Prelude.{Result, Ok, Err, true, false, MatchResult, OnOk, IfErr}
 use Rattle.vbr_machine.specs.declared.event.Step.{Step}
 use Rattle.vbr_machine.specs.declared.event.Step.TheVariants.{TakeFlag}
-use Rattle.vbr_slots.specs.OwnSlots.{TakesFlag, MissesFlag}
-use Rattle.vbr_slots.specs.Views.{Trace, PassView, Did, event_of}
+use Rattle.vbr_slots.specs.steps.OwnSlots.{TakesFlag, MissesFlag}
+use Rattle.vbr_slots.specs.views.Views.{Trace, PassView, Did, event_of}
 use Rattle.vbr_table_tests.specs.Taking.{HasEvent}
 use Rattle.vbr_words.specs.Flags.{has_flag}
 

@@ -1,4 +1,4 @@
-use Rattle.vbr_at_table.specs.Held.{said}
+use Rattle.vbr_at_table.specs.reads.Held.{said}
 use Rattle.vbr_at_table.proofs.Lemmas.{key_asked, key_present}
 use Rattle.vbr_access.proofs.confirming.confirm_present.Goals as goal
 

@@ -1,9 +1,9 @@
 use Rattle.std.proofs.Common.{◌≡◌, false, Result, Ok, Err, ap, ◌∙◌}
 use Rattle.std.specs.Prelude.{IfOk}
 use Rattle.vbr_machine.specs.Start.{Start}
-use Rattle.vbr_slots.specs.Views.{TableView, Trace}
-use Rattle.vbr_at_table.specs.Held.{said, said_marked}
-use Rattle.vbr_at_table.specs.Values.{MarksEntry, RemovesKey}
+use Rattle.vbr_slots.specs.views.Views.{TableView, Trace}
+use Rattle.vbr_at_table.specs.reads.Held.{said, said_marked}
+use Rattle.vbr_at_table.specs.answers.Values.{MarksEntry, RemovesKey}
 use Rattle.vbr_at_table.specs.declared.held.Held.{Held}
 use Rattle.vbr_at_table.specs.declared.held.Marked.{Marked}
 use Rattle.vbr_at_table.specs.declared.rollback.Rollback.{Rollback}

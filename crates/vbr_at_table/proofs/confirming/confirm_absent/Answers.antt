@@ -1,9 +1,9 @@
 use Rattle.std.proofs.Common.{subst, refl}
 use Rattle.vbr_machine.specs.Start.{Start}
 use Rattle.vbr_machine.specs.Acceptance.{IsAtIn}
-use Rattle.vbr_at_table.specs.Held.{said}
-use Rattle.vbr_at_table.proofs.Accepted.{accepted_checked, place_in, absent_accepted}
-use Rattle.vbr_at_table.proofs.AnsweringLoads.{absent_answered, absent_finds, absent_keeps}
+use Rattle.vbr_at_table.specs.reads.Held.{said}
+use Rattle.vbr_at_table.proofs.steps.Accepted.{accepted_checked, place_in, absent_accepted}
+use Rattle.vbr_at_table.proofs.answers.AnsweringLoads.{absent_answered, absent_finds, absent_keeps}
 use Rattle.vbr_at_table.proofs.confirming.confirm_absent.Goals as goal
 
 pub confirm_absent-requires-clause-holder : goal.confirm_absent-requires-clause-holder

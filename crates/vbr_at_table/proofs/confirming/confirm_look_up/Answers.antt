@@ -1,10 +1,10 @@
 use Rattle.std.proofs.Common.{subst}
 use Rattle.vbr_machine.specs.Start.{Start}
 use Rattle.vbr_machine.specs.Acceptance.{Accepts}
-use Rattle.vbr_slots.specs.LookUpStep.{look_up}
-use Rattle.vbr_slots.specs.Views.{knows}
-use Rattle.vbr_at_table.specs.Held.{said}
-use Rattle.vbr_at_table.proofs.LookUpAnswers.{look_up_accepted, look_up_answered, look_up_finds, look_up_keeps}
+use Rattle.vbr_slots.specs.steps.LookUpStep.{look_up}
+use Rattle.vbr_slots.specs.views.Views.{knows}
+use Rattle.vbr_at_table.specs.reads.Held.{said}
+use Rattle.vbr_at_table.proofs.answers.LookUpAnswers.{look_up_accepted, look_up_answered, look_up_finds, look_up_keeps}
 use Rattle.vbr_at_table.proofs.confirming.confirm_look_up.Goals as goal
 
 pub confirm_look_up-requires : goal.confirm_look_up-requires

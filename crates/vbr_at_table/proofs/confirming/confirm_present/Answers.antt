@@ -2,12 +2,12 @@ use Rattle.std.proofs.Common.{◌<◌, subst}
 use Rattle.vbr_machine.specs.Start.{Start}
 use Rattle.vbr_words.specs.declared.place.At.{At}
 use Rattle.vbr_machine.specs.Membership.{KeyAt}
-use Rattle.vbr_slots.specs.Views.{knows}
-use Rattle.vbr_at_table.specs.Held.{said}
-use Rattle.vbr_at_table.specs.Values.{AnswersEntry, ValueAt}
-use Rattle.vbr_at_table.proofs.Accepted.{accepted_checked, present_accepted}
-use Rattle.vbr_at_table.proofs.AnsweringLoads.{present_answered, present_finds, present_keeps}
-use Rattle.vbr_at_table.proofs.Records.{confirmed_entry}
+use Rattle.vbr_slots.specs.views.Views.{knows}
+use Rattle.vbr_at_table.specs.reads.Held.{said}
+use Rattle.vbr_at_table.specs.answers.Values.{AnswersEntry, ValueAt}
+use Rattle.vbr_at_table.proofs.steps.Accepted.{accepted_checked, present_accepted}
+use Rattle.vbr_at_table.proofs.answers.AnsweringLoads.{present_answered, present_finds, present_keeps}
+use Rattle.vbr_at_table.proofs.answers.Records.{confirmed_entry}
 use Rattle.vbr_at_table.proofs.confirming.confirm_present.Given as given
 use Rattle.vbr_at_table.proofs.confirming.confirm_present.Goals as goal
 

@@ -1,6 +1,6 @@
 -- One more slot was raised, and in the end each.
 use Rattle.vbr_slots.proofs.Lemmas.{table_on}
-use Rattle.vbr_at_table.proofs.GivingSlotsBack.{giving_on, giving_one, oldest_there}
+use Rattle.vbr_at_table.proofs.own_slots.GivingSlotsBack.{giving_on, giving_one, oldest_there}
 use Rattle.vbr_at_table.proofs.giving_slots_back.give_slots_back.Goals as goal
 
 pub loop-preserved : goal.loop-preserved

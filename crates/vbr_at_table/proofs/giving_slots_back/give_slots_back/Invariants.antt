@@ -1,5 +1,5 @@
-use Rattle.vbr_slots.specs.AtTables.{IsSameTable}
-use Rattle.vbr_at_table.proofs.GivingSlotsBack.{Giving}
+use Rattle.vbr_slots.specs.steps.AtTables.{IsSameTable}
+use Rattle.vbr_at_table.proofs.own_slots.GivingSlotsBack.{Giving}
 use Rattle.vbr_at_table.proofs.giving_slots_back.give_slots_back.Given as goal
 
 abbrev pub invariant-loop : goal.invariant-loop

@@ -1,19 +1,19 @@
 use Rattle.std.proofs.Common.{◌<◌, subst, refl, rules, ap, ◌∙◌}
 use denote.Bor.{Bor}
 use Rattle.vbr_words.specs.Packing.{slot_bits}
-use Rattle.vbr_slots.specs.Views.{TableView}
+use Rattle.vbr_slots.specs.views.Views.{TableView}
 use Rattle.vbr_machine.specs.Start.{Start}
-use Rattle.vbr_at_table.specs.Held.{said}
-use Rattle.vbr_at_table.proofs.Advancing.{did_none}
+use Rattle.vbr_at_table.specs.reads.Held.{said}
+use Rattle.vbr_at_table.proofs.epochs.Advancing.{did_none}
 use Rattle.vbr_slots.proofs.Lemmas.{did_same, did_seen}
-use Rattle.vbr_at_table.proofs.ExchangeCalls.{run_after}
-use Rattle.vbr_at_table.proofs.Unchanged.{unchanged_by_none}
-use Rattle.vbr_at_table.proofs.Accepted.{accepted_checked, mark_accepted}
-use Rattle.vbr_at_table.proofs.WonExchanges.{mark_keeps}
-use Rattle.vbr_at_table.proofs.MadeCalls.{mark_adds_none, mark_failed}
-use Rattle.vbr_at_table.proofs.ExchangeCalls.{mark_told}
-use Rattle.vbr_at_table.proofs.Records.{marked_entry}
-use Rattle.vbr_at_table.proofs.SaidWords.{said_marks}
+use Rattle.vbr_at_table.proofs.exchanges.ExchangeCalls.{run_after}
+use Rattle.vbr_at_table.proofs.steps.Unchanged.{unchanged_by_none}
+use Rattle.vbr_at_table.proofs.steps.Accepted.{accepted_checked, mark_accepted}
+use Rattle.vbr_at_table.proofs.exchanges.WonExchanges.{mark_keeps}
+use Rattle.vbr_at_table.proofs.steps.MadeCalls.{mark_adds_none, mark_failed}
+use Rattle.vbr_at_table.proofs.exchanges.ExchangeCalls.{mark_told}
+use Rattle.vbr_at_table.proofs.answers.Records.{marked_entry}
+use Rattle.vbr_at_table.proofs.steps.SaidWords.{said_marks}
 use Rattle.vbr_at_table.proofs.marking.mark.Goals as goal
 
 pub mark-requires-clause-slot : goal.mark-requires-clause-slot

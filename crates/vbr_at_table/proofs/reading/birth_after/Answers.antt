@@ -1,14 +1,14 @@
 use Rattle.std.proofs.Common.{ℕ, sym, ◌∙◌, subst, Option, rules}
 use Rattle.vbr_machine.specs.Membership.{BirthNamed}
-use Rattle.vbr_slots.specs.Views.{knows}
-use Rattle.vbr_at_table.specs.Held.{said}
-use Rattle.vbr_at_table.specs.Reading.{ReadsIn}
-use Rattle.vbr_at_table.specs.StepCosts.{steps_to_birth}
-use Rattle.vbr_at_table.proofs.Accepted.{named_in, named_found}
-use Rattle.vbr_at_table.proofs.CheckedReads.{checked, checked_keeps}
-use Rattle.vbr_at_table.proofs.ReadCalls.{birth_in_two, load_rolls}
-use Rattle.vbr_at_table.proofs.ReadSteps.{loads_birth}
-use Rattle.vbr_at_table.proofs.SaidWords.{said_names}
+use Rattle.vbr_slots.specs.views.Views.{knows}
+use Rattle.vbr_at_table.specs.reads.Held.{said}
+use Rattle.vbr_at_table.specs.reads.Reading.{ReadsIn}
+use Rattle.vbr_at_table.specs.costs.StepCosts.{steps_to_birth}
+use Rattle.vbr_at_table.proofs.steps.Accepted.{named_in, named_found}
+use Rattle.vbr_at_table.proofs.reads.CheckedReads.{checked, checked_keeps}
+use Rattle.vbr_at_table.proofs.reads.ReadCalls.{birth_in_two, load_rolls}
+use Rattle.vbr_at_table.proofs.reads.ReadSteps.{loads_birth}
+use Rattle.vbr_at_table.proofs.steps.SaidWords.{said_names}
 use Rattle.vbr_at_table.proofs.reading.birth_after.Given.{Over}
 use Rattle.vbr_at_table.proofs.reading.birth_after.Goals.{After-read_epoch-now}
 use Rattle.vbr_at_table.proofs.reading.birth_after.Goals as goal

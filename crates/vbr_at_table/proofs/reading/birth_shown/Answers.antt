@@ -1,5 +1,5 @@
-use Rattle.vbr_at_table.proofs.Moments.{birth_shown}
-use Rattle.vbr_at_table.proofs.ReadCalls.{fit, peek_in_one}
+use Rattle.vbr_at_table.proofs.reads.Moments.{birth_shown}
+use Rattle.vbr_at_table.proofs.reads.ReadCalls.{fit, peek_in_one}
 use Rattle.vbr_at_table.proofs.reading.birth_shown.Goals as goal
 
 pub returns-clause-reads : goal.returns-clause-reads

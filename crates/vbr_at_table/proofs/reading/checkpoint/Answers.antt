@@ -1,8 +1,8 @@
-use Rattle.vbr_at_table.proofs.Shown.{epoch_told}
+use Rattle.vbr_at_table.proofs.reads.Shown.{epoch_told}
 use Rattle.vbr_slots.proofs.Lemmas.{fresh_read}
 use Rattle.std.proofs.Common.{sym}
-use Rattle.vbr_at_table.proofs.Moments.{epoch_read}
-use Rattle.vbr_at_table.proofs.ReadCalls.{epoch_in_one, fit}
+use Rattle.vbr_at_table.proofs.reads.Moments.{epoch_read}
+use Rattle.vbr_at_table.proofs.reads.ReadCalls.{epoch_in_one, fit}
 use Rattle.vbr_at_table.proofs.reading.checkpoint.Goals as goal
 
 pub returns-clause-reads : goal.returns-clause-reads

@@ -1,6 +1,6 @@
 use Rattle.std.proofs.Common.{◌∙◌}
-use Rattle.vbr_at_table.proofs.ReadCalls.{apart, head_told, load_in_two, load_rolls}
-use Rattle.vbr_at_table.proofs.ReadSteps.{loads_link}
+use Rattle.vbr_at_table.proofs.reads.ReadCalls.{apart, head_told, load_in_two, load_rolls}
+use Rattle.vbr_at_table.proofs.reads.ReadSteps.{loads_link}
 use Rattle.vbr_at_table.proofs.reading.first.Goals as goal
 
 pub returns-clause-head : goal.returns-clause-head

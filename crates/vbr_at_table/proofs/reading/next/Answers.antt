@@ -1,11 +1,11 @@
 use Rattle.std.proofs.Common.{ℕ, Option, sym, ◌∙◌, subst}
 use Rattle.vbr_words.specs.Words.{link_of}
-use Rattle.vbr_at_table.specs.Held.{said}
-use Rattle.vbr_at_table.specs.Reading.{ReadsIn}
-use Rattle.vbr_at_table.specs.StepCosts.{next_steps}
-use Rattle.vbr_at_table.proofs.Accepted.{named_in, named_found}
-use Rattle.vbr_at_table.proofs.ReadCalls.{apart, node_in_three, node_rolls, node_told, reads_none}
-use Rattle.vbr_at_table.proofs.SaidWords.{said_names}
+use Rattle.vbr_at_table.specs.reads.Held.{said}
+use Rattle.vbr_at_table.specs.reads.Reading.{ReadsIn}
+use Rattle.vbr_at_table.specs.costs.StepCosts.{next_steps}
+use Rattle.vbr_at_table.proofs.steps.Accepted.{named_in, named_found}
+use Rattle.vbr_at_table.proofs.reads.ReadCalls.{apart, node_in_three, node_rolls, node_told, reads_none}
+use Rattle.vbr_at_table.proofs.steps.SaidWords.{said_names}
 use Rattle.vbr_at_table.proofs.reading.next.Given.{Over}
 use Rattle.vbr_at_table.proofs.reading.next.Goals.{After-read_node-birth}
 use Rattle.vbr_at_table.proofs.reading.next.Goals as goal

@@ -1,8 +1,8 @@
 use Rattle.std.proofs.Common.{◌∙◌}
-use Rattle.vbr_at_table.specs.Held.{said}
-use Rattle.vbr_at_table.proofs.Accepted.{node_in, node_found}
-use Rattle.vbr_at_table.proofs.ReadCalls.{apart, value_told, load_in_two, load_rolls}
-use Rattle.vbr_at_table.proofs.ReadSteps.{loads_value}
+use Rattle.vbr_at_table.specs.reads.Held.{said}
+use Rattle.vbr_at_table.proofs.steps.Accepted.{node_in, node_found}
+use Rattle.vbr_at_table.proofs.reads.ReadCalls.{apart, value_told, load_in_two, load_rolls}
+use Rattle.vbr_at_table.proofs.reads.ReadSteps.{loads_value}
 use Rattle.vbr_at_table.proofs.reading.value_of.Goals as goal
 
 pub read_value-value-requires-clause-slot : goal.read_value-value-requires-clause-slot

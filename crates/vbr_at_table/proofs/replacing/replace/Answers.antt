@@ -4,23 +4,24 @@ use Rattle.vbr_machine.specs.Start.{Start, IsStart}
 use denote.Bor.{Bor}
 use Rattle.vbr_words.specs.Packing.{IsPackable, slot_bits, unpacked}
 use Rattle.vbr_words.specs.Words.{link_of, word_of}
-use Rattle.vbr_slots.specs.Views.{TableView}
-use Rattle.vbr_at_table.specs.Exchanges.{LosesExchange}
-use Rattle.vbr_at_table.specs.Held.{said, said_marked, said_rollback}
-use Rattle.vbr_at_table.specs.Replacing.{IsReplaceable, ReplacesHeld}
-use Rattle.vbr_at_table.specs.Values.{FillsEntry}
+use Rattle.vbr_slots.specs.views.Views.{TableView}
+use Rattle.vbr_at_table.specs.answers.Exchanges.{LosesExchange}
+use Rattle.vbr_at_table.specs.reads.Held.{said, said_marked, said_rollback}
+use Rattle.vbr_at_table.specs.answers.Replacing.{IsReplaceable, ReplacesHeld}
+use Rattle.vbr_at_table.specs.answers.Values.{FillsEntry}
 use Rattle.vbr_at_table.specs.declared.rollback.Rollback.TheVariants.{LostExchange}
 use Rattle.vbr_machine.specs.Acceptance.{IsAtIn}
 use Rattle.vbr_words.specs.declared.place.At.{At}
 use Rattle.vbr_machine.specs.Links.{link_to, marked}
-use Rattle.vbr_at_table.proofs.KeptKnowledge.{held_kept, birth_named_kept}
-use Rattle.vbr_at_table.proofs.Accepted.{accepted_checked, place_in}
-use Rattle.vbr_at_table.proofs.Filled.{filled_there, fits_there, marked_room_there, in_hand_there, valued_there}
-use Rattle.vbr_at_table.proofs.Replacements.{replace_accepted, replace_lost, replace_lost_keeps}
-use Rattle.vbr_at_table.proofs.Replacements.{replace_stores, replace_told, replace_writes, key_on, value_on}
-use Rattle.vbr_at_table.proofs.Storing.{stores_lost}
-use Rattle.vbr_at_table.specs.Records.{PublishesSlot}
-use Rattle.vbr_at_table.proofs.Records.{replaced_slot}
+use Rattle.vbr_at_table.proofs.reads.KeptKnowledge.{held_kept, birth_named_kept}
+use Rattle.vbr_at_table.proofs.steps.Accepted.{accepted_checked, place_in}
+use Rattle.vbr_at_table.proofs.exchanges.Filled.{filled_there, fits_there, marked_room_there, in_hand_there}
+use Rattle.vbr_at_table.proofs.exchanges.Filled.{valued_there}
+use Rattle.vbr_at_table.proofs.exchanges.Replacements.{replace_accepted, replace_lost, replace_lost_keeps}
+use Rattle.vbr_at_table.proofs.exchanges.Replacements.{replace_stores, replace_told, replace_writes, key_on, value_on}
+use Rattle.vbr_at_table.proofs.exchanges.Storing.{stores_lost}
+use Rattle.vbr_at_table.specs.answers.Records.{PublishesSlot}
+use Rattle.vbr_at_table.proofs.answers.Records.{replaced_slot}
 use Rattle.vbr_at_table.proofs.replacing.replace.Goals as goal
 
 pub marked_link_to-word-requires : goal.marked_link_to-word-requires

@@ -1,7 +1,7 @@
 -- The next slot of the word, or the one at which the shifted word has its lowest flag.
 use Rattle.std.proofs.Common.{ℕ, ◌+◌, ◌*◌, ◌/◌, Option, None, sym, ◌∙◌, subst, arith}
-use Rattle.vbr_at_table.specs.Reserving.{IsNextToTry}
-use Rattle.vbr_at_table.proofs.TopUps.{behind_last, behind_next, behind_past, behind_unseen}
+use Rattle.vbr_at_table.specs.pools.Reserving.{IsNextToTry}
+use Rattle.vbr_at_table.proofs.flags.TopUps.{behind_last, behind_next, behind_past, behind_unseen}
 use Rattle.vbr_at_table.proofs.reserving.behind.Goals.{in-None, in-Some}
 use Rattle.vbr_at_table.proofs.reserving.behind.Goals as goal
 

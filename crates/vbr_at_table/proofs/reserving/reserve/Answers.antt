@@ -1,7 +1,7 @@
 -- Once round the slots, in two ways.
 use Rattle.std.proofs.Common.{sym, arith}
-use Rattle.vbr_at_table.proofs.PlacesInShape.{counted_slots}
-use Rattle.vbr_at_table.proofs.Reserves.{grown_by, reserves_round}
+use Rattle.vbr_at_table.proofs.reads.PlacesInShape.{counted_slots}
+use Rattle.vbr_at_table.proofs.flags.Reserves.{grown_by, reserves_round}
 use Rattle.vbr_at_table.proofs.reserving.reserve.Goals as goal
 
 pub returns-clause-reserves : goal.returns-clause-reserves

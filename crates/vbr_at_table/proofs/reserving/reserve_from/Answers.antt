@@ -2,7 +2,7 @@
 use Rattle.std.proofs.Common.{◌<◌, ◌∷◌, [], ◌++◌, List, ℕ, ap, ◌∙◌, length, refl, sym, subst, arith}
 use Rattle.vbr_machine.specs.Start.{IsStart}
 use Rattle.vbr_slots.proofs.Lemmas.{table_on}
-use Rattle.vbr_at_table.proofs.Reserves.{reserving_lost, reserving_won, takes_won, won_apart}
+use Rattle.vbr_at_table.proofs.flags.Reserves.{reserving_lost, reserving_won, takes_won, won_apart}
 use Rattle.vbr_at_table.proofs.reserving.reserve_from.Goals as goal
 
 pub loop-slot-preserved-in-Ok : goal.loop-slot-preserved-in-Ok

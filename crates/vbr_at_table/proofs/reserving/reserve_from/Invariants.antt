@@ -1,6 +1,6 @@
 use Rattle.std.proofs.Common.{◌-◌}
-use Rattle.vbr_slots.specs.AtTables.{IsSameTable}
-use Rattle.vbr_at_table.proofs.Reserves.{Reserving}
+use Rattle.vbr_slots.specs.steps.AtTables.{IsSameTable}
+use Rattle.vbr_at_table.proofs.flags.Reserves.{Reserving}
 use Rattle.vbr_at_table.proofs.reserving.reserve_from.Given as goal
 
 abbrev pub invariant-loop-slot : goal.invariant-loop-slot

@@ -1,10 +1,10 @@
 -- Once round the slots, in two ways, or as far as the tries go.
 use Rattle.std.proofs.Common.{◌+◌, ◌-◌, ◌<◌, ℕ, sym, subst}
-use Rattle.vbr_slots.specs.Tried.{last_tried}
-use Rattle.vbr_at_table.specs.Reserving.{ReservesFrom}
-use Rattle.vbr_at_table.proofs.PlacesInShape.{counted_slots}
-use Rattle.vbr_at_table.proofs.Reserves.{grown_by}
-use Rattle.vbr_at_table.proofs.TopUps.{tops_up}
+use Rattle.vbr_slots.specs.pools.Tried.{last_tried}
+use Rattle.vbr_at_table.specs.pools.Reserving.{ReservesFrom}
+use Rattle.vbr_at_table.proofs.reads.PlacesInShape.{counted_slots}
+use Rattle.vbr_at_table.proofs.flags.Reserves.{grown_by}
+use Rattle.vbr_at_table.proofs.flags.TopUps.{tops_up}
 use Rattle.vbr_at_table.proofs.reserving.top_up.Goals as goal
 
 pub returns-clause-tops_up : goal.returns-clause-tops_up

@@ -1,7 +1,7 @@
 -- The slot is stamped with the epoch that was read before.
 use Rattle.std.proofs.Common.{ℕ, ◌<◌, ◌≤◌, List, length, sym, ◌∙◌, subst}
 use Rattle.vbr_machine.specs.Start.{Start}
-use Rattle.vbr_at_table.proofs.Retirement.{retires_kept, retires_raised, unlinked_in_table}
+use Rattle.vbr_at_table.proofs.returns.Retirement.{retires_kept, retires_raised, unlinked_in_table}
 use Rattle.vbr_at_table.proofs.retiring.retire.Goals as goal
 
 pub returns-then-kept-clause-retires : goal.returns-then-kept-clause-retires

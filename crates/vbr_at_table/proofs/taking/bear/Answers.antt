@@ -1,6 +1,6 @@
 use Rattle.std.proofs.Common.{◌≡◌, ap, ◌∙◌}
-use Rattle.vbr_at_table.proofs.Births.{is_born, bears_none}
-use Rattle.vbr_at_table.proofs.Counting.{no_room}
+use Rattle.vbr_at_table.proofs.own_slots.Births.{is_born, bears_none}
+use Rattle.vbr_at_table.proofs.steps.Counting.{no_room}
 use Rattle.vbr_at_table.proofs.taking.bear.Goals as goal
 
 pub returns-then-not-affords-clause-none : goal.returns-then-not-affords-clause-none

@@ -3,13 +3,14 @@ use Rattle.std.proofs.lemmas.Result.{err_from_is_err_and}
 use Rattle.vbr_words.specs.Dimensions.{Dimensions}
 use Rattle.vbr_machine.specs.Start.{Start, IsStart}
 use Rattle.vbr_slots.proofs.Lemmas.{did_run}
-use Rattle.vbr_at_table.specs.Pieces.{Chooses, IsChosen}
-use Rattle.vbr_at_table.proofs.Choosing.{chooses_refl, short_first, chooses_then, short_then, chosen_then, full_then}
-use Rattle.vbr_at_table.proofs.Choosing.{spent_then, raised_then}
-use Rattle.vbr_at_table.proofs.Counting.{no_room}
-use Rattle.vbr_at_table.proofs.Epochs.{read_some, read_in_shape}
-use Rattle.vbr_at_table.proofs.Shown.{epoch_told}
-use Rattle.vbr_at_table.proofs.EpochReads.{tried}
+use Rattle.vbr_at_table.specs.pools.Pieces.{Chooses, IsChosen}
+use Rattle.vbr_at_table.proofs.own_slots.Choosing.{chooses_refl, short_first, chooses_then, short_then, chosen_then}
+use Rattle.vbr_at_table.proofs.own_slots.Choosing.{full_then}
+use Rattle.vbr_at_table.proofs.own_slots.Choosing.{spent_then, raised_then}
+use Rattle.vbr_at_table.proofs.steps.Counting.{no_room}
+use Rattle.vbr_at_table.proofs.epochs.Epochs.{read_some, read_in_shape}
+use Rattle.vbr_at_table.proofs.reads.Shown.{epoch_told}
+use Rattle.vbr_at_table.proofs.epochs.EpochReads.{tried}
 use Rattle.vbr_at_table.proofs.taking.choose.Given.{Over}
 use Rattle.vbr_at_table.proofs.taking.choose.Goals.{After-pool, After-scan}
 use Rattle.vbr_at_table.proofs.taking.choose.Goals as goal

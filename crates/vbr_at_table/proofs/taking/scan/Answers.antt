@@ -1,7 +1,7 @@
 use Rattle.std.proofs.Common.{◌≡◌, ◌<◌, length, ap, ◌∙◌, arith}
 use Rattle.vbr_slots.proofs.Lemmas.{table_on}
-use Rattle.vbr_at_table.proofs.Counting.{no_room}
-use Rattle.vbr_at_table.proofs.Scanning.{scans, scan_short, scan_next, scans_found, scan_found}
+use Rattle.vbr_at_table.proofs.steps.Counting.{no_room}
+use Rattle.vbr_at_table.proofs.own_slots.Scanning.{scans, scan_short, scan_next, scans_found, scan_found}
 use Rattle.vbr_at_table.proofs.taking.scan.Given.{Over}
 use Rattle.vbr_at_table.proofs.taking.scan.Goals.{After-pool}
 use Rattle.vbr_at_table.proofs.taking.scan.Goals as goal

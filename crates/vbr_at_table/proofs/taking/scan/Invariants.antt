@@ -1,5 +1,5 @@
-use Rattle.vbr_slots.specs.AtTables.{IsSameTable}
-use Rattle.vbr_at_table.proofs.Scanning.{Scanned}
+use Rattle.vbr_slots.specs.steps.AtTables.{IsSameTable}
+use Rattle.vbr_at_table.proofs.own_slots.Scanning.{Scanned}
 use Rattle.vbr_at_table.proofs.taking.scan.Given as goal
 
 abbrev pub invariant-loop-i : goal.invariant-loop-i

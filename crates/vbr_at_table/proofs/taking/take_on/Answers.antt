@@ -1,5 +1,5 @@
 use Rattle.std.proofs.lemmas.Result.{err_from_is_err_and}
-use Rattle.vbr_at_table.proofs.Takings.{TakesOn, ends, unchosen, unwon}
+use Rattle.vbr_at_table.proofs.own_slots.Takings.{TakesOn, ends, unchosen, unwon}
 use Rattle.vbr_at_table.proofs.taking.take_on.Given.{Over}
 use Rattle.vbr_at_table.proofs.taking.take_on.Goals.{After-bear, After-from_residual, After-from_residual-in_err-slot}
 use Rattle.vbr_at_table.proofs.taking.take_on.Goals as goal

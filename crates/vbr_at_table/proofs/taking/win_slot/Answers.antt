@@ -1,10 +1,10 @@
 -- The own pool has a slot, or each slot was outside the shared pool, once round.
 use Rattle.std.proofs.Common.{ℕ, ◌≡◌, ◌<◌, ◌≤◌, [], sym, ◌∙◌, subst}
 use Rattle.vbr_slots.proofs.Lemmas.{table_on}
-use Rattle.vbr_at_table.proofs.Counting.{no_room}
-use Rattle.vbr_at_table.proofs.PlacesInShape.{counted_slots}
-use Rattle.vbr_at_table.proofs.Winning.{win_next, win_round, win_done, win_probes, unwon_probes, win_short}
-use Rattle.vbr_at_table.proofs.Winning.{win_no_slot, none_in}
+use Rattle.vbr_at_table.proofs.steps.Counting.{no_room}
+use Rattle.vbr_at_table.proofs.reads.PlacesInShape.{counted_slots}
+use Rattle.vbr_at_table.proofs.flags.Winning.{win_next, win_round, win_done, win_probes, unwon_probes, win_short}
+use Rattle.vbr_at_table.proofs.flags.Winning.{win_no_slot, none_in}
 use Rattle.vbr_at_table.proofs.taking.win_slot.Given.{Over}
 use Rattle.vbr_at_table.proofs.taking.win_slot.Goals.{After-law, After-slots}
 use Rattle.vbr_at_table.proofs.taking.win_slot.Goals as goal

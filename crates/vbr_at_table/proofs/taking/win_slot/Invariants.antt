@@ -1,6 +1,6 @@
 use Rattle.std.proofs.Common.{◌-◌}
-use Rattle.vbr_slots.specs.AtTables.{IsSameTable}
-use Rattle.vbr_at_table.proofs.Winning.{Winning}
+use Rattle.vbr_slots.specs.steps.AtTables.{IsSameTable}
+use Rattle.vbr_at_table.proofs.flags.Winning.{Winning}
 use Rattle.vbr_at_table.proofs.taking.win_slot.Given as goal
 
 -- Each probe was a step within the budget, and found its flag and those behind it in its word not set:

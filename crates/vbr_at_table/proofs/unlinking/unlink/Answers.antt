@@ -8,17 +8,17 @@ use Rattle.vbr_words.proofs.Lemmas.{kept_fits}
 use Rattle.vbr_machine.specs.Links.{link_to}
 use Rattle.vbr_machine.specs.Acceptance.{Accepts, IsAtIn}
 use Rattle.vbr_machine.specs.declared.event.Step.TheVariants.{Unlink}
-use Rattle.vbr_slots.specs.Views.{TableView, knows}
-use Rattle.vbr_at_table.specs.Exchanges.{IsUnmarked, UnlinksNode, UnlinksNone}
-use Rattle.vbr_at_table.specs.Held.{HoldsMarked, Names, said, said_marked, said_rollback}
-use Rattle.vbr_at_table.specs.Reading.{IsBirthRead}
+use Rattle.vbr_slots.specs.views.Views.{TableView, knows}
+use Rattle.vbr_at_table.specs.answers.Exchanges.{IsUnmarked, UnlinksNode, UnlinksNone}
+use Rattle.vbr_at_table.specs.reads.Held.{HoldsMarked, Names, said, said_marked, said_rollback}
+use Rattle.vbr_at_table.specs.reads.Reading.{IsBirthRead}
 use Rattle.vbr_at_table.specs.declared.rollback.Rollback.TheVariants.{LostExchange}
-use Rattle.vbr_at_table.proofs.Accepted.{accepted_checked}
-use Rattle.vbr_at_table.proofs.KeptKnowledge.{held_kept, marked_kept}
-use Rattle.vbr_at_table.proofs.Unlinks.{unlink_quiet, accepted, written, written_fits, written_has_room}
-use Rattle.vbr_at_table.proofs.SaidWords.{said_link}
+use Rattle.vbr_at_table.proofs.steps.Accepted.{accepted_checked}
+use Rattle.vbr_at_table.proofs.reads.KeptKnowledge.{held_kept, marked_kept}
+use Rattle.vbr_at_table.proofs.exchanges.Unlinks.{unlink_quiet, accepted, written, written_fits, written_has_room}
+use Rattle.vbr_at_table.proofs.steps.SaidWords.{said_link}
 use Rattle.vbr_slots.proofs.Lemmas.{quiet_on}
-use Rattle.vbr_at_table.proofs.ExchangeCalls.{none_unlinked, unlink_lost, unlink_told}
+use Rattle.vbr_at_table.proofs.exchanges.ExchangeCalls.{none_unlinked, unlink_lost, unlink_told}
 use Rattle.vbr_at_table.proofs.unlinking.unlink.Given.{Over}
 use Rattle.vbr_at_table.proofs.unlinking.unlink.Goals.{After-link_to_same-new}
 use Rattle.vbr_at_table.proofs.unlinking.unlink.Goals as goal

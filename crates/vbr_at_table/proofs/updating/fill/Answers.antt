@@ -7,22 +7,23 @@ use Rattle.vbr_words.specs.KeptLinks.{kept_link}
 use Rattle.vbr_words.proofs.Lemmas.{kept_fits}
 use Rattle.vbr_machine.specs.Acceptance.{IsNextIn, IsNextHeld}
 use Rattle.vbr_machine.specs.Links.{link_to}
-use Rattle.vbr_slots.specs.Views.{knows}
+use Rattle.vbr_slots.specs.views.Views.{knows}
 use Rattle.vbr_slots.proofs.Lemmas.{quiet_on}
-use Rattle.vbr_at_table.proofs.Advancing.{did_none}
-use Rattle.vbr_at_table.proofs.Unchanged.{did_unchanged, none_counted, unchanged_on}
+use Rattle.vbr_at_table.proofs.epochs.Advancing.{did_none}
+use Rattle.vbr_at_table.proofs.steps.Unchanged.{did_unchanged, none_counted, unchanged_on}
 use Rattle.vbr_machine.specs.Learning.{value_in_hand}
-use Rattle.vbr_at_table.specs.Exchanges.{StoresIn}
-use Rattle.vbr_at_table.specs.Held.{IsFilled, said}
+use Rattle.vbr_at_table.specs.answers.Exchanges.{StoresIn}
+use Rattle.vbr_at_table.specs.reads.Held.{IsFilled, said}
 use Rattle.vbr_words.specs.Packing.{IsPackable, unpacked, slot_bits}
 use denote.Bor.{Bor}
-use Rattle.vbr_slots.specs.Views.{TableView}
-use Rattle.vbr_at_table.proofs.SaidWords.{said_link}
-use Rattle.vbr_at_table.specs.Values.{steps_to_value}
-use Rattle.vbr_at_table.proofs.WrittenLinks.{fits, has_room, birth_in_hand_low, birth_named_low}
-use Rattle.vbr_at_table.proofs.Filled.{hand_at, key_stored_keeps, key_stored_quiet, link_stored_quiet, link_accepted}
-use Rattle.vbr_at_table.proofs.Filled.{IsReady, link_now, filled, link_stored_keeps, ready}
-use Rattle.vbr_at_table.proofs.Storing.{stores_on, stores_one}
+use Rattle.vbr_slots.specs.views.Views.{TableView}
+use Rattle.vbr_at_table.proofs.steps.SaidWords.{said_link}
+use Rattle.vbr_at_table.specs.answers.Values.{steps_to_value}
+use Rattle.vbr_at_table.proofs.exchanges.WrittenLinks.{fits, has_room, birth_in_hand_low, birth_named_low}
+use Rattle.vbr_at_table.proofs.exchanges.Filled.{hand_at, key_stored_keeps, key_stored_quiet, link_stored_quiet}
+use Rattle.vbr_at_table.proofs.exchanges.Filled.{link_accepted}
+use Rattle.vbr_at_table.proofs.exchanges.Filled.{IsReady, link_now, filled, link_stored_keeps, ready}
+use Rattle.vbr_at_table.proofs.exchanges.Storing.{stores_on, stores_one}
 use Rattle.vbr_at_table.proofs.updating.fill.Given.{Over}
 use Rattle.vbr_at_table.proofs.updating.fill.Goals.{After-link_to_same-link, After-put_value}
 use Rattle.vbr_at_table.proofs.updating.fill.Goals as goal

@@ -1,13 +1,13 @@
 use Rattle.std.proofs.Common.{inr}
 use Rattle.std.proofs.Common.{◌≡◌, ◌==◌, Bool, true, refl, sym, ap, ◌∙◌, subst}
 use Rattle.vbr_machine.specs.Start.{Start}
-use Rattle.vbr_slots.specs.Views.{knows}
-use Rattle.vbr_at_table.proofs.Advancing.{did_none}
-use Rattle.vbr_at_table.proofs.Unchanged.{did_unchanged, none_counted}
-use Rattle.vbr_at_table.specs.Exchanges.{StoresIn}
-use Rattle.vbr_at_table.specs.Values.{steps_to_value, with_kept_value}
-use Rattle.vbr_at_table.proofs.Filled.{value_stored, value_stored_keeps, value_stored_quiet}
-use Rattle.vbr_at_table.proofs.Storing.{stores_one}
+use Rattle.vbr_slots.specs.views.Views.{knows}
+use Rattle.vbr_at_table.proofs.epochs.Advancing.{did_none}
+use Rattle.vbr_at_table.proofs.steps.Unchanged.{did_unchanged, none_counted}
+use Rattle.vbr_at_table.specs.answers.Exchanges.{StoresIn}
+use Rattle.vbr_at_table.specs.answers.Values.{steps_to_value, with_kept_value}
+use Rattle.vbr_at_table.proofs.exchanges.Filled.{value_stored, value_stored_keeps, value_stored_quiet}
+use Rattle.vbr_at_table.proofs.exchanges.Storing.{stores_one}
 use Rattle.vbr_at_table.proofs.updating.put_value.Goals as goal
 
 pub returns-then-VALUES-clause-stores : goal.returns-then-VALUES-clause-stores

@@ -7,21 +7,21 @@ use Rattle.vbr_words.specs.Words.{link_of, word_of}
 use Rattle.vbr_machine.specs.Links.{link_to}
 use Rattle.vbr_machine.specs.Acceptance.{IsAtIn}
 use Rattle.vbr_machine.specs.Membership.{BirthNamed, StandsBehind}
-use Rattle.vbr_slots.specs.Views.{TableView, knows}
-use Rattle.vbr_at_table.proofs.KeptKnowledge.{held_kept, birth_named_kept, behind_kept, before_kept}
-use Rattle.vbr_at_table.proofs.WonExchanges.{publish_lost_keeps}
-use Rattle.vbr_at_table.proofs.Accepted.{accepted_checked, place_in}
-use Rattle.vbr_at_table.proofs.Filled.{filled_there, fits_there, room_there, in_hand_there, publish_accepted}
-use Rattle.vbr_at_table.proofs.Filled.{publish_made}
-use Rattle.vbr_at_table.proofs.Filled.{publish_writes, valued_there}
-use Rattle.vbr_at_table.proofs.KeptSlots.{publish_stores}
-use Rattle.vbr_at_table.proofs.ExchangeCalls.{entry_told, publish_lost}
-use Rattle.vbr_at_table.proofs.Storing.{stores_lost}
-use Rattle.vbr_at_table.proofs.Records.{published_slot}
-use Rattle.vbr_at_table.specs.Exchanges.{IsGap, LosesExchange}
-use Rattle.vbr_at_table.specs.Values.{FillsEntry}
-use Rattle.vbr_at_table.specs.Held.{said, said_rollback}
-use Rattle.vbr_at_table.specs.Records.{PublishesSlot}
+use Rattle.vbr_slots.specs.views.Views.{TableView, knows}
+use Rattle.vbr_at_table.proofs.reads.KeptKnowledge.{held_kept, birth_named_kept, behind_kept, before_kept}
+use Rattle.vbr_at_table.proofs.exchanges.WonExchanges.{publish_lost_keeps}
+use Rattle.vbr_at_table.proofs.steps.Accepted.{accepted_checked, place_in}
+use Rattle.vbr_at_table.proofs.exchanges.Filled.{filled_there, fits_there, room_there, in_hand_there, publish_accepted}
+use Rattle.vbr_at_table.proofs.exchanges.Filled.{publish_made}
+use Rattle.vbr_at_table.proofs.exchanges.Filled.{publish_writes, valued_there}
+use Rattle.vbr_at_table.proofs.own_slots.KeptSlots.{publish_stores}
+use Rattle.vbr_at_table.proofs.exchanges.ExchangeCalls.{entry_told, publish_lost}
+use Rattle.vbr_at_table.proofs.exchanges.Storing.{stores_lost}
+use Rattle.vbr_at_table.proofs.answers.Records.{published_slot}
+use Rattle.vbr_at_table.specs.answers.Exchanges.{IsGap, LosesExchange}
+use Rattle.vbr_at_table.specs.answers.Values.{FillsEntry}
+use Rattle.vbr_at_table.specs.reads.Held.{said, said_rollback}
+use Rattle.vbr_at_table.specs.answers.Records.{PublishesSlot}
 use Rattle.vbr_at_table.specs.declared.rollback.Rollback.TheVariants.{LostExchange}
 use Rattle.vbr_at_table.proofs.updating.update.Goals as goal
 

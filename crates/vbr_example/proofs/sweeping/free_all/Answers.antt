@@ -3,13 +3,13 @@ use Rattle.std.proofs.Common.{append-nil, length-append}
 use Rattle.vbr_machine.specs.Start.{Start, IsStart}
 use Rattle.vbr_machine.specs.Runs.{IsRun}
 use Rattle.vbr_machine.proofs.Lemmas.{begins_refl}
-use Rattle.vbr_slots.specs.Views.{PassView}
+use Rattle.vbr_slots.specs.views.Views.{PassView}
 use Rattle.vbr_slots.proofs.Lemmas.{same_refl}
-use Rattle.vbr_list.specs.Cursors.{IsAtEnd, SeesMore}
+use Rattle.vbr_list.specs.look_ups.Cursors.{IsAtEnd, SeesMore}
 use Rattle.vbr_list.specs.declared.cursor.Cursor.{Cursor}
 use Rattle.vbr_list.proofs.Lemmas.{sees_on}
-use Rattle.vbr_set.specs.Iterating.{CallsNext}
-use Rattle.vbr_set.specs.Members.{Called}
+use Rattle.vbr_set.specs.calls.Iterating.{CallsNext}
+use Rattle.vbr_set.specs.calls.Members.{Called}
 use Rattle.vbr_example.proofs.Swept.{Sweeps}
 use Rattle.vbr_example.proofs.sweeping.free_all.Goals as goal
 

@@ -1,5 +1,5 @@
 use Rattle.std.proofs.Common.{subst}
-use Rattle.vbr_slots.specs.Views.{TableView}
+use Rattle.vbr_slots.specs.views.Views.{TableView}
 use Rattle.vbr_example.specs.Telling.{IsTold}
 use Rattle.vbr_example.proofs.Found.{tells}
 use Rattle.vbr_example.proofs.telling.claim_and_tell.Goals as goal

@@ -1,5 +1,5 @@
 use Rattle.std.proofs.Common.{◌≡◌, drop}
-use Rattle.vbr_set.specs.BalanceSums.{added_balances}
+use Rattle.vbr_set.specs.members.BalanceSums.{added_balances}
 use Rattle.vbr_handles.specs.AllHandles.{members_by}
 use Rattle.vbr_handles.proofs.asking_all.added_balances.Given as goal
 

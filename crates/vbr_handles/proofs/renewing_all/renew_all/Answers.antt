@@ -1,4 +1,4 @@
-use Rattle.vbr_set.specs.RenewingAll.{HasNoRoom, HasRoom}
+use Rattle.vbr_set.specs.renewals.RenewingAll.{HasNoRoom, HasRoom}
 use Rattle.vbr_handles.specs.AllHandles.{members_by}
 use Rattle.vbr_handles.proofs.AskingAll.{is_of_shape, of_as_many_slots, renewed, stays}
 use Rattle.vbr_handles.proofs.renewing_all.renew_all.Goals as goal

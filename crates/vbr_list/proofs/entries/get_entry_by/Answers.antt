@@ -1,23 +1,23 @@
 use Rattle.vbr_list.proofs.Names.{rules, ◌≡◌, ◌+◌, refl, ◌∙◌, arith, ap}
 use Rattle.vbr_list.proofs.Names.{adds_on, bucket_of, counts_on, loads_on, no_room, none_on, quiet_on, same_on}
 use Rattle.vbr_list.proofs.Names.{same_refl, Start, took_all, TookWithin}
-use Rattle.vbr_list.proofs.Going.{call_on, call_refl, goes_on, within_call, within_of}
-use Rattle.vbr_list.proofs.Observing.{observed, observes_on}
-use Rattle.vbr_list.specs.Budgets.{listed_for, steps_where}
-use Rattle.vbr_list.specs.Disturbed.{costs_among, disturbed}
-use Rattle.vbr_list.specs.LookUpPieces.{steps_to_answer}
-use Rattle.vbr_list.specs.Places.{sighted}
-use Rattle.vbr_list.specs.Told.{look_up_op}
-use Rattle.vbr_list.proofs.Disturbing.{run_at, unchanged_at}
-use Rattle.vbr_list.proofs.Walking.{call_paid, looked_again, repeated_none, round_on}
-use Rattle.vbr_list.proofs.Passing.{peeks_on, peeks_refl}
-use Rattle.vbr_list.proofs.Sights.{few_to_answer}
-use Rattle.vbr_list.proofs.Sufficing.{took_alone}
-use Rattle.vbr_list.proofs.Tiring.{look_up_tires}
-use Rattle.vbr_list.proofs.Told.{answer_since, call_answered, given_same, told_since}
-use Rattle.vbr_list.specs.Entries.{value_of_entry}
-use Rattle.vbr_list.proofs.EntryAnswers.{there_since, tires_entry}
-use Rattle.vbr_list.specs.Words.{wide_sight}
+use Rattle.vbr_list.proofs.pieces.Going.{call_on, call_refl, goes_on, within_call, within_of}
+use Rattle.vbr_list.proofs.pieces.Observing.{observed, observes_on}
+use Rattle.vbr_list.specs.calls.Budgets.{listed_for, steps_where}
+use Rattle.vbr_list.specs.walks.Disturbed.{costs_among, disturbed}
+use Rattle.vbr_list.specs.look_ups.LookUpPieces.{steps_to_answer}
+use Rattle.vbr_list.specs.walks.Places.{sighted}
+use Rattle.vbr_list.specs.calls.Told.{look_up_op}
+use Rattle.vbr_list.proofs.walks.Disturbing.{run_at, unchanged_at}
+use Rattle.vbr_list.proofs.walks.Walking.{call_paid, looked_again, repeated_none, round_on}
+use Rattle.vbr_list.proofs.look_ups.Passing.{peeks_on, peeks_refl}
+use Rattle.vbr_list.proofs.look_ups.Sights.{few_to_answer}
+use Rattle.vbr_list.proofs.inserts.Sufficing.{took_alone}
+use Rattle.vbr_list.proofs.pieces.Tiring.{look_up_tires}
+use Rattle.vbr_list.proofs.pieces.Told.{answer_since, call_answered, given_same, told_since}
+use Rattle.vbr_list.specs.named_entries.Entries.{value_of_entry}
+use Rattle.vbr_list.proofs.named_entries.EntryAnswers.{there_since, tires_entry}
+use Rattle.vbr_list.specs.calls.Words.{wide_sight}
 use Rattle.vbr_list.proofs.entries.get_entry_by.Goals as goal
 
 pub settle_entry-requires-clause-asked : goal.settle_entry-requires-clause-asked

@@ -1,12 +1,12 @@
 use Rattle.vbr_list.proofs.Names.{rules, ◌≡◌, ◌≤◌, arith}
 use Rattle.vbr_list.proofs.Names.{begins_refl, quiet_refl, took_all}
-use Rattle.vbr_list.specs.Budgets.{listed_for}
-use Rattle.vbr_list.specs.Disturbed.{disturbed, find_costs_among}
-use Rattle.vbr_list.proofs.Clearing.{clear_found}
-use Rattle.vbr_list.proofs.Disturbing.{run_at, undisturbed}
-use Rattle.vbr_list.proofs.Moments.{was_so}
-use Rattle.vbr_list.proofs.Sufficing.{search_lacks}
-use Rattle.vbr_list.proofs.Walking.{call_paid, lacks_steps, repeated_none}
+use Rattle.vbr_list.specs.calls.Budgets.{listed_for}
+use Rattle.vbr_list.specs.walks.Disturbed.{disturbed, find_costs_among}
+use Rattle.vbr_list.proofs.walks.Clearing.{clear_found}
+use Rattle.vbr_list.proofs.walks.Disturbing.{run_at, undisturbed}
+use Rattle.vbr_list.proofs.walks.Moments.{was_so}
+use Rattle.vbr_list.proofs.inserts.Sufficing.{search_lacks}
+use Rattle.vbr_list.proofs.walks.Walking.{call_paid, lacks_steps, repeated_none}
 use Rattle.vbr_list.proofs.finding.find_by.Goals as goal
 
 pub returns-in-Some-clause-found : goal.returns-in-Some-clause-found

@@ -1,4 +1,4 @@
-use Rattle.vbr_list.proofs.Going.{of_on}
+use Rattle.vbr_list.proofs.pieces.Going.{of_on}
 use Rattle.vbr_list.proofs.helping.help_by_copy.Goals as goal
 
 pub invariant_of-at : goal.invariant_of-at

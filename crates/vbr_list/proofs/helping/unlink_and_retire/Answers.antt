@@ -1,14 +1,14 @@
 use Rattle.vbr_list.proofs.Names.{◌+◌, ℕ, sym, ◌∙◌, subst, arith}
 use Rattle.vbr_list.proofs.Names.{At, behind_kept, counts_on, is_kept, IsUnlinked, KeepsUnlinked, KeyOf, knows, link_of}
 use Rattle.vbr_list.proofs.Names.{quiet_on, StandsBehind, Start, unchanged_by_none}
-use Rattle.vbr_at_table.specs.Held.{said, said_marked, said_rollback}
-use Rattle.vbr_list.specs.Pieces.{Goes}
-use Rattle.vbr_list.proofs.Clearing.{clear_before, clear_skipped, out_kept}
-use Rattle.vbr_list.proofs.Disturbing.{loses_place, moved_late, opened, run_at}
-use Rattle.vbr_list.proofs.Going.{counts_step, took_same}
-use Rattle.vbr_list.proofs.KeptHands.{helped_hand, retired_hand}
-use Rattle.vbr_list.proofs.Reaching.{helped, retired_keeps}
-use Rattle.vbr_list.proofs.Sweeping.{left_skipped}
+use Rattle.vbr_at_table.specs.reads.Held.{said, said_marked, said_rollback}
+use Rattle.vbr_list.specs.calls.Pieces.{Goes}
+use Rattle.vbr_list.proofs.walks.Clearing.{clear_before, clear_skipped, out_kept}
+use Rattle.vbr_list.proofs.walks.Disturbing.{loses_place, moved_late, opened, run_at}
+use Rattle.vbr_list.proofs.pieces.Going.{counts_step, took_same}
+use Rattle.vbr_list.proofs.pieces.KeptHands.{helped_hand, retired_hand}
+use Rattle.vbr_list.proofs.walks.Reaching.{helped, retired_keeps}
+use Rattle.vbr_list.proofs.walks.Sweeping.{left_skipped}
 use Rattle.vbr_list.proofs.helping.unlink_and_retire.Goals as goal
 
 pub returns-in-Ok-clause-goes : goal.returns-in-Ok-clause-goes

@@ -1,5 +1,5 @@
 use Rattle.vbr_list.proofs.Names.{◌≡◌, rules, took_all}
-use Rattle.vbr_list.proofs.Preparing.{within_all}
+use Rattle.vbr_list.proofs.inserts.Preparing.{within_all}
 use Rattle.vbr_list.proofs.holding.replace_held_by.Goals as goal
 
 pub returns-clause-took : goal.returns-clause-took

@@ -1,8 +1,8 @@
 use Rattle.vbr_list.proofs.Names.{ap, rules, ◌∙◌}
 use Rattle.vbr_list.proofs.Names.{Start}
-use Rattle.vbr_list.specs.CallBounds.{CallsAs, BoundsOfInsert}
-use Rattle.vbr_list.specs.Told.{stored_in}
-use Rattle.vbr_list.proofs.Told.{calls_as, calls_entry, stored_kept}
+use Rattle.vbr_list.specs.calls.CallBounds.{CallsAs, BoundsOfInsert}
+use Rattle.vbr_list.specs.calls.Told.{stored_in}
+use Rattle.vbr_list.proofs.pieces.Told.{calls_as, calls_entry, stored_kept}
 use Rattle.vbr_list.proofs.inserting.insert_entry.Goals as goal
 
 pub returns : goal.returns

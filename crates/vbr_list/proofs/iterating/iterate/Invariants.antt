@@ -1,6 +1,6 @@
 use Rattle.vbr_list.proofs.Names.{◌-◌}
 use Rattle.vbr_list.proofs.Names.{IsSameTable}
-use Rattle.vbr_list.proofs.ComingBy.{HasComeBy}
+use Rattle.vbr_list.proofs.iterations.ComingBy.{HasComeBy}
 use Rattle.vbr_list.proofs.iterating.iterate.Given as goal
 
 abbrev pub invariant-loop-now : goal.invariant-loop-now

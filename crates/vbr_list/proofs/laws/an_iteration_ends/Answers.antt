@@ -1,5 +1,5 @@
 use Rattle.vbr_list.proofs.Names.{bucket_of-lt}
-use Rattle.vbr_list.proofs.Cursors.{given_all}
+use Rattle.vbr_list.proofs.iterations.Cursors.{given_all}
 use Rattle.vbr_list.proofs.laws.an_iteration_ends.Goals as goal
 
 pub returns : goal.returns

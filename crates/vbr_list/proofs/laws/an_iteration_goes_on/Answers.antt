@@ -1,4 +1,4 @@
-use Rattle.vbr_list.proofs.Cursors.{given_on}
+use Rattle.vbr_list.proofs.iterations.Cursors.{given_on}
 use Rattle.vbr_list.proofs.laws.an_iteration_goes_on.Goals as goal
 
 pub returns : goal.returns

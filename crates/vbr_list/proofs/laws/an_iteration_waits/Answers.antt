@@ -1,4 +1,4 @@
-use Rattle.vbr_list.proofs.Cursors.{given_more}
+use Rattle.vbr_list.proofs.iterations.Cursors.{given_more}
 use Rattle.vbr_list.proofs.laws.an_iteration_waits.Goals as goal
 
 pub returns : goal.returns

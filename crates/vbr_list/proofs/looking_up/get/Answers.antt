@@ -1,8 +1,8 @@
 use Rattle.vbr_list.proofs.Names.{ap, rules, ◌∙◌}
 use Rattle.vbr_list.proofs.Names.{Get, Start}
-use Rattle.vbr_list.specs.CallBounds.{CallsAs, BoundsOfLookUp}
-use Rattle.vbr_list.specs.Told.{given_in}
-use Rattle.vbr_list.proofs.Told.{calls_as, calls_entry, given_kept, look_up_as}
+use Rattle.vbr_list.specs.calls.CallBounds.{CallsAs, BoundsOfLookUp}
+use Rattle.vbr_list.specs.calls.Told.{given_in}
+use Rattle.vbr_list.proofs.pieces.Told.{calls_as, calls_entry, given_kept, look_up_as}
 use Rattle.vbr_list.proofs.looking_up.get.Goals as goal
 
 pub returns : goal.returns

@@ -1,8 +1,8 @@
 use Rattle.vbr_list.proofs.Names.{◌≡◌, rules, sym, Bool, Option, ℕ, Result, subst, is_some}
 use Rattle.vbr_list.proofs.Names.{Has, Refusal, set_call}
-use Rattle.vbr_list.specs.CallBounds.{Calls, CallsAs, BoundsOfLookUp}
-use Rattle.vbr_list.specs.Told.{given_in}
-use Rattle.vbr_list.proofs.Told.{calls_yes, look_up_yes, told_bare}
+use Rattle.vbr_list.specs.calls.CallBounds.{Calls, CallsAs, BoundsOfLookUp}
+use Rattle.vbr_list.specs.calls.Told.{given_in}
+use Rattle.vbr_list.proofs.pieces.Told.{calls_yes, look_up_yes, told_bare}
 use Rattle.vbr_list.proofs.looking_up.has.Goals as goal
 
 pub returns : goal.returns

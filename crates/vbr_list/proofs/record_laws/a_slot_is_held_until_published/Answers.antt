@@ -1,4 +1,4 @@
-use Rattle.vbr_list.proofs.HeldSlots.{held_throughout, held_until_placed, held_until_published}
+use Rattle.vbr_list.proofs.inserts.HeldSlots.{held_throughout, held_until_placed, held_until_published}
 use Rattle.vbr_list.proofs.record_laws.a_slot_is_held_until_published.Goals as goal
 
 pub returns : goal.returns

@@ -1,9 +1,9 @@
 use Rattle.vbr_list.proofs.Names.{ap, rules, sym, ◌∙◌, Bool, Result, subst, is_some}
 use Rattle.vbr_list.proofs.Names.{Refusal, Remove, Start}
-use Rattle.vbr_list.specs.Leaving.{BoundsOfRemove}
-use Rattle.vbr_list.specs.CallBounds.{Calls, CallsAs}
-use Rattle.vbr_list.specs.Told.{given_in}
-use Rattle.vbr_list.proofs.Told.{calls_yes, given_bare, remove_yes}
+use Rattle.vbr_list.specs.walks.Leaving.{BoundsOfRemove}
+use Rattle.vbr_list.specs.calls.CallBounds.{Calls, CallsAs}
+use Rattle.vbr_list.specs.calls.Told.{given_in}
+use Rattle.vbr_list.proofs.pieces.Told.{calls_yes, given_bare, remove_yes}
 use Rattle.vbr_list.proofs.removing.remove.Goals as goal
 
 pub returns : goal.returns

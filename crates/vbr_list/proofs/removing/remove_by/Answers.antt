@@ -1,11 +1,11 @@
 use Rattle.vbr_list.proofs.Names.{rules, ◌∙◌, arith, ap, ◌≡◌}
 use Rattle.vbr_list.proofs.Names.{counts_on, quiet_on, Start, took_all}
-use Rattle.vbr_list.proofs.Going.{call_on, goes_on, tries_on, within_call}
-use Rattle.vbr_list.proofs.Disturbing.{run_at}
-use Rattle.vbr_list.proofs.Walking.{search_round_on}
-use Rattle.vbr_list.proofs.Tiring.{remove_tires}
-use Rattle.vbr_list.proofs.AnsweredRemoves.{removed}
-use Rattle.vbr_list.specs.Words.{wide_found}
+use Rattle.vbr_list.proofs.pieces.Going.{call_on, goes_on, tries_on, within_call}
+use Rattle.vbr_list.proofs.walks.Disturbing.{run_at}
+use Rattle.vbr_list.proofs.walks.Walking.{search_round_on}
+use Rattle.vbr_list.proofs.pieces.Tiring.{remove_tires}
+use Rattle.vbr_list.proofs.removes.AnsweredRemoves.{removed}
+use Rattle.vbr_list.specs.calls.Words.{wide_found}
 use Rattle.vbr_list.proofs.removing.remove_by.Goals as goal
 
 pub settle_remove-requires-clause-expects : goal.settle_remove-requires-clause-expects

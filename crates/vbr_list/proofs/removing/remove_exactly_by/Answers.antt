@@ -1,13 +1,14 @@
 use Rattle.vbr_list.proofs.Names.{rules, ◌∙◌, arith, ◌≡◌, sym, subst, None}
 use Rattle.vbr_list.proofs.Names.{counts_on, IsStart, quiet_on, took_all}
-use Rattle.vbr_list.proofs.Going.{call_on, goes_on, tries_on, within_call, within_of}
-use Rattle.vbr_list.proofs.Disturbing.{run_at}
-use Rattle.vbr_list.proofs.AnsweredRemoves.{removed, removed_none}
-use Rattle.vbr_list.proofs.RemovedEntries.{lacked_entry, lacked_since, marked_node, takes_exactly, tires_exactly}
-use Rattle.vbr_list.proofs.Walking.{search_round_on}
-use Rattle.vbr_list.proofs.Tiring.{remove_tires}
-use Rattle.vbr_list.proofs.WideWords.{node_bare, node_wide}
-use Rattle.vbr_list.specs.Words.{wide_found}
+use Rattle.vbr_list.proofs.pieces.Going.{call_on, goes_on, tries_on, within_call, within_of}
+use Rattle.vbr_list.proofs.walks.Disturbing.{run_at}
+use Rattle.vbr_list.proofs.removes.AnsweredRemoves.{removed, removed_none}
+use Rattle.vbr_list.proofs.named_entries.RemovedEntries.{lacked_entry, lacked_since, marked_node, takes_exactly}
+use Rattle.vbr_list.proofs.named_entries.RemovedEntries.{tires_exactly}
+use Rattle.vbr_list.proofs.walks.Walking.{search_round_on}
+use Rattle.vbr_list.proofs.pieces.Tiring.{remove_tires}
+use Rattle.vbr_list.proofs.pieces.WideWords.{node_bare, node_wide}
+use Rattle.vbr_list.specs.calls.Words.{wide_found}
 use Rattle.vbr_list.proofs.removing.remove_exactly_by.Goals as goal
 
 pub loop-found-preserved : goal.loop-found-preserved

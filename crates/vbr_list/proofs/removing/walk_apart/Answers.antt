@@ -1,7 +1,7 @@
 use Rattle.vbr_list.proofs.Names.{rules, ◌≡◌}
-use Rattle.vbr_list.proofs.Clearing.{clear_walked}
-use Rattle.vbr_list.proofs.Marks.{walked}
-use Rattle.vbr_list.proofs.Sweeping.{swept_walked}
+use Rattle.vbr_list.proofs.walks.Clearing.{clear_walked}
+use Rattle.vbr_list.proofs.removes.Marks.{walked}
+use Rattle.vbr_list.proofs.walks.Sweeping.{swept_walked}
 use Rattle.vbr_list.proofs.removing.walk_apart.Goals as goal
 
 pub returns : goal.returns

@@ -1,10 +1,10 @@
 use Rattle.vbr_list.proofs.Names.{◌+◌, refl, ap, arith}
-use Rattle.vbr_list.specs.Budgets.{steps_to_value_of}
-use Rattle.vbr_list.specs.Seeking.{steps_besides}
-use Rattle.vbr_list.proofs.Going.{table_on}
-use Rattle.vbr_list.proofs.Passing.{peeks_on, peeks_refl}
-use Rattle.vbr_list.proofs.Following.{tells_since}
-use Rattle.vbr_list.proofs.Walking.{last_search, lost_on, repeated_none_in}
+use Rattle.vbr_list.specs.calls.Budgets.{steps_to_value_of}
+use Rattle.vbr_list.specs.look_ups.Seeking.{steps_besides}
+use Rattle.vbr_list.proofs.pieces.Going.{table_on}
+use Rattle.vbr_list.proofs.look_ups.Passing.{peeks_on, peeks_refl}
+use Rattle.vbr_list.proofs.look_ups.Following.{tells_since}
+use Rattle.vbr_list.proofs.walks.Walking.{last_search, lost_on, repeated_none_in}
 use Rattle.vbr_list.proofs.seeking.seek_in.Goals as goal
 
 pub loop-next-init : goal.loop-next-init

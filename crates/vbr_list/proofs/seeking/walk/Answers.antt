@@ -1,16 +1,17 @@
 use Rattle.vbr_list.proofs.Names.{rules, ◌≡◌, ◌+◌, sym, ap, ◌∙◌, subst, arith, Bool, true, false, not, Option, ℕ, None}
 use Rattle.vbr_list.proofs.Names.{is_none, is_some}
 use Rattle.vbr_list.proofs.Names.{Held, Link, link_of}
-use Rattle.vbr_list.proofs.Disturbing.{moves_epoch}
-use Rattle.vbr_list.proofs.Following.{follows_head, follows_marked, follows_node, peeks_behind, peeks_visit, tells_next}
-use Rattle.vbr_list.proofs.Following.{tells_none, value_lost, value_paid, visit_lost}
-use Rattle.vbr_list.proofs.Going.{goes_read, table_on}
-use Rattle.vbr_list.proofs.Observing.{reads_observe}
-use Rattle.vbr_list.proofs.Traversals.{Follows}
-use Rattle.vbr_list.proofs.ValueReads.{steps_read}
-use Rattle.vbr_list.proofs.Visits.{paid_so_far, starts_none}
-use Rattle.vbr_at_table.specs.Held.{said, said_marked}
-use Rattle.vbr_list.proofs.WideWords.{layout_at}
+use Rattle.vbr_list.proofs.walks.Disturbing.{moves_epoch}
+use Rattle.vbr_list.proofs.look_ups.Following.{follows_head, follows_marked, follows_node, peeks_behind, peeks_visit}
+use Rattle.vbr_list.proofs.look_ups.Following.{tells_next}
+use Rattle.vbr_list.proofs.look_ups.Following.{tells_none, value_lost, value_paid, visit_lost}
+use Rattle.vbr_list.proofs.pieces.Going.{goes_read, table_on}
+use Rattle.vbr_list.proofs.pieces.Observing.{reads_observe}
+use Rattle.vbr_list.proofs.walks.Traversals.{Follows}
+use Rattle.vbr_list.proofs.look_ups.ValueReads.{steps_read}
+use Rattle.vbr_list.proofs.walks.Visits.{paid_so_far, starts_none}
+use Rattle.vbr_at_table.specs.reads.Held.{said, said_marked}
+use Rattle.vbr_list.proofs.pieces.WideWords.{layout_at}
 use Rattle.vbr_list.proofs.seeking.walk.Goals as goal
 
 no_slot : (o : Option ℕ) → is_some o ≡ false → o ≡ None

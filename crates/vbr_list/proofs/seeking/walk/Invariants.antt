@@ -1,7 +1,7 @@
 use Rattle.vbr_list.proofs.Names.{◌-◌}
 use Rattle.vbr_list.proofs.Names.{Held, IsSameTable}
-use Rattle.vbr_list.proofs.Traversals.{Follows}
-use Rattle.vbr_at_table.specs.Held.{said}
+use Rattle.vbr_list.proofs.walks.Traversals.{Follows}
+use Rattle.vbr_at_table.specs.reads.Held.{said}
 use Rattle.vbr_list.proofs.seeking.walk.Given as goal
 
 abbrev pub invariant-loop-here : goal.invariant-loop-here

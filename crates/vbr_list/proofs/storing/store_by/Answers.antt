@@ -1,16 +1,16 @@
 use Rattle.vbr_list.proofs.Names.{◌≡◌, List, Option, Err, ℕ, rules, sym, subst}
 use Rattle.vbr_list.proofs.Names.{Call, took_all}
-use Rattle.vbr_list.specs.Budgets.{listed_for}
-use Rattle.vbr_list.specs.Disturbed.{steps_to_prepare}
-use Rattle.vbr_list.specs.Settling.{HasAnswered, HasPrepared}
-use Rattle.vbr_list.specs.Storing.{Makes}
-use Rattle.vbr_list.specs.Wanted.{steps_to_compare}
-use Rattle.vbr_list.proofs.Disturbing.{run_at}
-use Rattle.vbr_list.proofs.Preparing.{within_all, within_most, within_on}
-use Rattle.vbr_list.proofs.Stores.{are_alone, replaced_not, store_lone, store_lone_costs, store_ready}
-use Rattle.vbr_list.proofs.Stores.{store_refused_first, store_vain, told_had, told_paid, told_where}
-use Rattle.vbr_list.proofs.StoredValues.{calls_with}
-use Rattle.vbr_list.proofs.Sufficing.{had_no_slot}
+use Rattle.vbr_list.specs.calls.Budgets.{listed_for}
+use Rattle.vbr_list.specs.walks.Disturbed.{steps_to_prepare}
+use Rattle.vbr_list.specs.updates.Settling.{HasAnswered, HasPrepared}
+use Rattle.vbr_list.specs.updates.Storing.{Makes}
+use Rattle.vbr_list.specs.updates.Wanted.{steps_to_compare}
+use Rattle.vbr_list.proofs.walks.Disturbing.{run_at}
+use Rattle.vbr_list.proofs.inserts.Preparing.{within_all, within_most, within_on}
+use Rattle.vbr_list.proofs.stores.Stores.{are_alone, replaced_not, store_lone, store_lone_costs, store_ready}
+use Rattle.vbr_list.proofs.stores.Stores.{store_refused_first, store_vain, told_had, told_paid, told_where}
+use Rattle.vbr_list.proofs.stores.StoredValues.{calls_with}
+use Rattle.vbr_list.proofs.inserts.Sufficing.{had_no_slot}
 use Rattle.vbr_list.proofs.storing.store_by.Goals as goal
 
 pub returns-in-Ok-Ready-clause-took : goal.returns-in-Ok-Ready-clause-took

@@ -1,10 +1,10 @@
 use Rattle.vbr_list.proofs.Names.{◌≡◌, Bool, true, false, sym, ◌∙◌, subst}
 use Rattle.vbr_list.proofs.Names.{knows, reads_none, ReadsIn, RollsBack}
-use Rattle.vbr_list.specs.Budgets.{steps_where}
-use Rattle.vbr_list.specs.Valuing.{LosesValue}
-use Rattle.vbr_list.proofs.Going.{keeps_still, ok_as}
-use Rattle.vbr_list.proofs.Sufficing.{each_error}
-use Rattle.vbr_list.proofs.ValueReads.{values_as}
+use Rattle.vbr_list.specs.calls.Budgets.{steps_where}
+use Rattle.vbr_list.specs.look_ups.Valuing.{LosesValue}
+use Rattle.vbr_list.proofs.pieces.Going.{keeps_still, ok_as}
+use Rattle.vbr_list.proofs.inserts.Sufficing.{each_error}
+use Rattle.vbr_list.proofs.look_ups.ValueReads.{values_as}
 use Rattle.vbr_list.proofs.valuing.value_if_any.Goals as goal
 
 pub value_of-requires-clause-values : goal.value_of-requires-clause-values

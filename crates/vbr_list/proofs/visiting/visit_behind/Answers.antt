@@ -1,19 +1,19 @@
 use Rattle.vbr_list.proofs.Names.{◌≡◌, ◌≤◌, ℕ, ◌+◌, Option, Some, None, sym, ap, ◌∙◌, subst, arith, false, IsSome, refl}
 use Rattle.vbr_list.proofs.Names.{bucket_of, Held, held_kept, IsHeld, IsKeyRead, IsNext, IsSlot, keeps_on, knows}
 use Rattle.vbr_list.proofs.Names.{link_of, next_steps, PassView, reads_on, ReadsIn, Start, stood_before, Trace}
-use Rattle.vbr_at_table.specs.Held.{said, said_if}
-use Rattle.vbr_list.specs.Pieces.{LooksOn}
-use Rattle.vbr_at_table.specs.Reading.{IsNextRead}
-use Rattle.vbr_list.specs.Visiting.{HasKey, MeetsBehind, Visits, met_place, steps_met}
+use Rattle.vbr_at_table.specs.reads.Held.{said, said_if}
+use Rattle.vbr_list.specs.calls.Pieces.{LooksOn}
+use Rattle.vbr_at_table.specs.reads.Reading.{IsNextRead}
+use Rattle.vbr_list.specs.walks.Visiting.{HasKey, MeetsBehind, Visits, met_place, steps_met}
 use Rattle.vbr_list.specs.declared.visiting.Visited.{Visited}
 use Rattle.vbr_list.specs.declared.visiting.Visited.TheVariants.{Beyond, Smaller}
-use Rattle.vbr_list.specs.Walking.{ReadsNext}
-use Rattle.vbr_list.proofs.Disturbing.{moves_epoch}
-use Rattle.vbr_list.proofs.Going.{goes_on, goes_read}
-use Rattle.vbr_list.proofs.Observing.{reads_observe}
-use Rattle.vbr_list.proofs.Reaching.{next_inside, node_unmarked, slot_same}
-use Rattle.vbr_list.proofs.Sufficing.{any_error}
-use Rattle.vbr_list.proofs.WideWords.{layout_at}
+use Rattle.vbr_list.specs.walks.Walking.{ReadsNext}
+use Rattle.vbr_list.proofs.walks.Disturbing.{moves_epoch}
+use Rattle.vbr_list.proofs.pieces.Going.{goes_on, goes_read}
+use Rattle.vbr_list.proofs.pieces.Observing.{reads_observe}
+use Rattle.vbr_list.proofs.walks.Reaching.{next_inside, node_unmarked, slot_same}
+use Rattle.vbr_list.proofs.inserts.Sufficing.{any_error}
+use Rattle.vbr_list.proofs.pieces.WideWords.{layout_at}
 use Rattle.vbr_list.proofs.visiting.visit_behind.Goals as goal
 
 in_three : {p q : PassView} (next : Option ℕ) → IsSome next → ReadsIn p q (next_steps next) → ReadsIn p q 3

@@ -1,7 +1,7 @@
 use Rattle.std.proofs.Common.{◌≡◌, get_or, refl, ap, subst, ◌∙◌, arith}
 use Rattle.vbr_machine.specs.Runs.{Begins}
 use Rattle.vbr_machine.proofs.Lemmas.{begins_for_begins}
-use Rattle.vbr_set.specs.Members.{MemberView}
+use Rattle.vbr_set.specs.calls.Members.{MemberView}
 use Rattle.vbr_player.proofs.AllMet.{all_look, left_more, shown_more, sees_more, still_of, all_see}
 use Rattle.vbr_player.proofs.meeting.show_all.Goals as goal
 

@@ -1,7 +1,7 @@
 use Rattle.std.proofs.Common.{ℕ, sym, ap, ◌∙◌, arith}
 use Rattle.vbr_words.specs.Dimensions.{Dimensions}
 use Rattle.vbr_machine.specs.Start.{Start}
-use Rattle.vbr_slots.specs.Views.{new_passes}
+use Rattle.vbr_slots.specs.views.Views.{new_passes}
 use Rattle.vbr_player.proofs.Ends.{start_values}
 use Rattle.vbr_player.specs.Playing.{start_for}
 use Rattle.vbr_player.proofs.opened.open.Goals as goal

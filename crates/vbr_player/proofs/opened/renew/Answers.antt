@@ -1,6 +1,6 @@
 use Rattle.std.proofs.Common.{ℕ, ◌<◌, sym, ap, subst, ◌∙◌}
 use Rattle.vbr_machine.specs.Start.{Start}
-use Rattle.vbr_slots.specs.Views.{new_passes}
+use Rattle.vbr_slots.specs.views.Views.{new_passes}
 use Rattle.vbr_player.specs.Closing.{RenewsAs}
 use Rattle.vbr_player.proofs.Ends.{opened_values, renews_as}
 use Rattle.vbr_player.proofs.opened.renew.Goals as goal

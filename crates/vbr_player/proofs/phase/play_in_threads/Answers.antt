@@ -1,10 +1,10 @@
 use Rattle.std.proofs.Common.{◌≡◌, ◌∷◌, [], ◌++◌, List, sym, ap, ◌∙◌, subst, append_assoc}
 use Rattle.std.specs.Vec.Iter.{into_iter_items}
-use Rattle.vbr_player.specs.Starting.{IsFor, AreFor}
+use Rattle.vbr_player.specs.Starting.{IsFor}
 use Rattle.vbr_player.specs.Working.{HasRoomForReplies, HaveRoomForReplies}
 use Rattle.vbr_player.specs.declared.phase_worker.PhaseWorker.{PhaseWorker}
 use Rattle.vbr_player.specs.declared.worker.Worker.{Worker}
-use Rattle.vbr_player.proofs.Starting.{each_played_if, one_behind, none_left}
+use Rattle.vbr_player.proofs.Starting.{each_played_if, one_behind, none_left, AreFor}
 use Rattle.vbr_player.proofs.Zips.{zip-snoc}
 use Rattle.vbr_player.proofs.phase.play_in_threads.Goals as goal
 

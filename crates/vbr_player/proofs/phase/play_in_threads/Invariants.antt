@@ -1,6 +1,6 @@
 use Rattle.std.proofs.Common.{◌≡◌, ◌++◌}
 use Rattle.std.specs.Vec.Iter.{into_iter_items}
-use Rattle.vbr_player.specs.Starting.{AreFor}
+use Rattle.vbr_player.proofs.Starting.{AreFor}
 use Rattle.vbr_player.proofs.phase.play_in_threads.Given as goal
 
 -- the workers so far are started

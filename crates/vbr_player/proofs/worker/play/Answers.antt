@@ -1,7 +1,7 @@
 -- Each line is played or left alone.
 use Rattle.std.proofs.Common.{rules, ◌≡◌, ◌<◌, ◌≤◌, length, sym, ap, ◌∙◌, arith}
 use Rattle.std.specs.Vec.{vec_capacity}
-use Rattle.vbr_slots.specs.Views.{PassView}
+use Rattle.vbr_slots.specs.views.Views.{PassView}
 use Rattle.vbr_player.proofs.Replying.{line_left, line_played, room_for_one}
 use Rattle.vbr_player.proofs.Working.{none_played, played_next, room_next}
 use Rattle.vbr_player.proofs.worker.play.Goals as goal

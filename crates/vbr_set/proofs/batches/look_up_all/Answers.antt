@@ -1,6 +1,6 @@
 use Rattle.std.proofs.Common.{rules, ◌≡◌, ℕ, length, ◌<◌, ◌∙◌, subst, arith}
 use Rattle.std.specs.Prelude.{slice_index_or}
-use Rattle.vbr_set.proofs.InTurn.{so_far_more}
+use Rattle.vbr_set.proofs.many_keys.InTurn.{so_far_more}
 use Rattle.vbr_set.proofs.batches.look_up_all.Goals.{then-i-eq0, else-i-eq0}
 use Rattle.vbr_set.proofs.batches.look_up_all.Goals as goal
 

@@ -1,5 +1,5 @@
 use Rattle.std.proofs.Common.{◌≡◌, length}
-use Rattle.vbr_set.proofs.InTurn.{SoFar}
+use Rattle.vbr_set.proofs.many_keys.InTurn.{SoFar}
 use Rattle.vbr_set.proofs.batches.look_up_all.Given as goal
 
 -- the keys so far have been looked up in turn

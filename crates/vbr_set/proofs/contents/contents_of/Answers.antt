@@ -1,8 +1,8 @@
 use Rattle.std.proofs.Common.{◌≡◌, Bool, List, length, sym, ◌∙◌, subst, arith}
 use Rattle.vbr_machine.specs.Accounts.{incarnations_after}
 use Rattle.vbr_slots.proofs.Lemmas.{whole}
-use Rattle.vbr_slots.specs.Rule.{with_opened}
-use Rattle.vbr_set.specs.Walking.{NotesLists}
+use Rattle.vbr_slots.specs.runs.Rule.{with_opened}
+use Rattle.vbr_set.specs.reports.Walking.{NotesLists}
 use Rattle.vbr_set.proofs.contents.contents_of.Goals as goal
 
 pub returns : goal.returns

@@ -6,8 +6,8 @@ use Rattle.vbr_words.specs.Packing.{unpacked}
 use Rattle.vbr_words.specs.Words.{link_of}
 use Rattle.vbr_words.specs.declared.link.Link.{Link}
 use Rattle.vbr_machine.specs.Accounts.{incarnations_after}
-use Rattle.vbr_slots.specs.Rule.{with_opened}
-use Rattle.vbr_set.proofs.Gathering.{Gathered, gathered_as, gathered_linked, gathered_marked, gathered_skip}
+use Rattle.vbr_slots.specs.runs.Rule.{with_opened}
+use Rattle.vbr_set.proofs.reports.Gathering.{Gathered, gathered_as, gathered_linked, gathered_marked, gathered_skip}
 use Rattle.vbr_set.proofs.contents.gather.Goals as goal
 use Rattle.vbr_set.proofs.contents.gather.Goals.{then-decode, else-decode+in-Ok}
 

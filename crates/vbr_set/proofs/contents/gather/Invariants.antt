@@ -3,9 +3,9 @@ use Rattle.std.specs.Vec.{vec_capacity}
 use Rattle.vbr_machine.specs.Accounts.{incarnations_after}
 use Rattle.vbr_machine.specs.declared.event.Event.{Event}
 use Rattle.vbr_slots.specs.declared.rule.Opened.{Opened}
-use Rattle.vbr_slots.specs.Rule.{with_opened}
-use Rattle.vbr_set.specs.Walking.{AreAfter, NotesLists}
-use Rattle.vbr_set.proofs.Gathering.{Gathered}
+use Rattle.vbr_slots.specs.runs.Rule.{with_opened}
+use Rattle.vbr_set.specs.reports.Walking.{AreAfter, NotesLists}
+use Rattle.vbr_set.proofs.reports.Gathering.{Gathered}
 use Rattle.vbr_set.proofs.contents.gather.Given as goal
 
 abbrev pub invariant-loop-slot : goal.invariant-loop-slot

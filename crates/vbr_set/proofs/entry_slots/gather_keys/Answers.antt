@@ -5,11 +5,11 @@ use Rattle.vbr_words.specs.Packing.{unpacked}
 use Rattle.vbr_words.specs.Words.{link_of}
 use Rattle.vbr_words.specs.declared.link.Link.{Link}
 use Rattle.vbr_machine.specs.Accounts.{incarnations_after}
-use Rattle.vbr_slots.specs.Rule.{with_opened}
-use Rattle.vbr_set.specs.EntrySlots.{key_with_slot}
-use Rattle.vbr_set.proofs.EntrySlots.{as_gathered}
-use Rattle.vbr_set.proofs.Gathering.{gathered_linked, gathered_marked, gathered_skip}
-use Rattle.vbr_set.proofs.ShownNodes.{key_read}
+use Rattle.vbr_slots.specs.runs.Rule.{with_opened}
+use Rattle.vbr_set.specs.reports.EntrySlots.{key_with_slot}
+use Rattle.vbr_set.proofs.reports.EntrySlots.{as_gathered}
+use Rattle.vbr_set.proofs.reports.Gathering.{gathered_linked, gathered_marked, gathered_skip}
+use Rattle.vbr_set.proofs.reports.ShownNodes.{key_read}
 use Rattle.vbr_set.proofs.entry_slots.gather_keys.Goals as goal
 use Rattle.vbr_set.proofs.entry_slots.gather_keys.Goals.{then-not-notes-slot-via-then-not-notes-slot}
 use Rattle.vbr_set.proofs.entry_slots.gather_keys.Goals.{then-not-notes-slot-via-else-not-notes-slot+then-decode}

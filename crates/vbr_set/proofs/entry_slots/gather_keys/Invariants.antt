@@ -3,9 +3,9 @@ use Rattle.std.specs.Vec.{vec_capacity}
 use Rattle.vbr_machine.specs.Accounts.{incarnations_after}
 use Rattle.vbr_machine.specs.declared.event.Event.{Event}
 use Rattle.vbr_slots.specs.declared.rule.Opened.{Opened}
-use Rattle.vbr_slots.specs.Rule.{with_opened}
-use Rattle.vbr_set.specs.EntrySlots.{key_with_slot}
-use Rattle.vbr_set.specs.Walking.{AreAfter, NotesLists, linked_of}
+use Rattle.vbr_slots.specs.runs.Rule.{with_opened}
+use Rattle.vbr_set.specs.reports.EntrySlots.{key_with_slot}
+use Rattle.vbr_set.specs.reports.Walking.{AreAfter, NotesLists, linked_of}
 use Rattle.vbr_set.proofs.entry_slots.gather_keys.Given as goal
 
 -- the linked nodes of the slots so far are listed, and there is room for one of each slot

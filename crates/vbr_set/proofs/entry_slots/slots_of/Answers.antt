@@ -1,6 +1,6 @@
 use Rattle.std.proofs.Common.{ℕ, rules}
 use Rattle.std.proofs.lemmas.List.Sorted.{IsNonDecreasingBy-from_sort_by_key}
-use Rattle.vbr_set.proofs.EntrySlots.{lists_slots}
+use Rattle.vbr_set.proofs.reports.EntrySlots.{lists_slots}
 use Rattle.vbr_set.proofs.entry_slots.slots_of.Goals as goal
 
 pub returns : goal.returns

@@ -1,7 +1,7 @@
 use Rattle.std.proofs.Common.{◌≡◌, ◌≤◌, ◌+◌, ◌++◌, length}
 use Rattle.std.specs.Vec.{vec_capacity}
 use Rattle.std.specs.Vec.Iter.{into_iter_items}
-use Rattle.vbr_set.specs.EntrySlots.{slots_listed}
+use Rattle.vbr_set.specs.reports.EntrySlots.{slots_listed}
 use Rattle.vbr_set.proofs.entry_slots.without_keys.Given as goal
 
 -- the slots so far and those that are left are all, and there is room for these

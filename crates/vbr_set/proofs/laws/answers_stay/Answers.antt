@@ -1,4 +1,4 @@
-use Rattle.vbr_set.proofs.Staying.{answers_stay}
+use Rattle.vbr_set.proofs.histories.Staying.{answers_stay}
 use Rattle.vbr_set.proofs.laws.answers_stay.Goals as goal
 
 pub returns : goal.returns

@@ -1,4 +1,4 @@
-use Rattle.vbr_set.proofs.CatchingUp.{in_order}
+use Rattle.vbr_set.proofs.histories.CatchingUp.{in_order}
 use Rattle.vbr_set.proofs.laws.calls_stay_in_order.Goals as goal
 
 pub returns : goal.returns

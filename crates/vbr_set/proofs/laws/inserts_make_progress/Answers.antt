@@ -1,4 +1,4 @@
-use Rattle.vbr_set.proofs.Progress.{inserts_progress}
+use Rattle.vbr_set.proofs.progress.Progress.{inserts_progress}
 use Rattle.vbr_set.proofs.laws.inserts_make_progress.Goals as goal
 
 pub returns : goal.returns

@@ -1,4 +1,4 @@
-use Rattle.vbr_set.proofs.CatchingUp.{handed_on}
+use Rattle.vbr_set.proofs.histories.CatchingUp.{handed_on}
 use Rattle.vbr_set.proofs.laws.tokens_hand_on.Goals as goal
 
 pub returns : goal.returns

@@ -1,4 +1,4 @@
-use Rattle.vbr_set.proofs.AnsweredCalls.{answers_disturb}
+use Rattle.vbr_set.proofs.progress.AnsweredCalls.{answers_disturb}
 use Rattle.vbr_set.proofs.progressing.answers_disturb.Goals as goal
 
 pub returns : goal.returns

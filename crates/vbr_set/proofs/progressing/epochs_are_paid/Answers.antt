@@ -1,4 +1,4 @@
-use Rattle.vbr_set.proofs.AnsweredCalls.{epochs_paid}
+use Rattle.vbr_set.proofs.progress.AnsweredCalls.{epochs_paid}
 use Rattle.vbr_set.proofs.progressing.epochs_are_paid.Goals as goal
 
 pub returns : goal.returns

@@ -1,4 +1,4 @@
-use Rattle.vbr_set.proofs.EnoughByShape.{few_unanswered}
+use Rattle.vbr_set.proofs.progress.EnoughByShape.{few_unanswered}
 use Rattle.vbr_set.proofs.progressing.few_unanswered.Goals as goal
 
 pub returns : goal.returns

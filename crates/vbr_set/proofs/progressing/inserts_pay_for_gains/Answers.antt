@@ -1,4 +1,4 @@
-use Rattle.vbr_set.proofs.WonFlags.{inserts_pay}
+use Rattle.vbr_set.proofs.progress.WonFlags.{inserts_pay}
 use Rattle.vbr_set.proofs.progressing.inserts_pay_for_gains.Goals as goal
 
 pub returns : goal.returns

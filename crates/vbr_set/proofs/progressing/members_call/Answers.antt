@@ -1,4 +1,4 @@
-use Rattle.vbr_set.proofs.MembersCalls.{members_calls}
+use Rattle.vbr_set.proofs.members.MembersCalls.{members_calls}
 use Rattle.vbr_set.proofs.progressing.members_call.Goals as goal
 
 pub returns : goal.returns

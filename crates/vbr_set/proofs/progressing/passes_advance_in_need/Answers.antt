@@ -1,4 +1,4 @@
-use Rattle.vbr_set.proofs.AnsweredCalls.{advance_in_need}
+use Rattle.vbr_set.proofs.progress.AnsweredCalls.{advance_in_need}
 use Rattle.vbr_set.proofs.progressing.passes_advance_in_need.Goals as goal
 
 pub returns : goal.returns

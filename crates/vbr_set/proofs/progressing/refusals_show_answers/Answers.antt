@@ -1,4 +1,4 @@
-use Rattle.vbr_set.proofs.AnsweredCalls.{refusals_show}
+use Rattle.vbr_set.proofs.progress.AnsweredCalls.{refusals_show}
 use Rattle.vbr_set.proofs.progressing.refusals_show_answers.Goals as goal
 
 pub returns : goal.returns

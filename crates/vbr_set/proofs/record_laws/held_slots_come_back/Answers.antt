@@ -1,4 +1,4 @@
-use Rattle.vbr_set.proofs.HeldRoom.{come_back}
+use Rattle.vbr_set.proofs.held_slots.HeldRoom.{come_back}
 use Rattle.vbr_set.proofs.record_laws.held_slots_come_back.Goals as goal
 
 pub returns : goal.returns

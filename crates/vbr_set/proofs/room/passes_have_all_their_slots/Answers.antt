@@ -1,5 +1,5 @@
 use Rattle.std.proofs.Common.{rules}
-use Rattle.vbr_set.proofs.HavingSlots.{all_called, all_caught, all_gave, all_met, all_reserved}
+use Rattle.vbr_set.proofs.whereabouts.HavingSlots.{all_called, all_caught, all_gave, all_met, all_reserved}
 use Rattle.vbr_set.proofs.room.passes_have_all_their_slots.Goals as goal
 
 pub returns : goal.returns

@@ -1,4 +1,5 @@
-use Rattle.vbr_set.proofs.HavingSlots.{turn_called, turn_caught, turn_gave, turn_met, turn_opened, turn_reserved}
+use Rattle.vbr_set.proofs.whereabouts.HavingSlots.{turn_called, turn_caught, turn_gave, turn_met, turn_opened}
+use Rattle.vbr_set.proofs.whereabouts.HavingSlots.{turn_reserved}
 use Rattle.vbr_set.proofs.room.passes_unlink_in_turn.Goals as goal
 
 pub returns : goal.returns

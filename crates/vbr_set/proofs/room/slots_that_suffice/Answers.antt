@@ -1,4 +1,4 @@
-use Rattle.vbr_set.proofs.TakenUp.{suffices}
+use Rattle.vbr_set.proofs.whereabouts.TakenUp.{suffices}
 use Rattle.vbr_set.proofs.room.slots_that_suffice.Goals as goal
 
 pub returns : goal.returns

@@ -1,6 +1,6 @@
 use Rattle.std.proofs.Common.{refl}
-use Rattle.vbr_set.specs.Kinds.{as_map, as_set}
-use Rattle.vbr_set.proofs.EntrySlots.{carries_over}
+use Rattle.vbr_set.specs.reports.Kinds.{as_map, as_set}
+use Rattle.vbr_set.proofs.reports.EntrySlots.{carries_over}
 use Rattle.vbr_set.proofs.slot_laws.slots_carry_over.Goals as goal
 
 pub returns : goal.returns

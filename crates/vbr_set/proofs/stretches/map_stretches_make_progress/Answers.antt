@@ -1,4 +1,4 @@
-use Rattle.vbr_set.proofs.StretchedRuns.{map_stretches_progress}
+use Rattle.vbr_set.proofs.progress.StretchedRuns.{map_stretches_progress}
 use Rattle.vbr_set.proofs.stretches.map_stretches_make_progress.Goals as goal
 
 pub returns : goal.returns

@@ -1,4 +1,4 @@
-use Rattle.vbr_set.proofs.StretchedRuns.{stretches_progress}
+use Rattle.vbr_set.proofs.progress.StretchedRuns.{stretches_progress}
 use Rattle.vbr_set.proofs.stretches.stretches_make_progress.Goals as goal
 
 pub returns : goal.returns

@@ -1,7 +1,7 @@
 use Rattle.std.proofs.Common.{ℕ, ◌<◌, Option, sym, ◌∙◌, subst, arith}
 use Rattle.vbr_machine.specs.Accounts.{incarnations_after}
-use Rattle.vbr_slots.specs.Rule.{with_opened}
-use Rattle.vbr_set.proofs.Walks.{left, walk_ends, walk_first, walk_nearer, walk_next, walked_as}
+use Rattle.vbr_slots.specs.runs.Rule.{with_opened}
+use Rattle.vbr_set.proofs.reports.Walks.{left, walk_ends, walk_first, walk_nearer, walk_next, walked_as}
 use Rattle.vbr_set.proofs.walking.note_list.Goals as goal
 
 pub loop-next-init : goal.loop-next-init

@@ -1,7 +1,7 @@
 use Rattle.std.proofs.Common.{◌≡◌, ℕ, subst, arith}
 use Rattle.vbr_machine.specs.Accounts.{incarnations_after}
-use Rattle.vbr_slots.specs.Rule.{with_opened}
-use Rattle.vbr_set.proofs.Walks.{NotedBelow, lists_end}
+use Rattle.vbr_slots.specs.runs.Rule.{with_opened}
+use Rattle.vbr_set.proofs.reports.Walks.{NotedBelow, lists_end}
 use Rattle.vbr_set.proofs.walking.note_lists.Goals as goal
 
 pub returns : goal.returns

@@ -1,5 +1,5 @@
 use Rattle.std.proofs.Common.{◌∷◌, [], ◌++◌, ap, ◌∙◌, sym, arith}
-use Rattle.vbr_slots.proofs.Closings.{take_at}
+use Rattle.vbr_slots.proofs.runs.Closings.{take_at}
 use Rattle.vbr_slots.proofs.closing.words_of.Goals as goal
 
 pub loop-i-preserved : goal.loop-i-preserved

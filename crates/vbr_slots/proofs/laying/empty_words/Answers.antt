@@ -1,5 +1,5 @@
 use Rattle.std.proofs.Common.{ℕ, subst, arith}
-use Rattle.vbr_slots.proofs.Openings.{AreLaid, laid, laid_all}
+use Rattle.vbr_slots.proofs.runs.Openings.{AreLaid, laid, laid_all}
 use Rattle.vbr_slots.proofs.laying.empty_words.Goals as goal
 
 pub returns-clause-words : goal.returns-clause-words

@@ -1,4 +1,4 @@
-use Rattle.vbr_slots.proofs.Openings.{AreLaid, laid}
+use Rattle.vbr_slots.proofs.runs.Openings.{AreLaid, laid}
 use Rattle.vbr_slots.proofs.laying.empty_words.Given as goal
 
 abbrev pub invariant-loop-slot : goal.invariant-loop-slot

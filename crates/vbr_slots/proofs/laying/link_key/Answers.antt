@@ -10,7 +10,7 @@ use Rattle.vbr_words.specs.declared.place.Place.TheVariants.{Head, Flags}
 use Rattle.vbr_words.proofs.Lemmas.{has_room, is_link, some_version, room_parts, link_of-word_of, shape_has_room}
 use Rattle.vbr_words.proofs.Lemmas.{packed-unpacked, slot_bits-enough, unpacked-packed}
 use Rattle.vbr_words.specs.Buckets.{bucket_of}
-use Rattle.vbr_slots.proofs.Openings.{KeyIndices, key_ahead}
+use Rattle.vbr_slots.proofs.runs.Openings.{KeyIndices, key_ahead}
 use Rattle.vbr_slots.proofs.laying.link_key.Goals as goal
 use Rattle.vbr_slots.proofs.laying.link_key.Goals.{then-has_values, else-has_values}
 

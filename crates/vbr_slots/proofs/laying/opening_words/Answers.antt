@@ -4,8 +4,8 @@ use Rattle.vbr_machine.specs.Start.{Start, start_with}
 use Rattle.vbr_machine.specs.Machine.{World}
 use Rattle.vbr_machine.specs.Making.{opening_from}
 use Rattle.vbr_machine.proofs.Lemmas.{opening_all, opening_step}
-use Rattle.vbr_slots.specs.Words.{AreWordsOf}
-use Rattle.vbr_slots.proofs.Openings.{heads_fit, whole}
+use Rattle.vbr_slots.specs.words.Words.{AreWordsOf}
+use Rattle.vbr_slots.proofs.runs.Openings.{heads_fit, whole}
 use Rattle.vbr_slots.proofs.laying.opening_words.Goals as goal
 
 pub loop-number-init : goal.loop-number-init

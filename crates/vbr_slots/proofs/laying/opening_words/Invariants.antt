@@ -2,7 +2,7 @@
 use Rattle.std.proofs.Common.{◌≤◌, length}
 use Rattle.vbr_machine.specs.Start.{start_with}
 use Rattle.vbr_machine.specs.Making.{opening_from}
-use Rattle.vbr_slots.specs.Words.{AreWordsOf}
+use Rattle.vbr_slots.specs.words.Words.{AreWordsOf}
 use Rattle.vbr_slots.proofs.laying.opening_words.Given as goal
 
 abbrev pub invariant-loop-number : goal.invariant-loop-number

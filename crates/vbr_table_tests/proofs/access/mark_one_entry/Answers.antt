@@ -1,5 +1,5 @@
 -- The node is present and its value known until it is marked.
-use Rattle.vbr_at_table.specs.Held.{said}
+use Rattle.vbr_at_table.specs.reads.Held.{said}
 use Rattle.vbr_table_tests.proofs.retiring.HeldThrough.{own_marked, present_kept}
 use Rattle.vbr_table_tests.proofs.access.mark_one_entry.Goals as goal
 

@@ -1,5 +1,5 @@
 use Rattle.std.proofs.Common.{◌≡◌}
-use Rattle.vbr_slots.specs.Views.{IsOf}
+use Rattle.vbr_slots.specs.views.Views.{IsOf}
 use Rattle.vbr_table_tests.proofs.flag_words.take_all.Given as goal
 
 abbrev pub invariant-loop-slot : goal.invariant-loop-slot

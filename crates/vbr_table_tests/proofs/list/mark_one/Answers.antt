@@ -1,6 +1,6 @@
 -- The node is present until it is marked, and the head stays held.
 use Rattle.vbr_at_table.proofs.Lemmas.{held_kept}
-use Rattle.vbr_at_table.specs.Held.{said}
+use Rattle.vbr_at_table.specs.reads.Held.{said}
 use Rattle.vbr_table_tests.proofs.retiring.HeldThrough.{own_marked, present_kept}
 use Rattle.vbr_table_tests.proofs.list.mark_one.Goals as goal
 

@@ -9,8 +9,8 @@ use Rattle.vbr_machine.specs.declared.event.Step.{Step}
 use Rattle.vbr_machine.specs.declared.event.Step.TheVariants.{ConfirmAbsent, ConfirmPresent, Mark, Publish, Replace}
 use Rattle.vbr_machine.specs.declared.event.Step.TheVariants.{StoreLink, Unlink}
 use Rattle.vbr_machine.specs.declared.event.Effect.TheVariants.{Done}
-use Rattle.vbr_slots.specs.Views.{TableView, Trace, knows}
-use Rattle.vbr_slots.specs.WideWords.{wide_in}
+use Rattle.vbr_slots.specs.views.Views.{TableView, Trace, knows}
+use Rattle.vbr_slots.specs.words.WideWords.{wide_in}
 use Rattle.vbr_table_tests.specs.Following.{Learned, May}
 use Rattle.vbr_table_tests.proofs.listed_calls.Following.{err_numbered, found_either, kept_exchange, kept_load, learned}
 use Rattle.vbr_table_tests.proofs.listed_calls.Following.{ok_numbered, published_either, replaced_either}

@@ -1,6 +1,6 @@
 -- The node's key and its value are known, and the pass is its table's.
 use Rattle.std.proofs.Common.{rules}
-use Rattle.vbr_at_table.specs.Held.{said}
+use Rattle.vbr_at_table.specs.reads.Held.{said}
 use Rattle.vbr_table_tests.proofs.lost_exchanges.Kept.{own_told}
 use Rattle.vbr_table_tests.proofs.lost_exchanges.answer_get.Goals as goal
 

@@ -1,7 +1,7 @@
 -- The hand stays the pass's, which is its table's; and the head stays held through the replacement.
 use Rattle.std.proofs.Common.{rules}
 use Rattle.vbr_at_table.proofs.Lemmas.{held_kept}
-use Rattle.vbr_at_table.specs.Held.{said}
+use Rattle.vbr_at_table.specs.reads.Held.{said}
 use Rattle.vbr_table_tests.proofs.lost_exchanges.Kept.{hand_kept, own_replaced}
 use Rattle.vbr_table_tests.proofs.lost_exchanges.go_on.Goals as goal
 

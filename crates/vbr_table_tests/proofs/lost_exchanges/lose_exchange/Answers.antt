@@ -1,5 +1,5 @@
 -- The pass is its table's.
-use Rattle.vbr_at_table.specs.Held.{said}
+use Rattle.vbr_at_table.specs.reads.Held.{said}
 use Rattle.vbr_table_tests.proofs.lost_exchanges.Kept.{own_replaced}
 use Rattle.vbr_table_tests.proofs.lost_exchanges.lose_exchange.Goals as goal
 

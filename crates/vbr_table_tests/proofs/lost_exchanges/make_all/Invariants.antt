@@ -1,5 +1,5 @@
 use Rattle.std.proofs.Common.{◌≡◌, None}
-use Rattle.vbr_slots.specs.Views.{IsOf}
+use Rattle.vbr_slots.specs.views.Views.{IsOf}
 use Rattle.vbr_table_tests.proofs.lost_exchanges.make_all.Given as goal
 
 abbrev pub invariant-loop-budget : goal.invariant-loop-budget

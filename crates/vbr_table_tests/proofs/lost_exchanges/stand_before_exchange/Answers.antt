@@ -1,6 +1,6 @@
 -- What was taken stays in hand through the second read.
 use Rattle.std.proofs.Common.{rules}
-use Rattle.vbr_at_table.specs.Hands.{IsHandOf}
+use Rattle.vbr_at_table.specs.hands.Hands.{IsHandOf}
 use Rattle.vbr_table_tests.proofs.lost_exchanges.Kept.{hand_kept}
 use Rattle.vbr_table_tests.proofs.lost_exchanges.stand_before_exchange.Goals as goal
 

@@ -4,9 +4,9 @@ use Rattle.vbr_words.specs.declared.place.At.{At}
 use Rattle.vbr_words.specs.declared.place.At.TheVariants.{Head, Slot}
 use Rattle.vbr_machine.specs.Knowledge.{Know}
 use Rattle.vbr_machine.specs.Membership.{KeyAt}
-use Rattle.vbr_at_table.specs.KeptKnowledge.{Keeps}
-use Rattle.vbr_at_table.specs.Held.{said}
-use Rattle.vbr_at_table.specs.Values.{IsValueRead}
+use Rattle.vbr_at_table.specs.reads.KeptKnowledge.{Keeps}
+use Rattle.vbr_at_table.specs.reads.Held.{said}
+use Rattle.vbr_at_table.specs.answers.Values.{IsValueRead}
 use Rattle.vbr_at_table.proofs.Lemmas.{held_kept}
 use Rattle.vbr_table_tests.proofs.lost_stores.lose_get.Goals as goal
 

@@ -7,11 +7,11 @@ use Rattle.vbr_words.specs.declared.place.At.{At}
 use Rattle.vbr_words.specs.declared.place.At.TheVariants.{Head, Slot}
 use Rattle.vbr_machine.specs.Knowledge.{Know}
 use Rattle.vbr_machine.specs.Membership.{BirthNamed, KeyAt}
-use Rattle.vbr_slots.specs.Views.{knows}
-use Rattle.vbr_at_table.specs.Held.{said}
-use Rattle.vbr_at_table.specs.KeptKnowledge.{Keeps}
-use Rattle.vbr_at_table.specs.Reading.{IsKeyRead}
-use Rattle.vbr_at_table.specs.Values.{IsValueRead}
+use Rattle.vbr_slots.specs.views.Views.{knows}
+use Rattle.vbr_at_table.specs.reads.Held.{said}
+use Rattle.vbr_at_table.specs.reads.KeptKnowledge.{Keeps}
+use Rattle.vbr_at_table.specs.reads.Reading.{IsKeyRead}
+use Rattle.vbr_at_table.specs.answers.Values.{IsValueRead}
 use Rattle.vbr_at_table.proofs.Lemmas.{held_kept}
 use Rattle.vbr_table_tests.proofs.retiring.HeldThrough.{held_through}
 use Rattle.vbr_table_tests.proofs.lost_stores.read_entry.Goals as goal

@@ -1,8 +1,8 @@
 -- The head stays held, and 7 stands behind it.
 use Rattle.std.proofs.Common.{◌≡◌, ap, rules}
 use Rattle.vbr_words.specs.declared.link.Link.{Link}
-use Rattle.vbr_slots.specs.Views.{knows}
-use Rattle.vbr_at_table.specs.Held.{said}
+use Rattle.vbr_slots.specs.views.Views.{knows}
+use Rattle.vbr_at_table.specs.reads.Held.{said}
 use Rattle.vbr_table_tests.proofs.retiring.HeldThrough.{held_through, behind_head}
 use Rattle.vbr_table_tests.proofs.retiring.insert_one.Goals as goal
 

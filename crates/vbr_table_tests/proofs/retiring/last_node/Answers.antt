@@ -1,5 +1,5 @@
 -- The head stays held.
-use Rattle.vbr_at_table.specs.Held.{said}
+use Rattle.vbr_at_table.specs.reads.Held.{said}
 use Rattle.vbr_table_tests.proofs.retiring.HeldThrough.{held_through}
 use Rattle.vbr_table_tests.proofs.retiring.last_node.Goals as goal
 

@@ -1,7 +1,7 @@
 -- The head and the node stay held, and the node's key is known.
 use Rattle.std.proofs.Common.{ap, rules, ◌∙◌}
 use Rattle.vbr_words.specs.declared.link.Link.{Link}
-use Rattle.vbr_at_table.specs.Held.{said}
+use Rattle.vbr_at_table.specs.reads.Held.{said}
 use Rattle.vbr_table_tests.proofs.retiring.HeldThrough.{held_through}
 use Rattle.vbr_table_tests.proofs.retiring.read_one.Goals as goal
 

@@ -1,7 +1,7 @@
 -- The node is present until it is marked, and the head stays held.
 use Rattle.vbr_at_table.proofs.Lemmas.{held_kept}
 use Rattle.vbr_list.proofs.Lemmas.{of_on}
-use Rattle.vbr_at_table.specs.Held.{said}
+use Rattle.vbr_at_table.specs.reads.Held.{said}
 use Rattle.vbr_table_tests.proofs.retiring.HeldThrough.{own_marked, present_kept}
 use Rattle.vbr_table_tests.proofs.retiring.remove_one.Goals as goal
 

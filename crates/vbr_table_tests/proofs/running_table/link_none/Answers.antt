@@ -3,8 +3,8 @@ use Rattle.std.proofs.Common.{◌≡◌, ℕ, None, ap, ◌∙◌, sym, subst}
 use Rattle.vbr_words.specs.Packing.{slot_bits, unpacked}
 use Rattle.vbr_words.specs.Words.{link_of, word_of}
 use Rattle.vbr_machine.specs.Acceptance.{IsNextIn, IsNextHeld}
-use Rattle.vbr_slots.specs.Views.{TableView, knows}
-use Rattle.vbr_slots.specs.WideWords.{wide_in}
+use Rattle.vbr_slots.specs.views.Views.{TableView, knows}
+use Rattle.vbr_slots.specs.words.WideWords.{wide_in}
 use Rattle.vbr_table_tests.proofs.running_table.OwnedSlots.{is_word, names_none, none_has_room, to_none}
 use Rattle.vbr_table_tests.proofs.running_table.link_none.Goals as goal
 

@@ -1,7 +1,7 @@
 -- The slot that was taken is free. For a pass that has no other, its stamp is that of the opening.
 use Rattle.std.proofs.Common.{◌≡◌, ◌∙◌, ap, true, rules}
 use Rattle.std.specs.Prelude.{is_ok}
-use Rattle.vbr_slots.specs.Views.{PassView}
+use Rattle.vbr_slots.specs.views.Views.{PassView}
 use Rattle.vbr_table_tests.proofs.running_table.OnePass.{stamp_0}
 use Rattle.vbr_table_tests.proofs.running_table.OwnedSlots.{reached_free}
 use Rattle.vbr_table_tests.proofs.running_table.Taking.{reached}

@@ -1,7 +1,7 @@
 -- The first rows of the list are worked.
 use Rattle.vbr_machine.specs.Machine.{opening}
 use Rattle.vbr_event_lists.specs.Worked.{many_epochs}
-use Rattle.vbr_event_lists.specs.declared.standing.TheConstants.{STANDING_WORDS}
+use Rattle.vbr_event_lists.specs.declared.step_kinds.TheConstants.{STANDING_WORDS}
 use Rattle.vbr_event_lists.proofs.Lemmas.{first_worked}
 use Rattle.vbr_table_tests.proofs.standing_still.stand_behind.Goals as goal
 

@@ -1,4 +1,4 @@
-use Rattle.vbr_at_table.proofs.PuttingAside.{puts_aside}
+use Rattle.vbr_at_table.proofs.own_slots.PuttingAside.{puts_aside}
 use Rattle.vbr_at_table.proofs.aside.Aside.of.Goals as goal
 
 pub returns-clause-aside : goal.returns-clause-aside

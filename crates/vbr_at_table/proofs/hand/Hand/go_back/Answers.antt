@@ -1,7 +1,7 @@
 -- The slot in hand is the last of the pool, and nothing else has changed.
 use Rattle.std.proofs.Common.{ℕ, [], ◌∷◌, ◌++◌, ap, ◌∙◌}
-use Rattle.vbr_slots.specs.Pools.{hand_without}
-use Rattle.vbr_at_table.proofs.HadSlots.{put_back}
+use Rattle.vbr_slots.specs.pools.Pools.{hand_without}
+use Rattle.vbr_at_table.proofs.own_slots.HadSlots.{put_back}
 use Rattle.vbr_at_table.proofs.hand.Hand.go_back.Goals as goal
 
 pub returns : goal.returns

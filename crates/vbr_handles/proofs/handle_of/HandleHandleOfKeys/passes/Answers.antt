@@ -1,5 +1,5 @@
 use Rattle.std.proofs.Common.{◌≡◌, IfSome, ap, ◌∙◌, subst}
-use Rattle.vbr_set.specs.Members.{MemberView}
+use Rattle.vbr_set.specs.calls.Members.{MemberView}
 use Rattle.vbr_handles.specs.Handles.{set_owner}
 use Rattle.vbr_handles.specs.declared.owner.Owner.{Owner}
 use Rattle.vbr_handles.proofs.handle_of.HandleHandleOfKeys.passes.Goals as goal

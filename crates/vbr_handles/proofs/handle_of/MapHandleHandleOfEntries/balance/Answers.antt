@@ -1,6 +1,6 @@
 use Rattle.std.proofs.Common.{ap, ◌∙◌, w64, arith, FitsSigned}
 use Rattle.std.proofs.lemmas.Int.{ints, to_z-of_z}
-use Rattle.vbr_set.specs.Members.{MemberView}
+use Rattle.vbr_set.specs.calls.Members.{MemberView}
 use Rattle.vbr_handles.specs.Handles.{map_owner}
 use Rattle.vbr_handles.specs.Shown.{balance_shown}
 use Rattle.vbr_handles.specs.declared.owner.Owner.{Owner}

@@ -1,13 +1,13 @@
 use Rattle.vbr_list.proofs.Names.{rules, refl, Bool, sym, subst, false}
 use Rattle.vbr_list.proofs.Names.{DecidesKey, Has, Held, IsUnmarked, knows, set_call}
-use Rattle.vbr_at_table.specs.Answering.{IsAnswered}
-use Rattle.vbr_list.specs.Walking.{LosesHeld}
-use Rattle.vbr_list.proofs.Disturbing.{loses_link}
-use Rattle.vbr_list.proofs.Going.{settles_step}
-use Rattle.vbr_list.proofs.Sights.{answers_bare, sight_answers, sight_held, sight_unmarked}
-use Rattle.vbr_at_table.specs.Held.{said_rollback}
-use Rattle.vbr_list.proofs.WideWords.{wide_present, wide_sighted}
-use Rattle.vbr_list.specs.Words.{wide_held, wide_sight}
+use Rattle.vbr_at_table.specs.answers.Answering.{IsAnswered}
+use Rattle.vbr_list.specs.walks.Walking.{LosesHeld}
+use Rattle.vbr_list.proofs.walks.Disturbing.{loses_link}
+use Rattle.vbr_list.proofs.pieces.Going.{settles_step}
+use Rattle.vbr_list.proofs.look_ups.Sights.{answers_bare, sight_answers, sight_held, sight_unmarked}
+use Rattle.vbr_at_table.specs.reads.Held.{said_rollback}
+use Rattle.vbr_list.proofs.pieces.WideWords.{wide_present, wide_sighted}
+use Rattle.vbr_list.specs.calls.Words.{wide_held, wide_sight}
 use Rattle.vbr_list.proofs.call.PendingCall.answer_has.Goals as goal
 
 pub confirm_look_up-outcome-requires-clause-held : goal.confirm_look_up-outcome-requires-clause-held

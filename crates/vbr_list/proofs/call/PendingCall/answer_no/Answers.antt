@@ -1,13 +1,13 @@
 use Rattle.vbr_list.proofs.Names.{rules, false, Bool, subst, sym, IfOk}
 use Rattle.vbr_list.proofs.Names.{FindsAnother, knows, Made, set_call}
-use Rattle.vbr_list.specs.Inserting.{denied}
-use Rattle.vbr_list.proofs.LostAnswers.{unanswered_by_cur, unanswered_by_pred}
-use Rattle.vbr_list.proofs.Moments.{key_found}
-use Rattle.vbr_list.proofs.Passing.{before_named}
-use Rattle.vbr_list.proofs.Sufficing.{each_error, on_ok}
-use Rattle.vbr_at_table.specs.Held.{said_rollback}
-use Rattle.vbr_list.proofs.WideWords.{wide_is}
-use Rattle.vbr_list.specs.Words.{wide_found, wide_held}
+use Rattle.vbr_list.specs.updates.Inserting.{denied}
+use Rattle.vbr_list.proofs.walks.LostAnswers.{unanswered_by_cur, unanswered_by_pred}
+use Rattle.vbr_list.proofs.walks.Moments.{key_found}
+use Rattle.vbr_list.proofs.look_ups.Passing.{before_named}
+use Rattle.vbr_list.proofs.inserts.Sufficing.{each_error, on_ok}
+use Rattle.vbr_at_table.specs.reads.Held.{said_rollback}
+use Rattle.vbr_list.proofs.pieces.WideWords.{wide_is}
+use Rattle.vbr_list.specs.calls.Words.{wide_found, wide_held}
 use Rattle.vbr_list.proofs.call.PendingCall.answer_no.Goals as goal
 
 pub confirm_absent-requires-clause-gap : goal.confirm_absent-requires-clause-gap

@@ -1,11 +1,11 @@
 use Rattle.vbr_list.proofs.Names.{◌≡◌, true, arith, sym, ◌∙◌}
 use Rattle.vbr_list.proofs.Names.{knows, quiet_on}
-use Rattle.vbr_list.specs.Wanted.{wants}
-use Rattle.vbr_list.proofs.FoundValues.{asks_read, asks_then, tells_since}
-use Rattle.vbr_list.proofs.ReadFirst.{found_lost_since}
-use Rattle.vbr_list.proofs.Sufficing.{any_error}
-use Rattle.vbr_list.proofs.Wants.{compare_few}
-use Rattle.vbr_list.specs.Words.{wide_found}
+use Rattle.vbr_list.specs.updates.Wanted.{wants}
+use Rattle.vbr_list.proofs.look_ups.FoundValues.{asks_read, asks_then, tells_since}
+use Rattle.vbr_list.proofs.look_ups.ReadFirst.{found_lost_since}
+use Rattle.vbr_list.proofs.inserts.Sufficing.{any_error}
+use Rattle.vbr_list.proofs.stores.Wants.{compare_few}
+use Rattle.vbr_list.specs.calls.Words.{wide_found}
 use Rattle.vbr_list.proofs.call.PendingCall.ask.Goals as goal
 
 pub returns-in_err-there-clause-asks : goal.returns-in_err-there-clause-asks

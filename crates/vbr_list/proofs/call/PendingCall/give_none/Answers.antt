@@ -1,12 +1,12 @@
 use Rattle.vbr_list.proofs.Names.{rules, refl, subst, sym, false, None}
 use Rattle.vbr_list.proofs.Names.{Insert, Op, set_call}
-use Rattle.vbr_at_table.specs.Answering.{IsAnswered}
-use Rattle.vbr_at_table.specs.Values.{IsOtherIn}
-use Rattle.vbr_list.proofs.Disturbing.{loses_link}
-use Rattle.vbr_list.proofs.Going.{settles_step}
-use Rattle.vbr_list.proofs.Sights.{answers_bare, none_given, op_gets, op_other}
-use Rattle.vbr_at_table.specs.Held.{said_rollback}
-use Rattle.vbr_list.specs.Words.{wide_held}
+use Rattle.vbr_at_table.specs.answers.Answering.{IsAnswered}
+use Rattle.vbr_at_table.specs.answers.Values.{IsOtherIn}
+use Rattle.vbr_list.proofs.walks.Disturbing.{loses_link}
+use Rattle.vbr_list.proofs.pieces.Going.{settles_step}
+use Rattle.vbr_list.proofs.look_ups.Sights.{answers_bare, none_given, op_gets, op_other}
+use Rattle.vbr_at_table.specs.reads.Held.{said_rollback}
+use Rattle.vbr_list.specs.calls.Words.{wide_held}
 use Rattle.vbr_list.proofs.call.PendingCall.give_none.Goals as goal
 
 pub confirm_absent-outcome-requires-clause-gap : goal.confirm_absent-outcome-requires-clause-gap

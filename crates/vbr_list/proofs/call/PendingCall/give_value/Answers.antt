@@ -1,18 +1,18 @@
 use Rattle.vbr_list.proofs.Names.{refl, ◌≡◌, Some, rules, arith, sym, ap, ◌∙◌, subst}
 use Rattle.vbr_list.proofs.Names.{adds_on, AddsAnswer, answer_on, Call, Get, held_kept, knows, loads_on, quiet_on}
 use Rattle.vbr_list.proofs.Names.{Start}
-use Rattle.vbr_list.specs.Told.{given_call, given_in}
-use Rattle.vbr_list.specs.Budgets.{steps_to_value_of, steps_where}
-use Rattle.vbr_list.proofs.Going.{goes_counted}
-use Rattle.vbr_list.proofs.Disturbing.{loses_later, loses_link, loses_value}
-use Rattle.vbr_list.proofs.Reaching.{key_kept}
-use Rattle.vbr_list.proofs.Sights.{keyed_slot}
-use Rattle.vbr_list.proofs.Sufficing.{any_error}
-use Rattle.vbr_list.proofs.Told.{given_kept, told_since}
-use Rattle.vbr_list.proofs.ValueReads.{few_read, settles_read, steps_read}
-use Rattle.vbr_list.proofs.EntryAnswers.{held_entry_since}
-use Rattle.vbr_at_table.specs.Held.{said_rollback}
-use Rattle.vbr_list.specs.Words.{wide_held}
+use Rattle.vbr_list.specs.calls.Told.{given_call, given_in}
+use Rattle.vbr_list.specs.calls.Budgets.{steps_to_value_of, steps_where}
+use Rattle.vbr_list.proofs.pieces.Going.{goes_counted}
+use Rattle.vbr_list.proofs.walks.Disturbing.{loses_later, loses_link, loses_value}
+use Rattle.vbr_list.proofs.walks.Reaching.{key_kept}
+use Rattle.vbr_list.proofs.look_ups.Sights.{keyed_slot}
+use Rattle.vbr_list.proofs.inserts.Sufficing.{any_error}
+use Rattle.vbr_list.proofs.pieces.Told.{given_kept, told_since}
+use Rattle.vbr_list.proofs.look_ups.ValueReads.{few_read, settles_read, steps_read}
+use Rattle.vbr_list.proofs.named_entries.EntryAnswers.{held_entry_since}
+use Rattle.vbr_at_table.specs.reads.Held.{said_rollback}
+use Rattle.vbr_list.specs.calls.Words.{wide_held}
 use Rattle.vbr_list.proofs.call.PendingCall.give_value.Goals as goal
 
 pub value_if_any-read-requires-clause-held : goal.value_if_any-read-requires-clause-held

@@ -1,21 +1,21 @@
 use Rattle.vbr_list.proofs.Names.{◌≡◌, ℕ, ◌+◌, ◌<◌, Bool, true, List, Some, length, rules, arith, refl, inl, sym, ap}
 use Rattle.vbr_list.proofs.Names.{◌∙◌, subst}
-use Rattle.vbr_list.proofs.Names.{CountsSteps, Ghosts, had_spent, HandView, knows, POOL, steps_to_update}
+use Rattle.vbr_list.proofs.Names.{begins_refl, CountsSteps, Ghosts, had_spent, HandView, knows, POOL, steps_to_update}
 use Rattle.vbr_list.proofs.Names.{steps_to_value}
-use Rattle.vbr_at_table.specs.Exchanges.{StoresIn}
-use Rattle.vbr_list.specs.Pieces.{IsSameCall, pass_in, trace_in}
-use Rattle.vbr_list.specs.Places.{IsEnd}
-use Rattle.vbr_list.specs.Settling.{MaySettle}
+use Rattle.vbr_at_table.specs.answers.Exchanges.{StoresIn}
+use Rattle.vbr_list.specs.calls.Pieces.{IsSameCall, pass_in, trace_in}
+use Rattle.vbr_list.specs.walks.Places.{IsEnd}
+use Rattle.vbr_list.specs.updates.Settling.{MaySettle}
 use Rattle.vbr_list.specs.declared.call.PendingCall.{PendingCall}
-use Rattle.vbr_list.proofs.Disturbing.{lost_place}
-use Rattle.vbr_list.proofs.FoundValues.{insert_told}
-use Rattle.vbr_list.proofs.Going.{counts_step, took_same}
-use Rattle.vbr_list.proofs.Linking.{succ_found}
-use Rattle.vbr_list.proofs.Moments.{stands_before}
-use Rattle.vbr_list.proofs.Stores.{had_same}
-use Rattle.vbr_at_table.specs.Held.{said_succ}
-use Rattle.vbr_list.proofs.WideWords.{wide_lent}
-use Rattle.vbr_list.specs.Words.{wide_found, wide_held}
+use Rattle.vbr_list.proofs.walks.Disturbing.{lost_place}
+use Rattle.vbr_list.proofs.look_ups.FoundValues.{insert_told}
+use Rattle.vbr_list.proofs.pieces.Going.{counts_step, took_same}
+use Rattle.vbr_list.proofs.inserts.Linking.{succ_found}
+use Rattle.vbr_list.proofs.walks.Moments.{stands_before}
+use Rattle.vbr_list.proofs.stores.Stores.{had_same}
+use Rattle.vbr_at_table.specs.reads.Held.{said_succ}
+use Rattle.vbr_list.proofs.pieces.WideWords.{wide_lent}
+use Rattle.vbr_list.specs.calls.Words.{wide_found, wide_held}
 use Rattle.vbr_list.proofs.call.PendingCall.link_found.Goals as goal
 
 pub update-requires-clause-gap : goal.update-requires-clause-gap
@@ -72,17 +72,27 @@ returns-in-Err-clause-had g c =
     had_same c.args.self.now.at.stepper.now c.update.new.at.stepper.now c.update.ensures.stores.pool
     (lost.hand.slot ∙ ap (λ (h : HandView). Some h.slot) lost.same ∙ sym c.requires.hand.is.slot)
 
-pub returns-in-Ok-clause-stored : goal.returns-in-Ok-clause-stored
-returns-in-Ok-clause-stored g c =
+pub returns-in-Ok-clause-linked : goal.returns-in-Ok-clause-linked
+returns-in-Ok-clause-linked g c =
     let p = c.args.self.now.at.stepper.now.trace in
+    let q = c.update.new.at.stepper.now.trace in
     let made = c.in-Ok.ensures.inserted in
     record {
-      stores =
-          record {
-            made = insert_told p.start p.who c.args.self.now.key c.args.value c.requires.knows.values made.made;
-            spent = made.spent;
-          };
-      leaves = λ yes room. absurd (cc);
+      stores = record {
+        stores =
+            record {
+              made = insert_told p.start p.who c.args.self.now.key c.args.value c.requires.knows.values made.made;
+              spent = made.spent;
+            };
+        leaves = λ yes room. absurd (cc);
+      };
+      slot = record {
+        ended = q;
+        same = made.made.same;
+        to = begins_refl q.seen;
+        published = c.in-Ok.ensures.published;
+      };
+      paid = record { few = omega arith; leaves = λ yes room. absurd (cc) };
     }
 
 pub returns-in-Err-clause-back : goal.returns-in-Err-clause-back
@@ -90,11 +100,14 @@ returns-in-Err-clause-back g c =
     let lost = c.in-Err.ensures.lost in
     let P : List ℕ → Type 0 = λ l. length l < POOL in
     record {
-      given = record {
-        quiet = lost.exchange.quiet;
-        hand = record { is = lost.hand; room = subst P (sym c.update.ensures.stores.pool) c.requires.hand.room };
-        loses = inl (lost_place (wide_held c.args.self.now c.args.found.now.pred) _ lost.exchange.lost
-            lost.exchange.unchanged);
+      settles = record {
+        given = record {
+          quiet = lost.exchange.quiet;
+          hand = record { is = lost.hand; room = subst P (sym c.update.ensures.stores.pool) c.requires.hand.room };
+          loses = inl (lost_place (wide_held c.args.self.now c.args.found.now.pred) _ lost.exchange.lost
+              lost.exchange.unchanged);
+        };
+        few = omega arith;
       };
-      few = omega arith;
+      same = lost.same;
     }

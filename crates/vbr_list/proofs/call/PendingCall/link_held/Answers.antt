@@ -1,18 +1,19 @@
 use Rattle.vbr_list.proofs.Names.{◌≡◌, ◌+◌, ◌≤◌, ℕ, Bool, false, Some, rules, sym, ap, ◌∙◌, subst, arith}
 use Rattle.vbr_list.proofs.Names.{inl}
-use Rattle.vbr_list.proofs.Names.{had_grown, HandView, Insert, knows, Made, set_call, Start, steps_to_update}
-use Rattle.vbr_list.specs.Inserting.{denied}
-use Rattle.vbr_list.proofs.Disturbing.{lost_place}
-use Rattle.vbr_list.proofs.HeldInserts.{held_counts, held_denied, held_linked, held_none, held_tired}
-use Rattle.vbr_list.proofs.Inserts.{later, same_later}
-use Rattle.vbr_list.proofs.Linking.{counts_until, denied_then, gap_found, has_denied, has_until}
-use Rattle.vbr_list.proofs.Linking.{lost_then, none_until, succ_found, takes_on}
-use Rattle.vbr_list.proofs.Preparing.{if_failed, if_went}
-use Rattle.vbr_list.proofs.Told.{told_as, told_bare}
-use Rattle.vbr_list.proofs.ValueReads.{few_to_update}
-use Rattle.vbr_at_table.specs.Held.{said_succ}
-use Rattle.vbr_list.proofs.WideWords.{wide_lent}
-use Rattle.vbr_list.specs.Words.{wide_found}
+use Rattle.vbr_list.proofs.Names.{had_grown, had_on, had_spent, HandView, Insert, knows, Made, set_call, Start}
+use Rattle.vbr_list.proofs.Names.{steps_to_update}
+use Rattle.vbr_list.specs.updates.Inserting.{denied}
+use Rattle.vbr_list.proofs.walks.Disturbing.{lost_place}
+use Rattle.vbr_list.proofs.inserts.HeldInserts.{held_counts, held_denied, held_linked, held_none, held_tired}
+use Rattle.vbr_list.proofs.inserts.Inserts.{later, same_later}
+use Rattle.vbr_list.proofs.inserts.Linking.{counts_until, denied_then, gap_found, had_until, has_denied, has_until}
+use Rattle.vbr_list.proofs.inserts.Linking.{lost_then, none_until, succ_found, takes_on}
+use Rattle.vbr_list.proofs.inserts.Preparing.{if_failed, if_went}
+use Rattle.vbr_list.proofs.pieces.Told.{told_as, told_bare}
+use Rattle.vbr_list.proofs.look_ups.ValueReads.{few_to_update}
+use Rattle.vbr_at_table.specs.reads.Held.{said_succ}
+use Rattle.vbr_list.proofs.pieces.WideWords.{wide_lent}
+use Rattle.vbr_list.specs.calls.Words.{wide_found}
 use Rattle.vbr_list.proofs.call.PendingCall.link_held.Goals as goal
 
 -- the steps that an update makes
@@ -159,3 +160,26 @@ loop-found-preserved g c =
           found c.in-Some.ensures.found (inl (lost_place found.pred _ lost.exchange.lost lost.exchange.unchanged)),
       lost.same ∙ c.loop-found.invariant.1,
     )
+
+-- ---- the slots that the pass had
+
+pub returns-in_default-clause-had : goal.returns-in_default-clause-had
+returns-in_default-clause-had g c = had_until c.loop-found.invariant.0 c.reach.ensures.goes
+
+pub returns-then-found-clause-had : goal.returns-then-found-clause-had
+returns-then-found-clause-had g c =
+    let keeps = c.answer_no.ensures.keeps in
+    let d = c.reach.new.self.at.stepper.now in
+    let e = c.answer_no.new.self.at.stepper.now in
+    had_on c.args.self.now.at.stepper.now d e (had_until c.loop-found.invariant.0 c.reach.ensures.goes)
+    (had_grown d e keeps.takes_no_slot.grows keeps.own.hand)
+
+pub returns-in-Ok-clause-had : goal.returns-in-Ok-clause-had
+returns-in-Ok-clause-had g c =
+    let so = c.loop-found.invariant.0 in
+    let went = c.reach.ensures.goes in
+    let had = had_until so went in
+    let spent =
+    had_spent c.reach.new.self.at.stepper.now c.update.new.at.stepper.now c.loop-found.hand.slot
+    (has_until so went).is.slot c.update.ensures.stores.pool in
+    (spent.0, λ slot has other. spent.1 slot (had slot has) other)

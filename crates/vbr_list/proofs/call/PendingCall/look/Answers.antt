@@ -1,14 +1,14 @@
 use Rattle.vbr_list.proofs.Names.{ℕ, ◌+◌, ◌∙◌, subst}
 use Rattle.vbr_list.proofs.Names.{begins_run, disturbances_grow, since}
-use Rattle.vbr_list.specs.Disturbed.{disturbed_at}
-use Rattle.vbr_list.specs.Places.{sighted}
-use Rattle.vbr_list.specs.Walking.{RepeatsIn}
-use Rattle.vbr_list.proofs.Walking.{last_walk, lost_on, repeated_none_in, stood_from, walks_again}
-use Rattle.vbr_list.proofs.LostWalks.{run_whole}
-use Rattle.vbr_list.proofs.Going.{call_on, call_refl, goes_further, within_call}
-use Rattle.vbr_list.proofs.Observing.{observes_on}
-use Rattle.vbr_list.proofs.Passing.{peeks_on, peeks_refl}
-use Rattle.vbr_list.specs.Words.{wide_sight}
+use Rattle.vbr_list.specs.walks.Disturbed.{disturbed_at}
+use Rattle.vbr_list.specs.walks.Places.{sighted}
+use Rattle.vbr_list.specs.walks.Walking.{RepeatsIn}
+use Rattle.vbr_list.proofs.walks.Walking.{last_walk, lost_on, repeated_none_in, stood_from, walks_again}
+use Rattle.vbr_list.proofs.walks.LostWalks.{run_whole}
+use Rattle.vbr_list.proofs.pieces.Going.{call_on, call_refl, goes_further, within_call}
+use Rattle.vbr_list.proofs.pieces.Observing.{observes_on}
+use Rattle.vbr_list.proofs.look_ups.Passing.{peeks_on, peeks_refl}
+use Rattle.vbr_list.specs.calls.Words.{wide_sight}
 use Rattle.vbr_list.proofs.call.PendingCall.look.Goals as goal
 
 pub loop-sight-init : goal.loop-sight-init

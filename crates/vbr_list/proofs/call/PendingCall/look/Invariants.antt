@@ -1,6 +1,6 @@
 use Rattle.vbr_list.proofs.Names.{◌-◌}
-use Rattle.vbr_list.specs.Pieces.{IsSameCall, Peeks}
-use Rattle.vbr_list.proofs.Walking.{HasRepeatedIn}
+use Rattle.vbr_list.specs.calls.Pieces.{IsSameCall, Peeks}
+use Rattle.vbr_list.proofs.walks.Walking.{HasRepeatedIn}
 use Rattle.vbr_list.proofs.call.PendingCall.look.Given as goal
 
 abbrev pub invariant-loop-sight : goal.invariant-loop-sight

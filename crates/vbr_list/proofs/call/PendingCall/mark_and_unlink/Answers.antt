@@ -3,26 +3,27 @@ use Rattle.vbr_list.proofs.Names.{◌⊎◌}
 use Rattle.vbr_list.proofs.Names.{At, begins_refl, counts_on, Get, held_kept, KeyAt, knows, made_then, Names, no_room}
 use Rattle.vbr_list.proofs.Names.{quiet_on}
 use Rattle.vbr_list.proofs.Names.{Start}
-use Rattle.vbr_list.specs.Pieces.{Goes}
-use Rattle.vbr_list.specs.Told.{given_call}
-use Rattle.vbr_list.specs.Removing.{RemovesLate, RemovesSoon}
-use Rattle.vbr_list.specs.Budgets.{steps_to_value_of, steps_where}
-use Rattle.vbr_list.proofs.Clearing.{leaves_clear}
-use Rattle.vbr_list.proofs.Disturbing.{moves_epoch, moves_on, run_at}
-use Rattle.vbr_list.proofs.Expected.{kept_expected, kept_gets, taken_removes, told_op}
-use Rattle.vbr_list.proofs.Going.{by_either, call_on, goes_counted}
-use Rattle.vbr_list.proofs.KeptHands.{hand_on}
-use Rattle.vbr_list.proofs.Marks.{apart, marks_behind}
-use Rattle.vbr_list.proofs.Moments.{cur_is, key_found, key_found_since}
-use Rattle.vbr_list.proofs.FoundValues.{located_on, value_found}
-use Rattle.vbr_list.proofs.Marking.{mark_made, mark_told, marked_found, pred_marked}
-use Rattle.vbr_list.proofs.ReadFirst.{cur_lost_since, found_lost_since}
-use Rattle.vbr_list.proofs.Reaching.{key_kept, slot_same}
-use Rattle.vbr_list.proofs.Sufficing.{any_error}
-use Rattle.vbr_list.proofs.Told.{given_kept, told_as, told_since}
-use Rattle.vbr_list.proofs.ValueReads.{few_read, read_then_step, settles_read, slot_at, steps_read, valued_since}
-use Rattle.vbr_list.proofs.WideWords.{wide_is}
-use Rattle.vbr_list.specs.Words.{wide_found, wide_held}
+use Rattle.vbr_list.specs.calls.Pieces.{Goes}
+use Rattle.vbr_list.specs.calls.Told.{given_call}
+use Rattle.vbr_list.specs.updates.Removing.{RemovesLate, RemovesSoon}
+use Rattle.vbr_list.specs.calls.Budgets.{steps_to_value_of, steps_where}
+use Rattle.vbr_list.proofs.walks.Clearing.{leaves_clear}
+use Rattle.vbr_list.proofs.walks.Disturbing.{moves_epoch, moves_on, run_at}
+use Rattle.vbr_list.proofs.removes.Expected.{kept_expected, kept_gets, taken_removes, told_op}
+use Rattle.vbr_list.proofs.pieces.Going.{by_either, call_on, goes_counted}
+use Rattle.vbr_list.proofs.pieces.KeptHands.{hand_on}
+use Rattle.vbr_list.proofs.removes.Marks.{apart, marks_behind}
+use Rattle.vbr_list.proofs.walks.Moments.{cur_is, key_found, key_found_since}
+use Rattle.vbr_list.proofs.look_ups.FoundValues.{located_on, value_found}
+use Rattle.vbr_list.proofs.removes.Marking.{mark_made, mark_told, marked_found, pred_marked}
+use Rattle.vbr_list.proofs.look_ups.ReadFirst.{cur_lost_since, found_lost_since}
+use Rattle.vbr_list.proofs.walks.Reaching.{key_kept, slot_same}
+use Rattle.vbr_list.proofs.inserts.Sufficing.{any_error}
+use Rattle.vbr_list.proofs.pieces.Told.{given_kept, told_as, told_since}
+use Rattle.vbr_list.proofs.look_ups.ValueReads.{few_read, read_then_step, settles_read, slot_at, steps_read}
+use Rattle.vbr_list.proofs.look_ups.ValueReads.{valued_since}
+use Rattle.vbr_list.proofs.pieces.WideWords.{wide_is}
+use Rattle.vbr_list.specs.calls.Words.{wide_found, wide_held}
 use Rattle.vbr_list.proofs.call.PendingCall.mark_and_unlink.Goals as goal
 
 pub value_if_any-read-requires-clause-held : goal.value_if_any-read-requires-clause-held

@@ -1,20 +1,21 @@
 use Rattle.vbr_list.proofs.Names.{◌≡◌, ◌+◌, true, sym, ap, ◌∙◌, subst, arith, ◌<◌}
 use Rattle.vbr_list.proofs.Names.{counts_none, Ghosts, PassLaw, PIECE, quiet_on, quiet_refl, Start}
-use Rattle.vbr_list.specs.Pieces.{GoesOn, pass_in, trace_in}
-use Rattle.vbr_list.specs.Settling.{MeetTires, Meeting, has_wanted}
-use Rattle.vbr_list.specs.Walking.{WalksAgain}
-use Rattle.vbr_list.specs.Wanted.{WasWanted, steps_to_compare}
+use Rattle.vbr_list.specs.calls.Pieces.{GoesOn, pass_in, trace_in}
+use Rattle.vbr_list.specs.updates.Settling.{MeetTires, Meeting, has_wanted}
+use Rattle.vbr_list.specs.walks.Walking.{WalksAgain}
+use Rattle.vbr_list.specs.updates.Wanted.{WasWanted, steps_to_compare}
 use Rattle.vbr_list.specs.declared.call.PendingCall.{PendingCall}
 use Rattle.vbr_list.specs.declared.wanted.Wanted.{Wanted}
-use Rattle.vbr_list.proofs.FoundValues.{tells_since}
-use Rattle.vbr_list.proofs.Going.{call_on, call_refl, within_call}
-use Rattle.vbr_list.proofs.KeptHands.{hand_on, hand_refl}
-use Rattle.vbr_list.proofs.Linking.{located}
-use Rattle.vbr_list.proofs.LostWalks.{found_in, HasSearched, searched_for, searched_more, searched_on, searched_until}
-use Rattle.vbr_list.proofs.LostWalks.{short_of, so_in}
-use Rattle.vbr_list.proofs.Preparing.{steps_gone, within_on}
-use Rattle.vbr_list.proofs.Wants.{met_as, was_compared, was_plain}
-use Rattle.vbr_list.specs.Words.{wide_found}
+use Rattle.vbr_list.proofs.look_ups.FoundValues.{tells_since}
+use Rattle.vbr_list.proofs.pieces.Going.{call_on, call_refl, within_call}
+use Rattle.vbr_list.proofs.pieces.KeptHands.{hand_on, hand_refl}
+use Rattle.vbr_list.proofs.inserts.Linking.{located}
+use Rattle.vbr_list.proofs.walks.LostWalks.{found_in, HasSearched, searched_for, searched_more, searched_on}
+use Rattle.vbr_list.proofs.walks.LostWalks.{searched_until}
+use Rattle.vbr_list.proofs.walks.LostWalks.{short_of, so_in}
+use Rattle.vbr_list.proofs.inserts.Preparing.{steps_gone, within_on}
+use Rattle.vbr_list.proofs.stores.Wants.{met_as, was_compared, was_plain}
+use Rattle.vbr_list.specs.calls.Words.{wide_found}
 use Rattle.vbr_list.proofs.call.PendingCall.meet.Goals as goal
 
 pub ask-requires-clause-values : goal.ask-requires-clause-values

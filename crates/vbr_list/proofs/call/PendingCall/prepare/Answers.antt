@@ -1,24 +1,25 @@
 use Rattle.vbr_list.proofs.Names.{◌+◌, Bool, false, inl, sym, ◌∙◌, subst, arith, err_from_is_err_and, None, ◌<◌, ◌≡◌}
 use Rattle.vbr_list.proofs.Names.{gained, Ghosts, Made, OutOfSteps, PassLaw, PassView, PIECE, Quiet, quiet_on, set_call}
 use Rattle.vbr_list.proofs.Names.{steps_to_take_among, TriesOnlyWhere, TriesWhereEmpty, WasSo}
-use Rattle.vbr_list.specs.Disturbed.{steps_for_slot}
-use Rattle.vbr_list.specs.Inserting.{PreparesNone, denied}
-use Rattle.vbr_list.specs.Pieces.{GoesOn, pass_in, trace_in}
-use Rattle.vbr_list.specs.Traversing.{SearchFinds}
-use Rattle.vbr_list.specs.Walking.{WalksAgain}
+use Rattle.vbr_list.specs.walks.Disturbed.{steps_for_slot}
+use Rattle.vbr_list.specs.updates.Inserting.{PreparesNone, denied}
+use Rattle.vbr_list.specs.calls.Pieces.{GoesOn, pass_in, trace_in}
+use Rattle.vbr_list.specs.walks.Traversing.{SearchFinds}
+use Rattle.vbr_list.specs.walks.Walking.{WalksAgain}
 use Rattle.vbr_list.specs.declared.call.PendingCall.{PendingCall}
 use Rattle.vbr_list.specs.declared.found.Found.{Found}
-use Rattle.vbr_list.proofs.Going.{settles_step}
-use Rattle.vbr_list.proofs.Walking.{in_vain}
-use Rattle.vbr_list.proofs.LostWalks.{HasSearched, searched_for, searched_more, searched_on, searched_until, short_of}
-use Rattle.vbr_list.proofs.LostWalks.{so_in}
-use Rattle.vbr_list.proofs.Moments.{so_before}
-use Rattle.vbr_list.proofs.Preparing.{if_err, if_ok, made_since, prepares_answered, prepares_on, prepares_still}
-use Rattle.vbr_list.proofs.Preparing.{steps_gone, takes_gone, tries_after}
-use Rattle.vbr_list.proofs.Sufficing.{take_least, taken_after}
+use Rattle.vbr_list.proofs.pieces.Going.{settles_step}
+use Rattle.vbr_list.proofs.walks.Walking.{in_vain}
+use Rattle.vbr_list.proofs.walks.LostWalks.{HasSearched, searched_for, searched_more, searched_on, searched_until}
+use Rattle.vbr_list.proofs.walks.LostWalks.{short_of}
+use Rattle.vbr_list.proofs.walks.LostWalks.{so_in}
+use Rattle.vbr_list.proofs.walks.Moments.{so_before}
+use Rattle.vbr_list.proofs.inserts.Preparing.{if_err, if_ok, made_since, prepares_answered, prepares_on, prepares_still}
+use Rattle.vbr_list.proofs.inserts.Preparing.{steps_gone, takes_gone, tries_after}
+use Rattle.vbr_list.proofs.inserts.Sufficing.{take_least, taken_after}
 use Rattle.vbr_list.specs.declared.wanted.Wanted.TheVariants.{Absent}
-use Rattle.vbr_list.proofs.Wants.{wanted_for}
-use Rattle.vbr_list.specs.Words.{wide_found}
+use Rattle.vbr_list.proofs.stores.Wants.{wanted_for}
+use Rattle.vbr_list.specs.calls.Words.{wide_found}
 use Rattle.vbr_list.proofs.call.PendingCall.prepare.Goals as goal
 
 pub loop-found-preserved : goal.loop-found-preserved

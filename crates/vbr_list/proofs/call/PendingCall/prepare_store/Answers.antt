@@ -1,16 +1,16 @@
 use Rattle.vbr_list.proofs.Names.{◌+◌, ◌∙◌, inl, arith, err_from_is_err_and}
 use Rattle.vbr_list.proofs.Names.{gained, Ghosts, PassView, Quiet, quiet_on, steps_to_take_among, TriesOnlyWhere}
 use Rattle.vbr_list.proofs.Names.{TriesWhereEmpty}
-use Rattle.vbr_list.proofs.LostWalks.{searched_until}
-use Rattle.vbr_list.specs.Disturbed.{steps_to_prepare}
-use Rattle.vbr_list.specs.Pieces.{pass_in, trace_in}
-use Rattle.vbr_list.specs.Settling.{Meeting, MeetsOther, MeetsWanted}
-use Rattle.vbr_list.specs.Wanted.{WasWanted, steps_to_compare}
+use Rattle.vbr_list.proofs.walks.LostWalks.{searched_until}
+use Rattle.vbr_list.specs.walks.Disturbed.{steps_to_prepare}
+use Rattle.vbr_list.specs.calls.Pieces.{pass_in, trace_in}
+use Rattle.vbr_list.specs.updates.Settling.{Meeting, MeetsOther, MeetsWanted}
+use Rattle.vbr_list.specs.updates.Wanted.{WasWanted, steps_to_compare}
 use Rattle.vbr_list.specs.declared.call.PendingCall.{PendingCall}
 use Rattle.vbr_list.specs.declared.wanted.Wanted.{Wanted}
-use Rattle.vbr_list.proofs.Preparing.{prepares_none, prepares_on, takes_gone, tries_after}
-use Rattle.vbr_list.proofs.Sufficing.{take_least, taken_after}
-use Rattle.vbr_list.proofs.Wants.{met_goes, searches_more_steps, store_in_vain, wanted_for, was_before}
+use Rattle.vbr_list.proofs.inserts.Preparing.{prepares_none, prepares_on, takes_gone, tries_after}
+use Rattle.vbr_list.proofs.inserts.Sufficing.{take_least, taken_after}
+use Rattle.vbr_list.proofs.stores.Wants.{met_goes, searches_more_steps, store_in_vain, wanted_for, was_before}
 use Rattle.vbr_list.proofs.call.PendingCall.prepare_store.Goals as goal
 
 pub returns-in_default-clause-prepares : goal.returns-in_default-clause-prepares

@@ -1,10 +1,10 @@
 use Rattle.vbr_list.proofs.Names.{ap, arith, ◌∙◌}
 use Rattle.vbr_list.proofs.Names.{none_on, Start}
-use Rattle.vbr_list.proofs.Going.{call_on, within_call}
-use Rattle.vbr_list.proofs.Linking.{begun, counts_until, has_until, located, lost_then, none_until, quiet_until}
-use Rattle.vbr_list.proofs.Preparing.{within_on}
-use Rattle.vbr_list.proofs.SettledSoon.{held_stores, held_tires, takes_settled}
-use Rattle.vbr_list.specs.Words.{wide_found}
+use Rattle.vbr_list.proofs.pieces.Going.{call_on, within_call}
+use Rattle.vbr_list.proofs.inserts.Linking.{begun, counts_until, has_until, located, lost_then, none_until, quiet_until}
+use Rattle.vbr_list.proofs.inserts.Preparing.{within_on}
+use Rattle.vbr_list.proofs.stores.SettledSoon.{held_stores, held_tires, takes_settled}
+use Rattle.vbr_list.specs.calls.Words.{wide_found}
 use Rattle.vbr_list.proofs.call.PendingCall.put_by_held.Goals as goal
 
 pub returns-in_default-clause-counts : goal.returns-in_default-clause-counts

@@ -1,9 +1,9 @@
 use Rattle.vbr_list.proofs.Names.{ap, ◌∙◌, inl}
 use Rattle.vbr_list.proofs.Names.{Start}
-use Rattle.vbr_list.proofs.Disturbing.{moves_epoch, moves_on}
-use Rattle.vbr_list.proofs.FoundValues.{located_on, value_found}
-use Rattle.vbr_list.proofs.WideWords.{wide_is}
-use Rattle.vbr_list.specs.Words.{wide_found, wide_held}
+use Rattle.vbr_list.proofs.walks.Disturbing.{moves_epoch, moves_on}
+use Rattle.vbr_list.proofs.look_ups.FoundValues.{located_on, value_found}
+use Rattle.vbr_list.proofs.pieces.WideWords.{wide_is}
+use Rattle.vbr_list.specs.calls.Words.{wide_found, wide_held}
 use Rattle.vbr_list.proofs.call.PendingCall.read_found.Goals as goal
 
 pub returns-in-Ok-clause-found : goal.returns-in-Ok-clause-found

@@ -1,11 +1,11 @@
 use Rattle.vbr_list.proofs.Names.{ℕ, inl, inr, subst, ⊎_elim, arith, ◌∙◌}
 use Rattle.vbr_list.proofs.Names.{counts_on, had_grown, none_on, two_before}
-use Rattle.vbr_list.specs.Removing.{SearchesOn}
-use Rattle.vbr_list.specs.Replacing.{UnlinksAtOnce}
-use Rattle.vbr_list.proofs.Going.{call_on}
-use Rattle.vbr_list.proofs.Stores.{all_but_then}
-use Rattle.vbr_list.proofs.Sweeping.{leaves_replaced}
-use Rattle.vbr_list.specs.Words.{wide_held}
+use Rattle.vbr_list.specs.updates.Removing.{SearchesOn}
+use Rattle.vbr_list.specs.updates.Replacing.{UnlinksAtOnce}
+use Rattle.vbr_list.proofs.pieces.Going.{call_on}
+use Rattle.vbr_list.proofs.stores.Stores.{all_but_then}
+use Rattle.vbr_list.proofs.walks.Sweeping.{leaves_replaced}
+use Rattle.vbr_list.specs.calls.Words.{wide_held}
 use Rattle.vbr_list.proofs.call.PendingCall.replace_and_unlink.Goals as goal
 
 pub returns-clause-settles : goal.returns-clause-settles

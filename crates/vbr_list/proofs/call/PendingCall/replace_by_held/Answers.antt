@@ -3,27 +3,27 @@ use Rattle.vbr_list.proofs.Names.{inl, inr, ⊎_elim}
 use Rattle.vbr_list.proofs.Names.{counts_on, Ghosts, had_grown, had_on, IsRun, IsSame, IsStart, KeyAt, knows, MadeTwo}
 use Rattle.vbr_list.proofs.Names.{none_on}
 use Rattle.vbr_list.proofs.Names.{Quiet, quiet_on, Remove, Slot, Start, two_before}
-use Rattle.vbr_at_table.specs.Records.{PublishesSlot}
+use Rattle.vbr_at_table.specs.answers.Records.{PublishesSlot}
 use Rattle.vbr_at_table.specs.declared.held.Marked.{Marked}
-use Rattle.vbr_list.specs.OtherEntries.{ReplacedEntry}
-use Rattle.vbr_list.specs.Leaving.{LeavesReplaced}
-use Rattle.vbr_list.specs.Pieces.{trace_in}
-use Rattle.vbr_list.specs.Removing.{SearchesOn}
-use Rattle.vbr_list.specs.Replacing.{MayStoreNode, ReplacesFound, UnlinksAtOnce, UnlinksReplaced}
-use Rattle.vbr_list.specs.Settling.{MaySettle, SettlesIn}
-use Rattle.vbr_list.specs.Telling.{KnowsThere}
-use Rattle.vbr_list.specs.Told.{given_call, stored_call}
+use Rattle.vbr_list.specs.named_entries.OtherEntries.{ReplacedEntry}
+use Rattle.vbr_list.specs.walks.Leaving.{LeavesReplaced}
+use Rattle.vbr_list.specs.calls.Pieces.{trace_in}
+use Rattle.vbr_list.specs.updates.Removing.{SearchesOn}
+use Rattle.vbr_list.specs.updates.Replacing.{MayStoreNode, ReplacesFound, UnlinksAtOnce, UnlinksReplaced}
+use Rattle.vbr_list.specs.updates.Settling.{MaySettle, SettlesIn}
+use Rattle.vbr_list.specs.look_ups.Telling.{KnowsThere}
+use Rattle.vbr_list.specs.calls.Told.{given_call, stored_call}
 use Rattle.vbr_list.specs.declared.call.PendingCall.{PendingCall}
 use Rattle.vbr_list.specs.declared.found.Found.{Found}
-use Rattle.vbr_list.proofs.FoundValues.{few_where, read_goes}
-use Rattle.vbr_list.proofs.Going.{call_on}
-use Rattle.vbr_list.proofs.Publishing.{published_since}
-use Rattle.vbr_list.proofs.ReadFirst.{found_lost_since}
-use Rattle.vbr_list.proofs.ReplacedEntries.{entry_since}
-use Rattle.vbr_list.proofs.Settled.{settles_after, settles_since}
-use Rattle.vbr_list.proofs.Stores.{all_but_then, two_since, unless_since}
-use Rattle.vbr_list.proofs.Sweeping.{leaves_replaced, leaves_replaced_since}
-use Rattle.vbr_list.specs.Words.{wide_found, wide_marked}
+use Rattle.vbr_list.proofs.look_ups.FoundValues.{few_where, read_goes}
+use Rattle.vbr_list.proofs.pieces.Going.{call_on}
+use Rattle.vbr_list.proofs.named_entries.Publishing.{published_since}
+use Rattle.vbr_list.proofs.look_ups.ReadFirst.{found_lost_since}
+use Rattle.vbr_list.proofs.named_entries.ReplacedEntries.{entry_since}
+use Rattle.vbr_list.proofs.stores.Settled.{settles_after, settles_since}
+use Rattle.vbr_list.proofs.stores.Stores.{all_but_then, two_since, unless_since}
+use Rattle.vbr_list.proofs.walks.Sweeping.{leaves_replaced, leaves_replaced_since}
+use Rattle.vbr_list.specs.calls.Words.{wide_found, wide_marked}
 use Rattle.vbr_list.proofs.call.PendingCall.replace_by_held.Goals as goal
 
 -- a piece that stores a node may have settled the call

@@ -1,14 +1,14 @@
 use Rattle.vbr_list.proofs.Names.{ℕ, Some, arith, sym, subst, ◌∙◌}
 use Rattle.vbr_list.proofs.Names.{begins_refl, IsStart, none_on, Start}
-use Rattle.vbr_list.specs.OtherEntries.{ReplacedEntry, WasOther}
-use Rattle.vbr_list.proofs.Going.{call_on, within_call}
-use Rattle.vbr_list.proofs.Linking.{begun, counts_until, has_until, lost_then, none_until, quiet_until}
-use Rattle.vbr_list.proofs.OtherEntries.{other_since, was_other}
-use Rattle.vbr_list.proofs.Preparing.{within_on}
-use Rattle.vbr_list.proofs.ReplacedEntries.{entry_since}
-use Rattle.vbr_list.proofs.SettledSoon.{held_finds, held_stores, held_tires, takes_settled}
-use Rattle.vbr_list.proofs.WideWords.{node_bare, node_wide}
-use Rattle.vbr_list.specs.Words.{wide_found}
+use Rattle.vbr_list.specs.named_entries.OtherEntries.{ReplacedEntry, WasOther}
+use Rattle.vbr_list.proofs.pieces.Going.{call_on, within_call}
+use Rattle.vbr_list.proofs.inserts.Linking.{begun, counts_until, has_until, lost_then, none_until, quiet_until}
+use Rattle.vbr_list.proofs.named_entries.OtherEntries.{other_since, was_other}
+use Rattle.vbr_list.proofs.inserts.Preparing.{within_on}
+use Rattle.vbr_list.proofs.named_entries.ReplacedEntries.{entry_since}
+use Rattle.vbr_list.proofs.stores.SettledSoon.{held_finds, held_stores, held_tires, takes_settled}
+use Rattle.vbr_list.proofs.pieces.WideWords.{node_bare, node_wide}
+use Rattle.vbr_list.specs.calls.Words.{wide_found}
 use Rattle.vbr_list.proofs.call.PendingCall.replace_entry.Goals as goal
 
 pub returns-in_default-clause-counts : goal.returns-in_default-clause-counts

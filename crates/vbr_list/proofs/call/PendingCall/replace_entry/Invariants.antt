@@ -1,5 +1,5 @@
 use Rattle.vbr_list.proofs.Names.{◌≡◌, ◌-◌}
-use Rattle.vbr_list.proofs.Linking.{IsLinking}
+use Rattle.vbr_list.proofs.inserts.Linking.{IsLinking}
 use Rattle.vbr_list.proofs.call.PendingCall.replace_entry.Given as goal
 
 abbrev pub invariant-loop-found : goal.invariant-loop-found

@@ -4,25 +4,25 @@ use Rattle.vbr_list.proofs.Names.{At, counts_on, CountsSteps, Ghosts, had_spent,
 use Rattle.vbr_list.proofs.Names.{key_on, KeyAt, knows, Names, none_on, PassView, POOL, quiet_on, ReadsIn}
 use Rattle.vbr_list.proofs.Names.{replaced_since, ReplacedAt, Slot, Start, steps_to_birth, steps_to_update}
 use Rattle.vbr_list.proofs.Names.{steps_to_value, value_on}
-use Rattle.vbr_list.proofs.Going.{counts_step, goes_counted, took_same}
+use Rattle.vbr_list.proofs.pieces.Going.{counts_step, goes_counted, took_same}
 use Rattle.vbr_machine.specs.Membership.{BirthAt}
-use Rattle.vbr_at_table.specs.Exchanges.{StoresIn}
-use Rattle.vbr_at_table.specs.Values.{ValueAt}
+use Rattle.vbr_at_table.specs.answers.Exchanges.{StoresIn}
+use Rattle.vbr_at_table.specs.answers.Values.{ValueAt}
 use Rattle.vbr_at_table.specs.declared.held.Held.{Held}
-use Rattle.vbr_list.specs.Pieces.{IsSameCall, pass_in, trace_in}
-use Rattle.vbr_list.specs.Replacing.{MayStoreNode}
+use Rattle.vbr_list.specs.calls.Pieces.{IsSameCall, pass_in, trace_in}
+use Rattle.vbr_list.specs.updates.Replacing.{MayStoreNode}
 use Rattle.vbr_list.specs.declared.call.PendingCall.{PendingCall}
-use Rattle.vbr_list.proofs.Disturbing.{moves_epoch, moves_on, run_at}
-use Rattle.vbr_list.proofs.FoundValues.{some_birth, two_told}
-use Rattle.vbr_list.proofs.Marks.{apart, marks_behind}
-use Rattle.vbr_list.proofs.Moments.{cur_is, key_found}
-use Rattle.vbr_list.proofs.Reaching.{key_kept, pred_on, slot_same}
-use Rattle.vbr_list.proofs.ReadFirst.{cur_lost_since}
-use Rattle.vbr_list.proofs.Stores.{had_same, hand_kept, two_since}
-use Rattle.vbr_list.proofs.Publishing.{published_since}
-use Rattle.vbr_list.proofs.ReplacedEntries.{gone_entry}
-use Rattle.vbr_list.proofs.WideWords.{wide_is}
-use Rattle.vbr_list.specs.Words.{wide_found, wide_held}
+use Rattle.vbr_list.proofs.walks.Disturbing.{moves_epoch, moves_on, run_at}
+use Rattle.vbr_list.proofs.look_ups.FoundValues.{some_birth, two_told}
+use Rattle.vbr_list.proofs.removes.Marks.{apart, marks_behind}
+use Rattle.vbr_list.proofs.walks.Moments.{cur_is, key_found}
+use Rattle.vbr_list.proofs.walks.Reaching.{key_kept, pred_on, slot_same}
+use Rattle.vbr_list.proofs.look_ups.ReadFirst.{cur_lost_since}
+use Rattle.vbr_list.proofs.stores.Stores.{had_same, hand_kept, two_since}
+use Rattle.vbr_list.proofs.named_entries.Publishing.{published_since}
+use Rattle.vbr_list.proofs.named_entries.ReplacedEntries.{gone_entry}
+use Rattle.vbr_list.proofs.pieces.WideWords.{wide_is}
+use Rattle.vbr_list.specs.calls.Words.{wide_found, wide_held}
 use Rattle.vbr_list.proofs.call.PendingCall.replace_found.Goals as goal
 
 some_same : {A : Type 0} (x y : A) → Some x ≡ Some y → x ≡ y

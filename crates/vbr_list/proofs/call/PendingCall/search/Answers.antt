@@ -1,11 +1,11 @@
 use Rattle.vbr_list.proofs.Names.{ap, ◌∙◌, arith}
 use Rattle.vbr_list.proofs.Names.{bucket_of}
-use Rattle.vbr_list.specs.Disturbed.{disturbed_at}
-use Rattle.vbr_list.specs.Words.{wide_found}
-use Rattle.vbr_list.proofs.Going.{call_on, goes_further, tries_on, within_call}
-use Rattle.vbr_list.proofs.LostWalks.{searched_none}
-use Rattle.vbr_list.proofs.Moments.{found_since}
-use Rattle.vbr_list.proofs.Walking.{last_walk, lost_on, walks_again}
+use Rattle.vbr_list.specs.walks.Disturbed.{disturbed_at}
+use Rattle.vbr_list.specs.calls.Words.{wide_found}
+use Rattle.vbr_list.proofs.pieces.Going.{call_on, goes_further, tries_on, within_call}
+use Rattle.vbr_list.proofs.walks.LostWalks.{searched_none}
+use Rattle.vbr_list.proofs.walks.Moments.{found_since}
+use Rattle.vbr_list.proofs.walks.Walking.{last_walk, lost_on, walks_again}
 use Rattle.vbr_list.proofs.call.PendingCall.search.Goals as goal
 
 pub loop-found-init : goal.loop-found-init

@@ -1,10 +1,10 @@
 use Rattle.vbr_list.proofs.Names.{sym, subst, Option, knows}
-use Rattle.vbr_list.specs.Entries.{EntryAnswers}
-use Rattle.vbr_list.specs.LookUpPieces.{IsSightFor}
+use Rattle.vbr_list.specs.named_entries.Entries.{EntryAnswers}
+use Rattle.vbr_list.specs.look_ups.LookUpPieces.{IsSightFor}
 use Rattle.vbr_list.specs.declared.entries.Entry.{Entry}
 use Rattle.vbr_list.specs.declared.looking.Sight.{Sight}
-use Rattle.vbr_list.proofs.EntryAnswers.{entry_answers}
-use Rattle.vbr_list.specs.Words.{wide_held, wide_sight}
+use Rattle.vbr_list.proofs.named_entries.EntryAnswers.{entry_answers}
+use Rattle.vbr_list.specs.calls.Words.{wide_held, wide_sight}
 use Rattle.vbr_list.proofs.call.PendingCall.settle_entry.Goals as goal
 
 pub returns-in-Ok-clause-answers : goal.returns-in-Ok-clause-answers

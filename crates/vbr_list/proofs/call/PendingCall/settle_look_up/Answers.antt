@@ -1,8 +1,8 @@
 use Rattle.vbr_list.proofs.Names.{◌+◌, ◌≤◌, Bool, arith, sym, subst, IfOk}
-use Rattle.vbr_list.specs.LookUpPieces.{IsSightFor, LookUpAnswers, steps_to_answer}
+use Rattle.vbr_list.specs.look_ups.LookUpPieces.{IsSightFor, LookUpAnswers, steps_to_answer}
 use Rattle.vbr_list.specs.declared.looking.Sight.{Sight}
-use Rattle.vbr_list.proofs.Going.{ok_as}
-use Rattle.vbr_list.specs.Words.{wide_sight}
+use Rattle.vbr_list.proofs.pieces.Going.{ok_as}
+use Rattle.vbr_list.specs.calls.Words.{wide_sight}
 use Rattle.vbr_list.proofs.call.PendingCall.settle_look_up.Goals as goal
 
 pub give_value-requires-clause-sight : goal.give_value-requires-clause-sight

@@ -1,17 +1,17 @@
 use Rattle.vbr_list.proofs.Names.{◌≡◌, ◌<◌, Bool, true, false, rules, arith, sym, ◌∙◌, subst}
 use Rattle.vbr_list.proofs.Names.{counts_on, Get, had_back, had_grown, had_on, Made, none_on, quiet_on, Trace}
-use Rattle.vbr_list.specs.Settling.{SettlesIn}
-use Rattle.vbr_list.specs.Storing.{HasUnlessStored}
-use Rattle.vbr_list.specs.Told.{given_call}
-use Rattle.vbr_list.specs.Wanted.{wants}
-use Rattle.vbr_list.proofs.FoundValues.{asks_then, few_where, read_goes, tells_since}
-use Rattle.vbr_list.proofs.Going.{call_on}
-use Rattle.vbr_list.proofs.Linking.{takes_back}
-use Rattle.vbr_list.proofs.Preparing.{if_failed, if_went}
-use Rattle.vbr_list.proofs.Settled.{answers_since, change_answers, settles_after, settles_since, told_answers}
-use Rattle.vbr_list.proofs.ReadFirst.{found_lost_since}
-use Rattle.vbr_list.proofs.Stores.{hand_kept, replaced_where, unless_since}
-use Rattle.vbr_list.specs.Words.{wide_found}
+use Rattle.vbr_list.specs.updates.Settling.{SettlesIn}
+use Rattle.vbr_list.specs.updates.Storing.{HasUnlessStored}
+use Rattle.vbr_list.specs.calls.Told.{given_call}
+use Rattle.vbr_list.specs.updates.Wanted.{wants}
+use Rattle.vbr_list.proofs.look_ups.FoundValues.{asks_then, few_where, read_goes, tells_since}
+use Rattle.vbr_list.proofs.pieces.Going.{call_on}
+use Rattle.vbr_list.proofs.inserts.Linking.{takes_back}
+use Rattle.vbr_list.proofs.inserts.Preparing.{if_failed, if_went}
+use Rattle.vbr_list.proofs.stores.Settled.{answers_since, change_answers, settles_after, settles_since, told_answers}
+use Rattle.vbr_list.proofs.look_ups.ReadFirst.{found_lost_since}
+use Rattle.vbr_list.proofs.stores.Stores.{hand_kept, replaced_where, unless_since}
+use Rattle.vbr_list.specs.calls.Words.{wide_found}
 use Rattle.vbr_list.proofs.call.PendingCall.settle_store.Goals as goal
 
 pub returns-in_default-clause-had : goal.returns-in_default-clause-had

@@ -1,9 +1,9 @@
 use Rattle.vbr_list.proofs.Names.{rules, refl, false, Some}
-use Rattle.vbr_list.proofs.Disturbing.{loses_link}
-use Rattle.vbr_list.proofs.Going.{settles_step}
-use Rattle.vbr_list.proofs.Sights.{answers_bare}
-use Rattle.vbr_at_table.specs.Held.{said_rollback}
-use Rattle.vbr_list.specs.Words.{wide_held}
+use Rattle.vbr_list.proofs.walks.Disturbing.{loses_link}
+use Rattle.vbr_list.proofs.pieces.Going.{settles_step}
+use Rattle.vbr_list.proofs.look_ups.Sights.{answers_bare}
+use Rattle.vbr_at_table.specs.reads.Held.{said_rollback}
+use Rattle.vbr_list.specs.calls.Words.{wide_held}
 use Rattle.vbr_list.proofs.call.PendingCall.show_node.Goals as goal
 
 pub confirm_present-outcome-requires-clause-node : goal.confirm_present-outcome-requires-clause-node

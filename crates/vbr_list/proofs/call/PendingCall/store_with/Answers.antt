@@ -1,14 +1,14 @@
 use Rattle.vbr_list.proofs.Names.{◌+◌, Ok, refl, rules, ap, subst, sym, ◌∙◌, arith}
 use Rattle.vbr_list.proofs.Names.{Quiet, Refusal, Start, Trace}
-use Rattle.vbr_list.specs.Settling.{SearchesWith}
-use Rattle.vbr_list.specs.Storing.{replaced, stored_calls}
-use Rattle.vbr_list.proofs.Linking.{begun, counts_until, had_tired, had_until, links_then, links_tired}
-use Rattle.vbr_list.proofs.Linking.{located, lost_then, quiet_until}
-use Rattle.vbr_list.proofs.Preparing.{within_same}
-use Rattle.vbr_list.proofs.Settled.{answers_since}
-use Rattle.vbr_list.proofs.SettledSoon.{answers_then, searches_with, takes_settled}
-use Rattle.vbr_list.proofs.Stores.{had_since, hand_kept, has_made}
-use Rattle.vbr_list.specs.Words.{wide_found}
+use Rattle.vbr_list.specs.updates.Settling.{SearchesWith}
+use Rattle.vbr_list.specs.updates.Storing.{replaced, stored_calls}
+use Rattle.vbr_list.proofs.inserts.Linking.{begun, counts_until, had_tired, had_until, links_then, links_tired}
+use Rattle.vbr_list.proofs.inserts.Linking.{located, lost_then, quiet_until}
+use Rattle.vbr_list.proofs.inserts.Preparing.{within_same}
+use Rattle.vbr_list.proofs.stores.Settled.{answers_since}
+use Rattle.vbr_list.proofs.stores.SettledSoon.{answers_then, searches_with, takes_settled}
+use Rattle.vbr_list.proofs.stores.Stores.{had_since, hand_kept, has_made}
+use Rattle.vbr_list.specs.calls.Words.{wide_found}
 use Rattle.vbr_list.proofs.call.PendingCall.store_with.Goals as goal
 
 pub settle_store-requires-clause-found : goal.settle_store-requires-clause-found

@@ -1,14 +1,14 @@
 use Rattle.vbr_list.proofs.Names.{ℕ, Option, IfOk, subst}
 use Rattle.vbr_list.proofs.Names.{FindsAnother, Get, knows, Made}
-use Rattle.vbr_list.specs.Told.{given_call}
-use Rattle.vbr_list.proofs.LostAnswers.{unanswered_by_cur, unanswered_by_pred}
-use Rattle.vbr_list.proofs.Moments.{key_found}
-use Rattle.vbr_list.proofs.Passing.{before_named}
-use Rattle.vbr_list.proofs.Sufficing.{each_error, on_ok}
-use Rattle.vbr_list.proofs.FoundValues.{none_there, there_absent, there_value}
-use Rattle.vbr_at_table.specs.Held.{said_rollback}
-use Rattle.vbr_list.proofs.WideWords.{wide_is}
-use Rattle.vbr_list.specs.Words.{wide_found, wide_held}
+use Rattle.vbr_list.specs.calls.Told.{given_call}
+use Rattle.vbr_list.proofs.walks.LostAnswers.{unanswered_by_cur, unanswered_by_pred}
+use Rattle.vbr_list.proofs.walks.Moments.{key_found}
+use Rattle.vbr_list.proofs.look_ups.Passing.{before_named}
+use Rattle.vbr_list.proofs.inserts.Sufficing.{each_error, on_ok}
+use Rattle.vbr_list.proofs.look_ups.FoundValues.{none_there, there_absent, there_value}
+use Rattle.vbr_at_table.specs.reads.Held.{said_rollback}
+use Rattle.vbr_list.proofs.pieces.WideWords.{wide_is}
+use Rattle.vbr_list.specs.calls.Words.{wide_found, wide_held}
 use Rattle.vbr_list.proofs.call.PendingCall.tell_found.Goals as goal
 
 pub confirm_absent-requires-clause-gap : goal.confirm_absent-requires-clause-gap

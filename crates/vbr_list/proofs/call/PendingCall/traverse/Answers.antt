@@ -1,15 +1,14 @@
 use Rattle.vbr_list.proofs.Names.{rules, ◌≡◌, ◌+◌, ◌≤◌, true, false, sym, ap, ◌∙◌, refl, subst, arith, ◌==◌, is_some}
 use Rattle.vbr_list.proofs.Names.{bucket_of, held_of, HeldIn, knows, Link, link_of, PIECE, quiet_on, Start}
-use Rattle.vbr_list.specs.Walking.{Walks}
-use Rattle.vbr_list.specs.Words.{wide_held, wide_marked}
-use Rattle.vbr_list.proofs.Disturbing.{loses_place_disturb, moves_on, moves_on_disturb, run_at}
-use Rattle.vbr_list.proofs.Going.{call_on, goes_further, goes_on, tries_on, within_call}
-use Rattle.vbr_list.proofs.Moments.{cur_found}
-use Rattle.vbr_list.proofs.Reaching.{node_found, node_reached, pred_inside, pred_on, stood_since, traverses_on}
-use Rattle.vbr_list.proofs.Visits.{knows_now, met_knows, met_open, met_paid, met_past, met_to, paid_so_far}
-use Rattle.vbr_list.proofs.Visits.{stands_still_on, start_stops, starts_walk, visit_changes_none, visit_paid}
-use Rattle.vbr_list.proofs.Visits.{visited_run, walk_helped}
-use Rattle.vbr_list.proofs.WideWords.{layout_at}
+use Rattle.vbr_list.specs.calls.Words.{wide_held, wide_marked}
+use Rattle.vbr_list.proofs.walks.Disturbing.{loses_place_disturb, moves_on, moves_on_disturb, run_at}
+use Rattle.vbr_list.proofs.pieces.Going.{call_on, goes_further, goes_on, tries_on, within_call}
+use Rattle.vbr_list.proofs.walks.Moments.{cur_found}
+use Rattle.vbr_list.proofs.walks.Reaching.{node_found, node_reached, pred_inside, pred_on, stood_since, traverses_on}
+use Rattle.vbr_list.proofs.walks.Visits.{Walks, knows_now, met_knows, met_open, met_paid, met_past, met_to, paid_so_far}
+use Rattle.vbr_list.proofs.walks.Visits.{stands_still_on, start_stops, starts_walk, visit_changes_none, visit_paid}
+use Rattle.vbr_list.proofs.walks.Visits.{visited_run, walk_helped}
+use Rattle.vbr_list.proofs.pieces.WideWords.{layout_at}
 use Rattle.vbr_list.proofs.call.PendingCall.traverse.Goals as goal
 
 pub help-requires-clause-pred : goal.help-requires-clause-pred

@@ -1,8 +1,8 @@
 use Rattle.vbr_list.proofs.Names.{rules, arith, inl, inr, sym, ◌∙◌}
-use Rattle.vbr_list.proofs.Clearing.{clear_since}
-use Rattle.vbr_list.proofs.Going.{goes_on}
-use Rattle.vbr_list.proofs.Marks.{lost_unlinking}
-use Rattle.vbr_list.proofs.Preparing.{if_went}
+use Rattle.vbr_list.proofs.walks.Clearing.{clear_since}
+use Rattle.vbr_list.proofs.pieces.Going.{goes_on}
+use Rattle.vbr_list.proofs.removes.Marks.{lost_unlinking}
+use Rattle.vbr_list.proofs.inserts.Preparing.{if_went}
 use Rattle.vbr_list.proofs.call.PendingCall.unlink_marked.Goals as goal
 
 pub returns-then-is_err-clause-goes : goal.returns-then-is_err-clause-goes

@@ -1,9 +1,9 @@
 use Rattle.vbr_list.proofs.Names.{rules, arith, inl, inr, sym, ◌∙◌}
 use Rattle.vbr_list.proofs.Names.{no_room}
-use Rattle.vbr_list.proofs.Going.{call_refl, goes_on, goes_refl}
-use Rattle.vbr_list.proofs.Marks.{lost_unlinking}
-use Rattle.vbr_list.proofs.Preparing.{if_went}
-use Rattle.vbr_list.proofs.Sweeping.{swept_at}
+use Rattle.vbr_list.proofs.pieces.Going.{call_refl, goes_on, goes_refl}
+use Rattle.vbr_list.proofs.removes.Marks.{lost_unlinking}
+use Rattle.vbr_list.proofs.inserts.Preparing.{if_went}
+use Rattle.vbr_list.proofs.walks.Sweeping.{swept_at}
 use Rattle.vbr_list.proofs.call.PendingCall.unlink_replaced.Goals as goal
 
 pub returns-then-is_err-clause-goes : goal.returns-then-is_err-clause-goes

@@ -1,15 +1,15 @@
 use Rattle.vbr_list.proofs.Names.{rules, ◌≡◌, refl, sym, ap, ◌∙◌, subst, arith, eq-eqb, true, false, Option, ℕ, Some}
 use Rattle.vbr_list.proofs.Names.{None, ◌==◌, nat_tests, is_some}
 use Rattle.vbr_list.proofs.Names.{Held, Link, link_of}
-use Rattle.vbr_list.proofs.Following.{follows_head, follows_marked, follows_node, visit_lost}
-use Rattle.vbr_list.proofs.Going.{call_on, goes_further}
-use Rattle.vbr_list.proofs.Visits.{met_open, met_paid, paid_so_far, start_stops, stood_on}
-use Rattle.vbr_list.proofs.Observing.{observes_on}
-use Rattle.vbr_list.proofs.Reaching.{node_found}
-use Rattle.vbr_list.proofs.Passing.{absent_at_end, absent_before, present_at}
-use Rattle.vbr_list.proofs.Traversals.{Follows}
-use Rattle.vbr_list.specs.Words.{wide_held, wide_marked}
-use Rattle.vbr_list.proofs.WideWords.{layout_at}
+use Rattle.vbr_list.proofs.look_ups.Following.{follows_head, follows_marked, follows_node, visit_lost}
+use Rattle.vbr_list.proofs.pieces.Going.{call_on, goes_further}
+use Rattle.vbr_list.proofs.walks.Visits.{met_open, met_paid, paid_so_far, start_stops, stood_on}
+use Rattle.vbr_list.proofs.pieces.Observing.{observes_on}
+use Rattle.vbr_list.proofs.walks.Reaching.{node_found}
+use Rattle.vbr_list.proofs.look_ups.Passing.{absent_at_end, absent_before, present_at}
+use Rattle.vbr_list.proofs.walks.Traversals.{Follows}
+use Rattle.vbr_list.specs.calls.Words.{wide_held, wide_marked}
+use Rattle.vbr_list.proofs.pieces.WideWords.{layout_at}
 use Rattle.vbr_list.proofs.call.PendingCall.walk.Goals as goal
 
 no_slot : (o : Option ℕ) → is_some o ≡ false → o ≡ None

@@ -1,7 +1,7 @@
 use Rattle.vbr_list.proofs.Names.{◌-◌}
-use Rattle.vbr_list.specs.Pieces.{IsSameCall}
-use Rattle.vbr_list.proofs.Traversals.{Follows}
-use Rattle.vbr_list.specs.Words.{wide_held}
+use Rattle.vbr_list.specs.calls.Pieces.{IsSameCall}
+use Rattle.vbr_list.proofs.walks.Traversals.{Follows}
+use Rattle.vbr_list.specs.calls.Words.{wide_held}
 use Rattle.vbr_list.proofs.call.PendingCall.walk.Given as goal
 
 abbrev pub invariant-loop-here : goal.invariant-loop-here

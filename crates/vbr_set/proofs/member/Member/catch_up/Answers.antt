@@ -1,5 +1,5 @@
 use Rattle.std.proofs.Common.{rules}
-use Rattle.vbr_set.proofs.MembersAside.{caught_aside}
+use Rattle.vbr_set.proofs.members.MembersAside.{caught_aside}
 use Rattle.vbr_set.proofs.member.Member.catch_up.Goals as goal
 
 pub invariant_of-self : goal.invariant_of-self

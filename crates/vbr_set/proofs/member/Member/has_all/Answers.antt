@@ -1,6 +1,6 @@
 use Rattle.vbr_machine.specs.declared.history.Op.TheVariants.{Has}
-use Rattle.vbr_set.specs.Members.{Called}
-use Rattle.vbr_set.proofs.BatchesAside.{aside_in_turn, calls_in_turn}
+use Rattle.vbr_set.specs.calls.Members.{Called}
+use Rattle.vbr_set.proofs.many_keys.BatchesAside.{aside_in_turn, calls_in_turn}
 use Rattle.vbr_set.proofs.member.Member.has_all.Goals as goal
 
 pub returns-clause-told : goal.returns-clause-told

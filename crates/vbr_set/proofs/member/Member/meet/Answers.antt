@@ -1,5 +1,5 @@
 use Rattle.std.proofs.Common.{rules}
-use Rattle.vbr_set.proofs.MembersAside.{met_aside}
+use Rattle.vbr_set.proofs.members.MembersAside.{met_aside}
 use Rattle.vbr_set.proofs.member.Member.meet.Goals as goal
 
 pub invariant_of-self : goal.invariant_of-self

@@ -6,6 +6,6 @@ pub invariant_of-self : goal.invariant_of-self
 invariant_of-self g c = record {
   part = search rules;
   counted = search rules;
-  put_aside = kept_aside _ _ _ c.next_key.ensures.iterates.takes_no_slot.kept.aside
-      c.next_key.ensures.goes.sees.same.start c.self.invariant.put_aside;
+  put_aside = kept_aside _ _ _ c.next_key.ensures.told.iterates.takes_no_slot.kept.aside
+      c.next_key.ensures.told.goes.sees.same.start c.self.invariant.put_aside;
 }

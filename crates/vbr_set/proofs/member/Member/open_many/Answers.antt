@@ -1,5 +1,5 @@
 use Rattle.std.proofs.Common.{rules}
-use Rattle.vbr_set.proofs.Seats.{as_many, count_of_all}
+use Rattle.vbr_set.proofs.members.Seats.{as_many, count_of_all}
 use Rattle.vbr_set.proofs.member.Member.open_many.Goals as goal
 
 pub hand_out-requires-clause-new : goal.hand_out-requires-clause-new

@@ -1,5 +1,5 @@
 use Rattle.std.proofs.Common.{length, ap, arith, rules}
-use Rattle.vbr_set.proofs.Apart.{as_many_passes}
+use Rattle.vbr_set.proofs.members.Apart.{as_many_passes}
 use Rattle.vbr_set.proofs.member.Member.report_all.Goals as goal
 
 pub put_together-members-requires-clause-members : goal.put_together-members-requires-clause-members

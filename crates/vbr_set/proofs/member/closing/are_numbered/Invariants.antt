@@ -1,5 +1,5 @@
 use Rattle.std.proofs.Common.{◌≡◌, ℕ, ◌<◌, slice_index_or}
-use Rattle.vbr_slots.specs.Views.{PassView}
+use Rattle.vbr_slots.specs.views.Views.{PassView}
 use Rattle.vbr_set.proofs.member.closing.are_numbered.Given as goal
 
 -- each pass so far stands at its number

@@ -1,12 +1,12 @@
 use Rattle.std.proofs.Common.{◌≡◌, List, rules, ap, ◌∙◌, subst, sym}
 use Rattle.std.specs.Int.{w64}
 use Rattle.std.proofs.lemmas.Int.{to_z-of_z}
-use Rattle.vbr_slots.specs.Views.{IsOf, PassView}
-use Rattle.vbr_set.specs.Balances.{balance_of}
-use Rattle.vbr_at_table.specs.Aside.{HasAside}
-use Rattle.vbr_set.specs.Members.{as_member}
-use Rattle.vbr_set.specs.Sharing.{AreOthers, ArePassesOf}
-use Rattle.vbr_set.proofs.Ends.{all_of, out_again, with_own}
+use Rattle.vbr_slots.specs.views.Views.{IsOf, PassView}
+use Rattle.vbr_set.specs.members.Balances.{balance_of}
+use Rattle.vbr_at_table.specs.hands.Aside.{HasAside}
+use Rattle.vbr_set.specs.calls.Members.{as_member}
+use Rattle.vbr_set.specs.members.Sharing.{AreOthers, ArePassesOf}
+use Rattle.vbr_set.proofs.members.Ends.{all_of, out_again, with_own}
 use Rattle.vbr_set.proofs.member.closing.end_gathered.Goals as goal
 
 pub tell-told-requires-clause-of_set : goal.tell-told-requires-clause-of_set

@@ -1,7 +1,7 @@
 use Rattle.std.proofs.Common.{rules}
 use Rattle.std.specs.Vec.{vec_capacity}
 use Rattle.std.specs.Vec.Iter.{into_iter_items}
-use Rattle.vbr_set.proofs.Ends.{one_more, mailbox_first, mailbox_rest, room_left}
+use Rattle.vbr_set.proofs.members.Ends.{one_more, mailbox_first, mailbox_rest, room_left}
 use Rattle.vbr_set.proofs.member.closing.gather.Goals as goal
 
 pub loop-mailbox-preserved : goal.loop-mailbox-preserved

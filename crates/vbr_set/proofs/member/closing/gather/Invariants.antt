@@ -1,7 +1,7 @@
 use Rattle.std.proofs.Common.{◌+◌, ◌≤◌, length}
 use Rattle.std.specs.Vec.{vec_capacity}
 use Rattle.std.specs.Vec.Iter.{into_iter_items}
-use Rattle.vbr_set.specs.Sharing.{ArePassesOf, AreMailboxesOf}
+use Rattle.vbr_set.specs.members.Sharing.{ArePassesOf, AreMailboxesOf}
 use Rattle.vbr_set.proofs.member.closing.gather.Given as goal
 
 -- the passes so far are of the set, the mailboxes that are left are for passes of it, and there is room for these

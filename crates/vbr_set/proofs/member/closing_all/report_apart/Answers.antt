@@ -1,9 +1,9 @@
 use Rattle.std.proofs.Common.{◌≤◌, length, sym, subst, rules, arith}
-use Rattle.vbr_slots.specs.Closing.{AllOf}
-use Rattle.vbr_slots.specs.Views.{TableView}
+use Rattle.vbr_slots.specs.runs.Closing.{AllOf}
+use Rattle.vbr_slots.specs.views.Views.{TableView}
 use Rattle.std.specs.Prelude.{IfOk}
-use Rattle.vbr_set.specs.Closing.{ClosesBy}
-use Rattle.vbr_set.proofs.Apart.{all_of_first, all_parts_of, all_told, as_many_passes}
+use Rattle.vbr_set.specs.reports.Closing.{ClosesBy}
+use Rattle.vbr_set.proofs.members.Apart.{all_of_first, all_parts_of, all_told, as_many_passes}
 use Rattle.vbr_set.proofs.member.closing_all.report_apart.Goals as goal
 
 pub report-requires-clause-of_set : goal.report-requires-clause-of_set

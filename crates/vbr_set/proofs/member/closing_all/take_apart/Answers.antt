@@ -1,7 +1,7 @@
 use Rattle.std.proofs.Common.{rules}
 use Rattle.std.specs.Vec.{vec_capacity}
 use Rattle.std.specs.Vec.Iter.{into_iter_items}
-use Rattle.vbr_set.proofs.Apart.{room_after, taken}
+use Rattle.vbr_set.proofs.members.Apart.{room_after, taken}
 use Rattle.vbr_set.proofs.member.closing_all.take_apart.Goals as goal
 
 pub loop-member-preserved : goal.loop-member-preserved

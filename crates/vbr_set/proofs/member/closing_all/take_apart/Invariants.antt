@@ -1,7 +1,7 @@
 use Rattle.std.proofs.Common.{◌≡◌, ◌≤◌, ◌+◌, ◌++◌, length}
 use Rattle.std.specs.Vec.{vec_capacity}
 use Rattle.std.specs.Vec.Iter.{into_iter_items}
-use Rattle.vbr_set.specs.Apart.{AreParts, members_of}
+use Rattle.vbr_set.specs.members.Apart.{AreParts, members_of}
 use Rattle.vbr_set.proofs.member.closing_all.take_apart.Given as goal
 
 -- the parts so far make the members so far, and there is room for those that are left

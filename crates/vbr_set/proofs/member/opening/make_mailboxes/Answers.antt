@@ -1,5 +1,5 @@
 use Rattle.std.proofs.Common.{rules}
-use Rattle.vbr_set.proofs.Seats.{one_more, mailbox_of_set}
+use Rattle.vbr_set.proofs.members.Seats.{one_more, mailbox_of_set}
 use Rattle.vbr_set.proofs.member.opening.make_mailboxes.Goals as goal
 
 pub loop-preserved : goal.loop-preserved

@@ -1,6 +1,6 @@
 use Rattle.std.proofs.Common.{◌≡◌, length}
 use Rattle.std.specs.Prelude.{All}
-use Rattle.vbr_set.specs.Seats.{AreSeats}
+use Rattle.vbr_set.specs.members.Seats.{AreSeats}
 use Rattle.vbr_set.proofs.member.opening.make_mailboxes.Given as goal
 
 -- the mailboxes so far are for passes of the set, and the seats are theirs

@@ -2,7 +2,7 @@ use Rattle.std.proofs.Common.{◌≡◌, ◌++◌, map, None}
 use Rattle.std.specs.Arc.{arc_value}
 use Rattle.std.specs.Vec.Iter.{into_iter_items}
 use Rattle.vbr_set.proofs.member.opening.share_out.Given as goal
-use Rattle.vbr_set.proofs.Seats.{AreSeated}
+use Rattle.vbr_set.proofs.members.Seats.{AreSeated}
 
 -- the members so far are those of the passes so far, and each pass that is left has its seat
 abbrev pub invariant-loop-pass : goal.invariant-loop-pass

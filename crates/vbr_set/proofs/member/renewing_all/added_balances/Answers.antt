@@ -1,4 +1,4 @@
-use Rattle.vbr_set.proofs.AddedBalances.{added_from}
+use Rattle.vbr_set.proofs.sums.AddedBalances.{added_from}
 use Rattle.vbr_set.proofs.member.renewing_all.added_balances.Goals as goal
 
 pub loop-i-preserved : goal.loop-i-preserved

@@ -1,9 +1,9 @@
 use Rattle.std.proofs.Common.{◌≤◌, length, sym, subst, rules, arith}
-use Rattle.vbr_slots.specs.Closing.{AllOf}
-use Rattle.vbr_slots.specs.Views.{TableView}
+use Rattle.vbr_slots.specs.runs.Closing.{AllOf}
+use Rattle.vbr_slots.specs.views.Views.{TableView}
 use Rattle.std.specs.Prelude.{IfOk}
-use Rattle.vbr_set.specs.EntrySlots.{ClosesWithSlots}
-use Rattle.vbr_set.proofs.Apart.{all_of_first, all_parts_of, all_told, as_many_passes}
+use Rattle.vbr_set.specs.reports.EntrySlots.{ClosesWithSlots}
+use Rattle.vbr_set.proofs.members.Apart.{all_of_first, all_parts_of, all_told, as_many_passes}
 use Rattle.vbr_set.proofs.member.reporting_slots.report_apart_with_slots.Goals as goal
 
 pub report_with_slots-requires-clause-of_set : goal.report_with_slots-requires-clause-of_set

@@ -1,4 +1,4 @@
-use Rattle.vbr_set.proofs.CatchingUp.{catches_up}
+use Rattle.vbr_set.proofs.histories.CatchingUp.{catches_up}
 use Rattle.vbr_set.proofs.set.VbrSet.catch_up.Goals as goal
 
 pub returns : goal.returns

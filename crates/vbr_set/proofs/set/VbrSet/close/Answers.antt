@@ -1,6 +1,6 @@
 use Rattle.std.proofs.Common.{ap, sym, ◌∙◌}
-use Rattle.vbr_slots.specs.Views.{TableView}
-use Rattle.vbr_set.proofs.Closings.{closes}
+use Rattle.vbr_slots.specs.views.Views.{TableView}
+use Rattle.vbr_set.proofs.reports.Closings.{closes}
 use Rattle.vbr_set.proofs.set.VbrSet.close.Goals as goal
 
 pub returns-clause-ok : goal.returns-clause-ok

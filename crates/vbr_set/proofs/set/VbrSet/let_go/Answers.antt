@@ -1,8 +1,8 @@
 use Rattle.std.proofs.Common.{ℕ, ◌≤◌, List, length, Some, refl, sym, ap, ◌∙◌, subst, inr}
 use Rattle.vbr_machine.specs.declared.event.Step.TheVariants.{Raise}
-use Rattle.vbr_slots.specs.Views.{Did}
+use Rattle.vbr_slots.specs.views.Views.{Did}
 use Rattle.vbr_slots.proofs.Lemmas.{did_quiet}
-use Rattle.vbr_set.proofs.HeldCalls.{pool_without}
+use Rattle.vbr_set.proofs.held_slots.HeldCalls.{pool_without}
 use Rattle.vbr_set.proofs.set.VbrSet.let_go.Goals as goal
 
 pub returns-else-pool-lt-POOL-clause-comes_back : goal.returns-else-pool-lt-POOL-clause-comes_back

@@ -1,4 +1,4 @@
-use Rattle.vbr_set.proofs.Closings.{some_run, tells_end}
+use Rattle.vbr_set.proofs.reports.Closings.{some_run, tells_end}
 use Rattle.vbr_set.proofs.set.VbrSet.look.Goals as goal
 
 pub contents_of-requires-clause-run : goal.contents_of-requires-clause-run

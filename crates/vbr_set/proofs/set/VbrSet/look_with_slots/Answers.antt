@@ -1,4 +1,4 @@
-use Rattle.vbr_set.proofs.Closings.{some_run, tells_slots}
+use Rattle.vbr_set.proofs.reports.Closings.{some_run, tells_slots}
 use Rattle.vbr_set.proofs.set.VbrSet.look_with_slots.Goals as goal
 
 pub contents_with_slots-requires-clause-run : goal.contents_with_slots-requires-clause-run

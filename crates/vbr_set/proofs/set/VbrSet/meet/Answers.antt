@@ -1,5 +1,5 @@
 use Rattle.std.proofs.Common.{sym, ◌∙◌}
-use Rattle.vbr_set.proofs.Histories.{met_safe, shares}
+use Rattle.vbr_set.proofs.histories.Histories.{met_safe, shares}
 use Rattle.vbr_set.proofs.set.VbrSet.meet.Goals as goal
 
 pub returns-clause-meets : goal.returns-clause-meets

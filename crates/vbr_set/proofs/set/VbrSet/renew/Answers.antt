@@ -1,6 +1,6 @@
 use Rattle.std.proofs.Common.{ℕ, List, ap, sym, subst, ◌∙◌}
 use Rattle.std.specs.List.Sorted.{IsStrictlyIncreasing}
-use Rattle.vbr_slots.specs.Views.{TableView}
+use Rattle.vbr_slots.specs.views.Views.{TableView}
 use Rattle.vbr_set.proofs.set.VbrSet.renew.Goals as goal
 
 pub open_many-requires-clause-ascending : goal.open_many-requires-clause-ascending

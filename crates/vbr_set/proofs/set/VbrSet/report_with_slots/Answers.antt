@@ -1,7 +1,7 @@
 use Rattle.std.proofs.Common.{ap, sym, ◌∙◌}
-use Rattle.vbr_slots.specs.Views.{TableView}
-use Rattle.vbr_set.proofs.Closings.{closes_with_slots}
-use Rattle.vbr_set.proofs.EntrySlots.{entries_of_keys}
+use Rattle.vbr_slots.specs.views.Views.{TableView}
+use Rattle.vbr_set.proofs.reports.Closings.{closes_with_slots}
+use Rattle.vbr_set.proofs.reports.EntrySlots.{entries_of_keys}
 use Rattle.vbr_set.proofs.set.VbrSet.report_with_slots.Goals as goal
 
 pub returns-clause-report : goal.returns-clause-report

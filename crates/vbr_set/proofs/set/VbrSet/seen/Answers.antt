@@ -2,7 +2,7 @@ use Rattle.std.proofs.Common.{ap, ◌∙◌}
 use Rattle.vbr_machine.specs.Calls.{own_calls}
 use Rattle.vbr_machine.specs.declared.event.Event.{Event}
 use Rattle.std.specs.Prelude.{List}
-use Rattle.vbr_slots.specs.Views.{TableView}
+use Rattle.vbr_slots.specs.views.Views.{TableView}
 use Rattle.vbr_set.proofs.set.VbrSet.seen.Goals as goal
 
 pub returns-clause-tells : goal.returns-clause-tells

@@ -1,10 +1,10 @@
 use Rattle.std.proofs.Common.{ℕ, ap, rules, sym, subst, ◌∙◌}
 use Rattle.vbr_machine.specs.declared.event.Step.{Step}
-use Rattle.vbr_slots.specs.LookUpStep.{look_up}
-use Rattle.vbr_slots.specs.Views.{Did, PassView}
-use Rattle.vbr_slots.specs.WideWords.{wide_in}
-use Rattle.vbr_slots.proofs.Steppers.{LeavesPools, look_up_leaves, stays_well}
-use Rattle.vbr_slots.proofs.WideReads.{finds_other, named_as}
+use Rattle.vbr_slots.specs.steps.LookUpStep.{look_up}
+use Rattle.vbr_slots.specs.views.Views.{Did, PassView}
+use Rattle.vbr_slots.specs.words.WideWords.{wide_in}
+use Rattle.vbr_slots.proofs.steps.Steppers.{LeavesPools, look_up_leaves, stays_well}
+use Rattle.vbr_slots.proofs.words.WideReads.{finds_other, named_as}
 use Rattle.vbr_slots.proofs.at_table.AtTable.confirm_look_up.Goals as goal
 
 pub invariant_of-stepper : goal.invariant_of-stepper

@@ -1,8 +1,8 @@
 use Rattle.std.proofs.Common.{ℕ, subst}
 use Rattle.vbr_machine.specs.declared.event.Step.TheVariants.{ConfirmPresent}
-use Rattle.vbr_slots.specs.Views.{Did}
-use Rattle.vbr_slots.specs.WideWords.{wide_in}
-use Rattle.vbr_slots.proofs.WideReads.{finds_other, named_as}
+use Rattle.vbr_slots.specs.views.Views.{Did}
+use Rattle.vbr_slots.specs.words.WideWords.{wide_in}
+use Rattle.vbr_slots.proofs.words.WideReads.{finds_other, named_as}
 use Rattle.vbr_slots.proofs.at_table.AtTable.confirm_present.Goals as goal
 
 pub returns-else-found-expected-clause-other : goal.returns-else-found-expected-clause-other

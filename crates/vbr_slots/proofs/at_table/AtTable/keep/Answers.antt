@@ -1,4 +1,4 @@
-use Rattle.vbr_slots.proofs.Pools.{pool_kept}
+use Rattle.vbr_slots.proofs.pools.Pools.{pool_kept}
 use Rattle.vbr_slots.proofs.at_table.AtTable.keep.Goals as goal
 
 pub invariant_of-stepper : goal.invariant_of-stepper

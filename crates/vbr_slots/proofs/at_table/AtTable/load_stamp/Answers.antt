@@ -1,4 +1,4 @@
-use Rattle.vbr_slots.proofs.Passes.{stamp_loaded}
+use Rattle.vbr_slots.proofs.pools.Passes.{stamp_loaded}
 use Rattle.vbr_slots.proofs.at_table.AtTable.load_stamp.Goals as goal
 
 pub returns-clause-known : goal.returns-clause-known

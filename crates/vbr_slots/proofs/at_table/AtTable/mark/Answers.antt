@@ -4,10 +4,10 @@ use Rattle.vbr_words.specs.Words.{word_of, link_of}
 use Rattle.vbr_words.proofs.Lemmas.{word_of-link_of}
 use Rattle.vbr_machine.specs.Machine.{Exchange}
 use Rattle.vbr_machine.specs.declared.event.Step.TheVariants.{Mark}
-use Rattle.vbr_slots.specs.Views.{Did, PassView}
-use Rattle.vbr_slots.specs.WideWords.{wide_in}
-use Rattle.vbr_slots.proofs.Steppers.{stays_well}
-use Rattle.vbr_slots.proofs.WideReads.{finds_other, named_as}
+use Rattle.vbr_slots.specs.views.Views.{Did, PassView}
+use Rattle.vbr_slots.specs.words.WideWords.{wide_in}
+use Rattle.vbr_slots.proofs.steps.Steppers.{stays_well}
+use Rattle.vbr_slots.proofs.words.WideReads.{finds_other, named_as}
 use Rattle.vbr_slots.proofs.at_table.AtTable.mark.Goals as goal
 
 pub invariant_of-stepper : goal.invariant_of-stepper

@@ -1,7 +1,7 @@
 -- The slot has left the pool and the hand.
 use Rattle.std.proofs.Common.{◌≢◌, ℕ, List, Option, Some, sym, subst}
 use Rattle.std.specs.Prelude.{Contains}
-use Rattle.vbr_slots.proofs.Pools.{let_gone, outside}
+use Rattle.vbr_slots.proofs.pools.Pools.{let_gone, outside}
 use Rattle.vbr_slots.proofs.at_table.AtTable.raise.Goals as goal
 
 pub set_flag-requires-clause-outside : goal.set_flag-requires-clause-outside

@@ -1,5 +1,5 @@
 -- A free slot isn't in hand.
-use Rattle.vbr_slots.proofs.Pools.{hand_alone, free_may}
+use Rattle.vbr_slots.proofs.pools.Pools.{hand_alone, free_may}
 use Rattle.vbr_slots.proofs.at_table.AtTable.raise_outside.Goals as goal
 
 pub set_flag-requires-clause-may_bear : goal.set_flag-requires-clause-may_bear

@@ -1,9 +1,9 @@
 use Rattle.std.proofs.Common.{ℕ, ◌≢◌, refl, rules, subst, sym}
-use Rattle.vbr_slots.specs.WideWords.{wide_in}
-use Rattle.vbr_slots.specs.Views.{Did, PassView}
-use Rattle.vbr_slots.proofs.WideReads.{finds_other, named_as, wide_other}
+use Rattle.vbr_slots.specs.words.WideWords.{wide_in}
+use Rattle.vbr_slots.specs.views.Views.{Did, PassView}
+use Rattle.vbr_slots.proofs.words.WideReads.{finds_other, named_as, wide_other}
 use Rattle.vbr_machine.specs.declared.event.Step.TheVariants.{Replace}
-use Rattle.vbr_slots.proofs.Steppers.{well_after}
+use Rattle.vbr_slots.proofs.steps.Steppers.{well_after}
 use Rattle.vbr_slots.proofs.at_table.AtTable.replace.Goals as goal
 
 pub invariant_of-stepper : goal.invariant_of-stepper

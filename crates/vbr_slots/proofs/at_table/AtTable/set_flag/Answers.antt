@@ -1,8 +1,8 @@
 use Rattle.std.proofs.Common.{◌≢◌, Some, sym, subst, refl}
 use Rattle.std.specs.Prelude.{Contains}
-use Rattle.vbr_slots.specs.Views.{PassView}
-use Rattle.vbr_slots.proofs.Passes.{pool_raised}
-use Rattle.vbr_slots.proofs.Steppers.{well_after}
+use Rattle.vbr_slots.specs.views.Views.{PassView}
+use Rattle.vbr_slots.proofs.pools.Passes.{pool_raised}
+use Rattle.vbr_slots.proofs.steps.Steppers.{well_after}
 use Rattle.vbr_slots.proofs.at_table.AtTable.set_flag.Goals as goal
 
 pub invariant_of-stepper : goal.invariant_of-stepper

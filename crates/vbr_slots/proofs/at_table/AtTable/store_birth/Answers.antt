@@ -1,10 +1,10 @@
 use Rattle.std.proofs.Common.{ℕ, ◌<◌, sym, ap, ◌∙◌, subst, refl}
 use Rattle.std.specs.Prelude.{List, Contains}
 use Rattle.vbr_machine.specs.Start.{Start}
-use Rattle.vbr_slots.specs.Views.{Trace, PassView}
-use Rattle.vbr_slots.proofs.Passes.{pool_born}
-use Rattle.vbr_slots.proofs.Pools.{outside}
-use Rattle.vbr_slots.proofs.Steppers.{well_after}
+use Rattle.vbr_slots.specs.views.Views.{Trace, PassView}
+use Rattle.vbr_slots.proofs.pools.Passes.{pool_born}
+use Rattle.vbr_slots.proofs.pools.Pools.{outside}
+use Rattle.vbr_slots.proofs.steps.Steppers.{well_after}
 use Rattle.vbr_slots.proofs.at_table.AtTable.store_birth.Goals as goal
 
 pub invariant_of-stepper : goal.invariant_of-stepper

@@ -1,4 +1,4 @@
-use Rattle.vbr_slots.proofs.Steppers.{stays_well}
+use Rattle.vbr_slots.proofs.steps.Steppers.{stays_well}
 use Rattle.vbr_slots.proofs.at_table.AtTable.store_key.Goals as goal
 
 pub invariant_of-stepper : goal.invariant_of-stepper

@@ -1,10 +1,10 @@
 use Rattle.std.proofs.Common.{◌<◌, sym, ap, ◌∙◌, subst, rules}
 use Rattle.vbr_machine.specs.Start.{Start, IsStart}
 use Rattle.vbr_machine.specs.Acceptance.{MayBear}
-use Rattle.vbr_slots.specs.Views.{PassView, knows}
-use Rattle.vbr_slots.proofs.Passes.{taken_new, pool_taken}
-use Rattle.vbr_slots.proofs.Pools.{pooled_may}
-use Rattle.vbr_slots.proofs.Tried.{did_tried}
+use Rattle.vbr_slots.specs.views.Views.{PassView, knows}
+use Rattle.vbr_slots.proofs.pools.Passes.{taken_new, pool_taken}
+use Rattle.vbr_slots.proofs.pools.Pools.{pooled_may}
+use Rattle.vbr_slots.proofs.steps.Tried.{did_tried}
 use Rattle.vbr_slots.proofs.at_table.AtTable.take_flag.Goals as goal
 
 pub invariant_of-stepper : goal.invariant_of-stepper

@@ -1,5 +1,5 @@
-use Rattle.vbr_slots.specs.Stepping.{opening_of}
-use Rattle.vbr_slots.specs.Views.{event_of}
+use Rattle.vbr_slots.specs.steps.Stepping.{opening_of}
+use Rattle.vbr_slots.specs.views.Views.{event_of}
 use Rattle.vbr_slots.proofs.at_table.AtTable.take_flag.Given as goal
 
 abbrev pub ghosts-fetch_and_as : goal.ghosts-fetch_and_as

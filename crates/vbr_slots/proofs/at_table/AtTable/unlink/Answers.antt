@@ -1,13 +1,13 @@
 use Rattle.std.proofs.Common.{ℕ, rules, sym, ap, subst, refl}
-use Rattle.vbr_slots.specs.WideWords.{wide_in}
-use Rattle.vbr_slots.proofs.WideReads.{finds_other, named_as}
+use Rattle.vbr_slots.specs.words.WideWords.{wide_in}
+use Rattle.vbr_slots.proofs.words.WideReads.{finds_other, named_as}
 use Rattle.vbr_machine.specs.Start.{Start}
 use Rattle.vbr_machine.specs.Acceptance.{Accepts}
 use Rattle.vbr_machine.specs.declared.event.Step.{Step}
 use Rattle.vbr_machine.specs.declared.event.Step.TheVariants.{Unlink}
-use Rattle.vbr_slots.specs.Views.{Did, Trace, PassView, knows}
-use Rattle.vbr_slots.proofs.Passes.{pool_unlinked}
-use Rattle.vbr_slots.proofs.Steppers.{well_after}
+use Rattle.vbr_slots.specs.views.Views.{Did, Trace, PassView, knows}
+use Rattle.vbr_slots.proofs.pools.Passes.{pool_unlinked}
+use Rattle.vbr_slots.proofs.steps.Steppers.{well_after}
 use Rattle.vbr_slots.proofs.at_table.AtTable.unlink.Goals as goal
 
 pub invariant_of-stepper : goal.invariant_of-stepper

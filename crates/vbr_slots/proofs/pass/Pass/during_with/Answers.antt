@@ -1,8 +1,8 @@
 use Rattle.std.proofs.Common.{refl, subst, sym}
-use Rattle.vbr_slots.specs.Calls.{Took}
-use Rattle.vbr_slots.specs.Lending.{ReturnsWith}
-use Rattle.vbr_slots.specs.Views.{PassView}
-use Rattle.vbr_slots.proofs.Calls.{count_on}
+use Rattle.vbr_slots.specs.steps.Calls.{Took}
+use Rattle.vbr_slots.specs.steps.Lending.{ReturnsWith}
+use Rattle.vbr_slots.specs.views.Views.{PassView}
+use Rattle.vbr_slots.proofs.steps.Calls.{count_on}
 use Rattle.vbr_slots.proofs.pass.Pass.during_with.Goals as goal
 
 pub invariant_of-self : goal.invariant_of-self

@@ -1,6 +1,6 @@
 use Rattle.std.proofs.Common.{ap, ◌∙◌}
 use Rattle.vbr_slots.specs.declared.pass.Pass.TheInside.{Inside}
-use Rattle.vbr_slots.proofs.Pools.{pool_kept}
+use Rattle.vbr_slots.proofs.pools.Pools.{pool_kept}
 use Rattle.vbr_slots.proofs.pass.Pass.keep.Goals as goal
 
 pub invariant_of-self-inside : goal.invariant_of-self-inside

@@ -1,7 +1,7 @@
 use Rattle.std.proofs.Common.{◌≡◌, ℕ, suc, ◌+◌, drop, ap, ◌∙◌, arith}
 use Rattle.std.specs.List.{remove}
-use Rattle.vbr_slots.specs.Pools.{PoolView}
-use Rattle.vbr_slots.proofs.Moving.{first_left}
+use Rattle.vbr_slots.specs.pools.Pools.{PoolView}
+use Rattle.vbr_slots.proofs.pools.Moving.{first_left}
 use Rattle.vbr_slots.proofs.pool.Pool.remove.Goals as goal
 
 pub returns-then-index-eq0 : goal.returns-then-index-eq0

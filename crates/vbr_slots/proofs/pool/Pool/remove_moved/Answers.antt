@@ -1,7 +1,7 @@
 use Rattle.std.proofs.Common.{drop, refl, ap, ◌∙◌}
 use Rattle.std.specs.List.{remove}
-use Rattle.vbr_slots.specs.Pools.{PoolView}
-use Rattle.vbr_slots.proofs.Moving.{later_left}
+use Rattle.vbr_slots.specs.pools.Pools.{PoolView}
+use Rattle.vbr_slots.proofs.pools.Moving.{later_left}
 use Rattle.vbr_slots.proofs.pool.Pool.remove_moved.Goals as goal
 
 pub returns : goal.returns

@@ -1,4 +1,4 @@
-use Rattle.vbr_slots.proofs.Counting.{exact, advance_took}
+use Rattle.vbr_slots.proofs.steps.Counting.{exact, advance_took}
 use Rattle.vbr_slots.proofs.slots.Slots.advance.Goals as goal
 
 pub invariant_of-pass : goal.invariant_of-pass

@@ -4,13 +4,14 @@ use Rattle.vbr_machine.specs.Machine as machine
 use Rattle.vbr_machine.specs.Runs.{IsRun, know_after}
 use Rattle.vbr_machine.specs.declared.event.Event.{Event}
 use Rattle.vbr_machine.proofs.Lemmas.{is_run_first}
-use Rattle.vbr_slots.specs.TableStart.{TableStart}
-use Rattle.vbr_slots.specs.Rule.{with_opened, first_opened}
-use Rattle.vbr_slots.specs.Views.{TableView, counted_steps, steps_in}
-use Rattle.vbr_slots.specs.Tried.{first_tried, last_tried, tried_in}
-use Rattle.vbr_slots.specs.Words.{AreWordsOf}
-use Rattle.vbr_slots.proofs.Seats.{opens, splits_first, first_is, first_has, first_empty, others_next, new_passes-next}
-use Rattle.vbr_slots.proofs.Tried.{tried_none}
+use Rattle.vbr_slots.specs.runs.TableStart.{TableStart}
+use Rattle.vbr_slots.specs.runs.Rule.{with_opened, first_opened}
+use Rattle.vbr_slots.specs.views.Views.{TableView, counted_steps, steps_in}
+use Rattle.vbr_slots.specs.pools.Tried.{first_tried, last_tried, tried_in}
+use Rattle.vbr_slots.specs.words.Words.{AreWordsOf}
+use Rattle.vbr_slots.proofs.seats.Seats.{opens, splits_first, first_is, first_has, first_empty, others_next}
+use Rattle.vbr_slots.proofs.seats.Seats.{new_passes-next}
+use Rattle.vbr_slots.proofs.steps.Tried.{tried_none}
 use Rattle.vbr_slots.proofs.slots.Slots.build.Goals as goal
 
 pub of_words-requires : goal.of_words-requires

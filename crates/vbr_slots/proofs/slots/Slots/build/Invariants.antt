@@ -1,7 +1,7 @@
 use Rattle.std.proofs.Common.{◌≡◌, ◌-◌, []}
 use Rattle.vbr_machine.specs.Start.{start_with}
-use Rattle.vbr_slots.specs.Rule.{witnesses}
-use Rattle.vbr_slots.specs.Views.{new_passes}
+use Rattle.vbr_slots.specs.runs.Rule.{witnesses}
+use Rattle.vbr_slots.specs.views.Views.{new_passes}
 use Rattle.vbr_slots.proofs.slots.Slots.build.Given as goal
 
 abbrev pub invariant-loop-who : goal.invariant-loop-who

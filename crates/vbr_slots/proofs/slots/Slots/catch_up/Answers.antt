@@ -1,6 +1,6 @@
 -- What others did leaves the slot that the pass tried last.
 use Rattle.std.proofs.Common.{rules}
-use Rattle.vbr_slots.proofs.Tried.{since_tried}
+use Rattle.vbr_slots.proofs.steps.Tried.{since_tried}
 use Rattle.vbr_slots.proofs.slots.Slots.catch_up.Goals as goal
 
 pub invariant_of-pass-inside : goal.invariant_of-pass-inside

@@ -1,6 +1,6 @@
 use Rattle.vbr_machine.specs.declared.event.Step.TheVariants.{ReadEpoch}
-use Rattle.vbr_slots.specs.Stepping.{opening_of}
-use Rattle.vbr_slots.specs.Views.{event_of}
+use Rattle.vbr_slots.specs.steps.Stepping.{opening_of}
+use Rattle.vbr_slots.specs.views.Views.{event_of}
 use Rattle.vbr_slots.proofs.slots.Slots.catch_up.Given as goal
 
 abbrev pub ghosts-catch_up_as : goal.ghosts-catch_up_as

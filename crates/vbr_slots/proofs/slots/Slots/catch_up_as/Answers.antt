@@ -1,12 +1,13 @@
 use Rattle.std.proofs.Common.{[], refl, sym, ap, ◌∙◌, subst}
 use Rattle.vbr_machine.specs.Runs.{Begins}
-use Rattle.vbr_slots.specs.Rule.{first_opened, first_seen, noted}
+use Rattle.vbr_slots.specs.runs.Rule.{first_opened, first_seen, noted}
 use Rattle.vbr_slots.specs.Tokens.{SeenView}
-use Rattle.vbr_slots.specs.Views.{Trace}
-use Rattle.vbr_slots.proofs.Members.{token_not_counted}
-use Rattle.vbr_slots.proofs.Seats.{joins}
-use Rattle.vbr_slots.proofs.Steps.{CaughtUp, asks_to_catch, known, low_of, caught_up, caught_sound, since, seen_in}
-use Rattle.vbr_slots.proofs.Steps.{beside, wide}
+use Rattle.vbr_slots.specs.views.Views.{Trace}
+use Rattle.vbr_slots.proofs.seats.Members.{token_not_counted}
+use Rattle.vbr_slots.proofs.seats.Seats.{joins}
+use Rattle.vbr_slots.proofs.steps.Steps.{CaughtUp, asks_to_catch, known, low_of, caught_up, caught_sound, since}
+use Rattle.vbr_slots.proofs.steps.Steps.{seen_in}
+use Rattle.vbr_slots.proofs.steps.Steps.{beside, wide}
 use Rattle.vbr_slots.proofs.slots.Slots.catch_up_as.Given.{Over}
 use Rattle.vbr_slots.proofs.slots.Slots.catch_up_as.Goals.{After-load}
 use Rattle.vbr_slots.proofs.slots.Slots.catch_up_as.Goals as goal

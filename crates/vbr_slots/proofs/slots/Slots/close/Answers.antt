@@ -1,10 +1,10 @@
 use Rattle.std.proofs.Common.{[], ◌∷◌, ◌++◌, append_assoc, sym, ap, ◌∙◌, subst}
 use Rattle.std.specs.Vec.Iter.{into_iter_items}
-use Rattle.vbr_slots.specs.Closing.{AllOf}
-use Rattle.vbr_slots.specs.Views.{Trace, PassView}
-use Rattle.vbr_slots.proofs.Seats.{enters, joins}
-use Rattle.vbr_slots.proofs.Steps.{known, wide}
-use Rattle.vbr_slots.proofs.Closings.{witnesses_of, one_of, witnesses_of-snoc, none_left, ends}
+use Rattle.vbr_slots.specs.runs.Closing.{AllOf}
+use Rattle.vbr_slots.specs.views.Views.{Trace, PassView}
+use Rattle.vbr_slots.proofs.seats.Seats.{enters, joins}
+use Rattle.vbr_slots.proofs.steps.Steps.{known, wide}
+use Rattle.vbr_slots.proofs.runs.Closings.{witnesses_of, one_of, witnesses_of-snoc, none_left, ends}
 use Rattle.vbr_slots.proofs.slots.Slots.close.Goals as goal
 
 pub load_new_seat-seat-requires : goal.load_new_seat-seat-requires

@@ -1,6 +1,6 @@
 use Rattle.std.proofs.Common.{◌≡◌, [], ◌++◌}
 use Rattle.std.specs.Vec.Iter.{into_iter_items}
-use Rattle.vbr_slots.proofs.Closings.{witnesses_of}
+use Rattle.vbr_slots.proofs.runs.Closings.{witnesses_of}
 use Rattle.vbr_slots.proofs.slots.Slots.close.Given as goal
 
 abbrev pub invariant-loop-pass : goal.invariant-loop-pass

@@ -1,5 +1,5 @@
-use Rattle.vbr_slots.specs.Stepping.{opening_of}
-use Rattle.vbr_slots.specs.Views.{event_of}
+use Rattle.vbr_slots.specs.steps.Stepping.{opening_of}
+use Rattle.vbr_slots.specs.views.Views.{event_of}
 use Rattle.vbr_slots.proofs.slots.Slots.exchange_at.Given as goal
 
 abbrev pub ghosts-exchange_at_as : goal.ghosts-exchange_at_as

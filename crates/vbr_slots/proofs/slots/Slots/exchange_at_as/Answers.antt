@@ -4,13 +4,13 @@ use Rattle.vbr_words.specs.Packing.{IsPackable, packed, slot_bits, unpacked}
 use Rattle.vbr_words.specs.Places as places
 use Rattle.vbr_words.proofs.Lemmas.{packed-unpacked, unpacked_room}
 use Rattle.vbr_machine.specs.Machine.{word_made}
-use Rattle.vbr_slots.specs.Words.{kept_at}
-use Rattle.vbr_slots.specs.WideWords.{wide_in}
-use Rattle.vbr_slots.proofs.Learning.{by_either}
-use Rattle.vbr_slots.proofs.LinkIndices.{link_is}
-use Rattle.vbr_slots.proofs.Packed.{exchanged, tells_link}
-use Rattle.vbr_slots.proofs.Steps.{asks_alone, bits_few, bits_same, link_epoch, named_bits, shown_link, steps_did}
-use Rattle.vbr_slots.proofs.Steps.{steps_sound}
+use Rattle.vbr_slots.specs.words.Words.{kept_at}
+use Rattle.vbr_slots.specs.words.WideWords.{wide_in}
+use Rattle.vbr_slots.proofs.steps.Learning.{by_either}
+use Rattle.vbr_slots.proofs.words.LinkIndices.{link_is}
+use Rattle.vbr_slots.proofs.words.Packed.{exchanged, tells_link}
+use Rattle.vbr_slots.proofs.steps.Steps.{asks_alone, bits_few, bits_same, link_epoch, named_bits, shown_link, steps_did}
+use Rattle.vbr_slots.proofs.steps.Steps.{steps_sound}
 use Rattle.vbr_slots.proofs.slots.Slots.exchange_at_as.Goals as goal
 
 pub compare_exchange-requires : goal.compare_exchange-requires

@@ -1,10 +1,10 @@
 use Rattle.std.proofs.Common.{rules, sym, ap}
 use Rattle.std.specs.Prelude.{bit_or}
 use Rattle.vbr_machine.specs.Machine.{access_of, word_made}
-use Rattle.vbr_slots.proofs.Learning.{shows_itself}
-use Rattle.vbr_slots.specs.Views.{knows}
-use Rattle.vbr_slots.proofs.Packed.{tells_plain, writes_plain}
-use Rattle.vbr_slots.proofs.Steps.{asks_alone, steps_did, steps_sound}
+use Rattle.vbr_slots.proofs.steps.Learning.{shows_itself}
+use Rattle.vbr_slots.specs.views.Views.{knows}
+use Rattle.vbr_slots.proofs.words.Packed.{tells_plain, writes_plain}
+use Rattle.vbr_slots.proofs.steps.Steps.{asks_alone, steps_did, steps_sound}
 use Rattle.vbr_slots.proofs.slots.Slots.fetch_or_as.Goals as goal
 
 pub fetch_or-found-requires : goal.fetch_or-found-requires

@@ -1,13 +1,13 @@
 use Rattle.std.proofs.Common.{[], ◌∷◌, ◌++◌, length, refl, sym, ap, ◌∙◌, subst, arith}
 use Rattle.std.proofs.lemmas.List.{length-append}
-use Rattle.vbr_slots.specs.Closing.{AllOf}
-use Rattle.vbr_slots.specs.Snapshots.{AreHalted, witnesses_of}
-use Rattle.vbr_slots.specs.StepperView.{IsWell}
-use Rattle.vbr_slots.specs.Views.{PassView, TableView, Trace, counted_steps, steps_of}
-use Rattle.vbr_slots.proofs.Closings.{one_of}
-use Rattle.vbr_slots.proofs.Halting.{all_joined, all_taken, one_more, parts_after}
-use Rattle.vbr_slots.proofs.Seats.{joins}
-use Rattle.vbr_slots.proofs.Steps.{Sat, known, wide}
+use Rattle.vbr_slots.specs.runs.Closing.{AllOf}
+use Rattle.vbr_slots.specs.runs.Snapshots.{AreHalted, witnesses_of}
+use Rattle.vbr_slots.specs.views.StepperView.{IsWell}
+use Rattle.vbr_slots.specs.views.Views.{PassView, TableView, Trace, counted_steps, steps_of}
+use Rattle.vbr_slots.proofs.runs.Closings.{one_of}
+use Rattle.vbr_slots.proofs.runs.Halting.{all_joined, all_taken, one_more, parts_after}
+use Rattle.vbr_slots.proofs.seats.Seats.{joins}
+use Rattle.vbr_slots.proofs.steps.Steps.{Sat, known, wide}
 use Rattle.vbr_slots.proofs.slots.Slots.halt_all.Goals as goal
 
 pub join_seat-requires : goal.join_seat-requires

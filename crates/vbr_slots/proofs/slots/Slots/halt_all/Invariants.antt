@@ -1,6 +1,6 @@
 use Rattle.std.proofs.Common.{◌≡◌, ◌+◌, ◌≤◌, length}
 use Rattle.std.specs.Vec.{vec_capacity}
-use Rattle.vbr_slots.specs.Snapshots.{IsHalting}
+use Rattle.vbr_slots.proofs.runs.Halting.{IsHalting}
 use Rattle.vbr_slots.proofs.slots.Slots.halt_all.Given as goal
 
 -- the passes so far are halted, and there is room for what is kept of the others

@@ -1,5 +1,5 @@
-use Rattle.vbr_slots.specs.Views.{knows}
-use Rattle.vbr_slots.proofs.Steppers.{load_leaves, stays_well}
+use Rattle.vbr_slots.specs.views.Views.{knows}
+use Rattle.vbr_slots.proofs.steps.Steppers.{load_leaves, stays_well}
 use Rattle.vbr_slots.proofs.slots.Slots.load.Goals as goal
 
 pub invariant_of-stepper : goal.invariant_of-stepper

@@ -1,7 +1,7 @@
 use Rattle.std.proofs.Common.{sym, ap, ◌∙◌}
-use Rattle.vbr_slots.specs.Views.{PassView, knows}
-use Rattle.vbr_slots.proofs.Learning.{epoch_stays}
-use Rattle.vbr_slots.proofs.Steppers.{stays_well}
+use Rattle.vbr_slots.specs.views.Views.{PassView, knows}
+use Rattle.vbr_slots.proofs.steps.Learning.{epoch_stays}
+use Rattle.vbr_slots.proofs.steps.Steppers.{stays_well}
 use Rattle.vbr_slots.proofs.slots.Slots.load_and_epoch.Goals as goal
 
 pub read_epoch_as-epoch-requires-clause-before : goal.read_epoch_as-epoch-requires-clause-before

@@ -1,9 +1,9 @@
 use Rattle.std.proofs.Common.{rules, sym, ap}
 use Rattle.vbr_machine.specs.Machine.{access_of, word_made}
-use Rattle.vbr_slots.proofs.Learning.{shows_itself}
-use Rattle.vbr_slots.specs.Views.{knows}
-use Rattle.vbr_slots.proofs.Packed.{tells_plain, writes_plain}
-use Rattle.vbr_slots.proofs.Steps.{asks_alone, steps_did, steps_sound}
+use Rattle.vbr_slots.proofs.steps.Learning.{shows_itself}
+use Rattle.vbr_slots.specs.views.Views.{knows}
+use Rattle.vbr_slots.proofs.words.Packed.{tells_plain, writes_plain}
+use Rattle.vbr_slots.proofs.steps.Steps.{asks_alone, steps_did, steps_sound}
 use Rattle.vbr_slots.proofs.slots.Slots.load_as.Goals as goal
 
 pub load-found-requires : goal.load-found-requires

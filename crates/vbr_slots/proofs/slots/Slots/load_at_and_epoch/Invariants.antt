@@ -1,6 +1,6 @@
 use Rattle.vbr_machine.specs.declared.event.Step.TheVariants.{ReadEpoch}
-use Rattle.vbr_slots.specs.Stepping.{opening_of}
-use Rattle.vbr_slots.specs.Views.{event_of}
+use Rattle.vbr_slots.specs.steps.Stepping.{opening_of}
+use Rattle.vbr_slots.specs.views.Views.{event_of}
 use Rattle.vbr_slots.proofs.slots.Slots.load_at_and_epoch.Given as goal
 
 abbrev pub ghosts-read_epoch_as : goal.ghosts-read_epoch_as

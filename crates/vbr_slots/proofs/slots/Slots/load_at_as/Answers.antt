@@ -2,10 +2,10 @@ use Rattle.std.proofs.Common.{ℕ, sym, ap, ◌∙◌}
 use Rattle.vbr_words.specs.Packing.{slot_bits, unpacked}
 use Rattle.vbr_words.specs.Places as places
 use Rattle.vbr_machine.specs.Machine.{word_made}
-use Rattle.vbr_slots.specs.Words.{kept_at}
-use Rattle.vbr_slots.proofs.LinkIndices.{link_is}
-use Rattle.vbr_slots.proofs.Packed.{tells_link}
-use Rattle.vbr_slots.proofs.Steps.{asks_alone, link_epoch, named_bits, shown_link, steps_did, steps_sound}
+use Rattle.vbr_slots.specs.words.Words.{kept_at}
+use Rattle.vbr_slots.proofs.words.LinkIndices.{link_is}
+use Rattle.vbr_slots.proofs.words.Packed.{tells_link}
+use Rattle.vbr_slots.proofs.steps.Steps.{asks_alone, link_epoch, named_bits, shown_link, steps_did, steps_sound}
 use Rattle.vbr_slots.proofs.slots.Slots.load_at_as.Goals as goal
 
 pub load-requires : goal.load-requires

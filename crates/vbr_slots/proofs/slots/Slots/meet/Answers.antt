@@ -1,8 +1,8 @@
 use Rattle.std.proofs.Common.{sym, ap, ◌∙◌}
 use Rattle.vbr_slots.specs.declared.pass.Pass.TheInside.{Inside}
-use Rattle.vbr_slots.specs.Views.{counted_steps, steps_of}
-use Rattle.vbr_slots.proofs.Calls.{count_on, did_took}
-use Rattle.vbr_slots.proofs.Steppers.{stays_well}
+use Rattle.vbr_slots.specs.views.Views.{counted_steps, steps_of}
+use Rattle.vbr_slots.proofs.steps.Calls.{count_on, did_took}
+use Rattle.vbr_slots.proofs.steps.Steppers.{stays_well}
 use Rattle.vbr_slots.proofs.slots.Slots.meet.Goals as goal
 
 pub invariant_of-pass-inside : goal.invariant_of-pass-inside

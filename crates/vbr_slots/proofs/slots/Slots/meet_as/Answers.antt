@@ -2,14 +2,14 @@ use Rattle.std.proofs.Common.{[], ◌∷◌, refl, sym, ap, ◌∙◌, subst}
 use Rattle.vbr_machine.specs.declared.event.Step.TheVariants.{ReadEpoch}
 use Rattle.vbr_words.specs.declared.place.Place.TheVariants.{Epoch}
 use Rattle.vbr_machine.specs.Runs.{BeginsFor}
-use Rattle.vbr_slots.specs.Rule.{witness, opened_of}
-use Rattle.vbr_slots.specs.Views.{Trace}
-use Rattle.vbr_slots.proofs.Learning.{shows_itself}
-use Rattle.vbr_slots.proofs.Seats.{splits_whole, splits_first, joins}
+use Rattle.vbr_slots.specs.runs.Rule.{witness, opened_of}
+use Rattle.vbr_slots.specs.views.Views.{Trace}
+use Rattle.vbr_slots.proofs.steps.Learning.{shows_itself}
+use Rattle.vbr_slots.proofs.seats.Seats.{splits_whole, splits_first, joins}
 use Rattle.vbr_machine.specs.Machine.{Load}
-use Rattle.vbr_slots.proofs.Packed.{tells_plain, writes_plain}
-use Rattle.vbr_slots.proofs.Steps.{asks, known, low_of, done, stays_sound, did, seen_in, together, left_alone}
-use Rattle.vbr_slots.proofs.Steps.{right_rest, same_again, wide}
+use Rattle.vbr_slots.proofs.words.Packed.{tells_plain, writes_plain}
+use Rattle.vbr_slots.proofs.steps.Steps.{asks, known, low_of, done, stays_sound, did, seen_in, together, left_alone}
+use Rattle.vbr_slots.proofs.steps.Steps.{right_rest, same_again, wide}
 use Rattle.vbr_slots.proofs.slots.Slots.meet_as.Goals as goal
 
 pub split_seat-theirs-requires : goal.split_seat-theirs-requires

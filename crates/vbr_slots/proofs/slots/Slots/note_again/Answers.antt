@@ -1,7 +1,7 @@
 use Rattle.std.proofs.Common.{sym, ap, ◌∙◌}
 use Rattle.vbr_slots.specs.Tokens.{SeenView}
-use Rattle.vbr_slots.proofs.Seats.{splits_noted}
-use Rattle.vbr_slots.proofs.Steps.{none_has_it, wide}
+use Rattle.vbr_slots.proofs.seats.Seats.{splits_noted}
+use Rattle.vbr_slots.proofs.steps.Steps.{none_has_it, wide}
 use Rattle.vbr_slots.proofs.slots.Slots.note_again.Goals as goal
 
 pub split_seat-seat-requires : goal.split_seat-seat-requires

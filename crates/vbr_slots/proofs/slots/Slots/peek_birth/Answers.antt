@@ -1,5 +1,5 @@
-use Rattle.vbr_slots.proofs.Calls.{did_took}
-use Rattle.vbr_slots.proofs.Counting.{exact}
+use Rattle.vbr_slots.proofs.steps.Calls.{did_took}
+use Rattle.vbr_slots.proofs.steps.Counting.{exact}
 use Rattle.vbr_slots.proofs.slots.Slots.peek_birth.Goals as goal
 
 pub invariant_of-pass : goal.invariant_of-pass

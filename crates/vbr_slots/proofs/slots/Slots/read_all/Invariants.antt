@@ -1,5 +1,5 @@
 use Rattle.vbr_machine.specs.declared.event.Step.TheVariants.{ReadEpoch}
-use Rattle.vbr_slots.specs.Views.{event_of}
+use Rattle.vbr_slots.specs.views.Views.{event_of}
 use Rattle.vbr_slots.proofs.slots.Slots.read_all.Given as goal
 
 abbrev pub ghosts-read_all_as : goal.ghosts-read_all_as

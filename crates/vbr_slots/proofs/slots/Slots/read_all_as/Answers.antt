@@ -1,7 +1,7 @@
 use Rattle.std.proofs.Common.{◌≤◌, length, sym, subst, ◌∙◌, arith}
-use Rattle.vbr_slots.specs.Snapshots.{EachLow}
-use Rattle.vbr_slots.proofs.Snapshots.{are_read, asks_to_read, words_are}
-use Rattle.vbr_slots.proofs.Steps.{Sat}
+use Rattle.vbr_slots.specs.runs.Snapshots.{EachLow}
+use Rattle.vbr_slots.proofs.runs.Snapshots.{are_read, asks_to_read, words_are}
+use Rattle.vbr_slots.proofs.steps.Steps.{Sat}
 use Rattle.vbr_slots.proofs.slots.Slots.read_all_as.Goals as goal
 
 pub load-found-requires : goal.load-found-requires

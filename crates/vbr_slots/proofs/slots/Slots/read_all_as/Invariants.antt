@@ -1,7 +1,7 @@
 use Rattle.std.proofs.Common.{◌≡◌, ◌≤◌, ◌<◌, ℕ, length, slice_index}
 use Rattle.std.specs.Vec.{vec_capacity}
 use Rattle.vbr_words.specs.Places.{words_in}
-use Rattle.vbr_slots.specs.Snapshots.{IsWordAt}
+use Rattle.vbr_slots.specs.runs.Snapshots.{IsWordAt}
 use Rattle.vbr_slots.proofs.slots.Slots.read_all_as.Given as goal
 
 -- so many words were read, each after what the witnesses have seen, and the seat is as it was

@@ -1,11 +1,11 @@
 use Rattle.std.proofs.Common.{refl, sym, ap, ◌∙◌, rules}
 use Rattle.vbr_machine.specs.declared.event.Step.TheVariants.{ReadEpoch}
 use Rattle.vbr_words.specs.declared.place.Place.TheVariants.{Epoch}
-use Rattle.vbr_slots.proofs.Learning.{shows_itself}
-use Rattle.vbr_slots.specs.Views.{Trace, knows}
+use Rattle.vbr_slots.proofs.steps.Learning.{shows_itself}
+use Rattle.vbr_slots.specs.views.Views.{Trace, knows}
 use Rattle.vbr_machine.specs.Machine.{Load}
-use Rattle.vbr_slots.proofs.Packed.{tells_plain, writes_plain}
-use Rattle.vbr_slots.proofs.Steps.{asks_alone, steps_did, steps_sound}
+use Rattle.vbr_slots.proofs.words.Packed.{tells_plain, writes_plain}
+use Rattle.vbr_slots.proofs.steps.Steps.{asks_alone, steps_did, steps_sound}
 use Rattle.vbr_slots.proofs.slots.Slots.read_epoch_as.Goals as goal
 
 pub load-found-requires : goal.load-found-requires

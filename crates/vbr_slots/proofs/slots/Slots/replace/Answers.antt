@@ -1,4 +1,4 @@
-use Rattle.vbr_slots.proofs.Counting.{exact, replaces_took}
+use Rattle.vbr_slots.proofs.steps.Counting.{exact, replaces_took}
 use Rattle.vbr_slots.proofs.slots.Slots.replace.Goals as goal
 
 pub invariant_of-pass : goal.invariant_of-pass

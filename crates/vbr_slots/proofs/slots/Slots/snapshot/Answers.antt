@@ -1,11 +1,11 @@
 use Rattle.std.proofs.Common.{ℕ, ◌≤◌, length, sym, ap, ◌∙◌, subst, arith}
 use Rattle.vbr_machine.specs.Start.{IsStart}
-use Rattle.vbr_slots.specs.Snapshots.{AreReadBy}
-use Rattle.vbr_slots.specs.Views.{TableView}
-use Rattle.vbr_slots.proofs.Halting.{all_again, as_many, exact_again, one_again, sound_again, well_again}
-use Rattle.vbr_slots.proofs.Snapshots.{ends_so}
-use Rattle.vbr_slots.proofs.Seats.{enters, splits_first}
-use Rattle.vbr_slots.proofs.Steps.{Sat, wide}
+use Rattle.vbr_slots.specs.runs.Snapshots.{AreReadBy}
+use Rattle.vbr_slots.specs.views.Views.{TableView}
+use Rattle.vbr_slots.proofs.runs.Halting.{all_again, as_many, exact_again, one_again, sound_again, well_again}
+use Rattle.vbr_slots.proofs.runs.Snapshots.{ends_so}
+use Rattle.vbr_slots.proofs.seats.Seats.{enters, splits_first}
+use Rattle.vbr_slots.proofs.steps.Steps.{Sat, wide}
 use Rattle.vbr_slots.proofs.slots.Slots.snapshot.Goals as goal
 
 pub load_new_seat-none-requires : goal.load_new_seat-none-requires

@@ -1,6 +1,6 @@
 use Rattle.std.proofs.Common.{◌≤◌, length}
 use Rattle.std.specs.Vec.{vec_capacity}
-use Rattle.vbr_slots.specs.Snapshots.{IsHalting}
+use Rattle.vbr_slots.proofs.runs.Halting.{IsHalting}
 use Rattle.vbr_slots.proofs.slots.Slots.snapshot.Given as goal
 
 -- the passes so far are as they were, the others are halted, and there is room for them

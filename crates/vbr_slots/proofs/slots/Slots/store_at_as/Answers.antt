@@ -3,13 +3,14 @@ use Rattle.vbr_words.specs.Packing.{packed, slot_bits, unpacked}
 use Rattle.vbr_words.specs.Places as places
 use Rattle.vbr_words.proofs.Lemmas.{packed-unpacked}
 use Rattle.vbr_machine.specs.Machine.{word_made}
-use Rattle.vbr_slots.specs.Views.{knows}
-use Rattle.vbr_slots.specs.Words.{kept_at}
-use Rattle.vbr_slots.specs.WideWords.{wide_in}
-use Rattle.vbr_slots.proofs.Learning.{blind}
-use Rattle.vbr_slots.proofs.LinkIndices.{link_is}
-use Rattle.vbr_slots.proofs.Packed.{kept_link}
-use Rattle.vbr_slots.proofs.Steps.{asks_alone, bits_few, bits_same, link_epoch, shown_link, steps_did, steps_sound}
+use Rattle.vbr_slots.specs.views.Views.{knows}
+use Rattle.vbr_slots.specs.words.Words.{kept_at}
+use Rattle.vbr_slots.specs.words.WideWords.{wide_in}
+use Rattle.vbr_slots.proofs.steps.Learning.{blind}
+use Rattle.vbr_slots.proofs.words.LinkIndices.{link_is}
+use Rattle.vbr_slots.proofs.words.Packed.{kept_link}
+use Rattle.vbr_slots.proofs.steps.Steps.{asks_alone, bits_few, bits_same, link_epoch, shown_link, steps_did}
+use Rattle.vbr_slots.proofs.steps.Steps.{steps_sound}
 use Rattle.vbr_slots.proofs.slots.Slots.store_at_as.Goals as goal
 
 pub store-requires : goal.store-requires

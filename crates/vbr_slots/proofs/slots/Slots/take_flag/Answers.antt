@@ -1,4 +1,4 @@
-use Rattle.vbr_slots.proofs.Counting.{exact, flag_took}
+use Rattle.vbr_slots.proofs.steps.Counting.{exact, flag_took}
 use Rattle.vbr_slots.proofs.slots.Slots.take_flag.Goals as goal
 
 pub invariant_of-pass : goal.invariant_of-pass

@@ -2,9 +2,9 @@ use Rattle.std.proofs.Common.{rules, ◌<◌, ◌≤◌, length}
 use Rattle.vbr_machine.specs.Runs.{IsRun}
 use Rattle.vbr_machine.specs.Start.{IsStart}
 use Rattle.vbr_machine.proofs.Lemmas.{every_run}
-use Rattle.vbr_slots.specs.Pools.{OwnPool}
+use Rattle.vbr_slots.specs.pools.Pools.{OwnPool}
 use Rattle.vbr_slots.specs.declared.pass.TheConstants.{POOL}
-use Rattle.vbr_slots.specs.Views.{knows}
+use Rattle.vbr_slots.specs.views.Views.{knows}
 use Rattle.vbr_slots.proofs.stepper.Stepper.law.Goals as goal
 
 pub returns : goal.returns

@@ -1,8 +1,8 @@
 use Rattle.std.proofs.Common.{◌≡◌, sym, subst, ap, ◌∙◌}
-use Rattle.vbr_slots.specs.Pools.{OwnPool, without}
-use Rattle.vbr_slots.specs.Views.{PassView, knows}
-use Rattle.vbr_slots.proofs.Leaving.{left, stays}
-use Rattle.vbr_slots.proofs.Pools.{leaves}
+use Rattle.vbr_slots.specs.pools.Pools.{OwnPool, without}
+use Rattle.vbr_slots.specs.views.Views.{PassView, knows}
+use Rattle.vbr_slots.proofs.pools.Leaving.{left, stays}
+use Rattle.vbr_slots.proofs.pools.Pools.{leaves}
 use Rattle.vbr_slots.proofs.stepper.Stepper.leave_pool.Goals as goal
 
 pub remove-requires : goal.remove-requires

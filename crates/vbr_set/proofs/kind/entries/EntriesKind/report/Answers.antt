@@ -1,6 +1,6 @@
 use Rattle.std.proofs.Common.{ℕ, ◌∙◌, rules}
 use Rattle.std.proofs.lemmas.List.Sorted.{IsNonDecreasingBy-from_sort_by_key, length_permutation}
-use Rattle.vbr_set.proofs.LinkedEntries.{lists_entries}
+use Rattle.vbr_set.proofs.reports.LinkedEntries.{lists_entries}
 use Rattle.vbr_set.proofs.kind.entries.EntriesKind.report.Goals as goal
 
 pub returns : goal.returns

@@ -1,6 +1,6 @@
 use Rattle.std.proofs.Common.{ap, ◌∙◌}
 use Rattle.std.specs.Prelude.{slice_index}
-use Rattle.vbr_set.proofs.ShownNodes.{key_read}
+use Rattle.vbr_set.proofs.reports.ShownNodes.{key_read}
 use Rattle.vbr_set.proofs.kind.keys.KeysKind.read.Goals as goal
 
 pub returns : goal.returns

@@ -1,6 +1,6 @@
 use Rattle.std.proofs.Common.{◌∙◌}
 use Rattle.std.proofs.lemmas.List.Sorted.{IsNonDecreasingBy-from_sort, length_permutation}
-use Rattle.vbr_set.proofs.LinkedKeys.{lists_keys}
+use Rattle.vbr_set.proofs.reports.LinkedKeys.{lists_keys}
 use Rattle.vbr_set.proofs.kind.keys.KeysKind.report.Goals as goal
 
 pub returns : goal.returns

@@ -1,5 +1,5 @@
-use Rattle.vbr_set.specs.MapCalls.{GetsEntry}
-use Rattle.vbr_set.proofs.BatchesAside.{aside_in_turn, calls_in_turn}
+use Rattle.vbr_set.specs.calls.MapCalls.{GetsEntry}
+use Rattle.vbr_set.proofs.many_keys.BatchesAside.{aside_in_turn, calls_in_turn}
 use Rattle.vbr_set.proofs.member.batches.«Member+Entries».get_all.Goals as goal
 
 pub returns-clause-told : goal.returns-clause-told

@@ -6,6 +6,6 @@ pub invariant_of-self : goal.invariant_of-self
 invariant_of-self c = record {
   part = search rules;
   counted = search rules;
-  put_aside = kept_aside _ _ _ c.entries_now.ensures.takes_no_slot.kept.aside
-      c.entries_now.ensures.goes.sees.same.start c.self.invariant.put_aside;
+  put_aside = kept_aside _ _ _ c.entries_now.ensures.told.takes_no_slot.kept.aside
+      c.entries_now.ensures.told.goes.sees.same.start c.self.invariant.put_aside;
 }

@@ -1,5 +1,5 @@
 use Rattle.std.proofs.Common.{rules}
-use Rattle.vbr_set.proofs.Mailboxes.{opens, lays}
+use Rattle.vbr_set.proofs.members.Mailboxes.{opens, lays}
 use Rattle.vbr_set.proofs.member.mailbox.Mailbox.put.Goals as goal
 
 pub store-requires : goal.store-requires

@@ -1,12 +1,12 @@
 use Rattle.std.proofs.Common.{refl, rules}
 use Rattle.vbr_at_table.proofs.Lemmas.{kept_aside}
-use Rattle.vbr_set.proofs.Balances.{kept, once_in_map}
+use Rattle.vbr_set.proofs.members.Balances.{kept, once_in_map}
 use Rattle.vbr_set.proofs.member.map_calls.«Member+Entries».get.Goals as goal
 
 pub invariant_of-self : goal.invariant_of-self
 invariant_of-self c = record {
   part = search rules;
-  counted = kept once_in_map c.set.ensures c.get.ensures c.self.invariant.counted (λ given. refl);
-  put_aside = kept_aside _ _ _ c.get.ensures.bounds.takes_no_slot.kept.aside
-      c.get.ensures.same.start c.self.invariant.put_aside;
+  counted = kept once_in_map c.set.ensures c.get.ensures.told c.self.invariant.counted (λ given. refl);
+  put_aside = kept_aside _ _ _ c.get.ensures.told.bounds.takes_no_slot.kept.aside
+      c.get.ensures.told.same.start c.self.invariant.put_aside;
 }

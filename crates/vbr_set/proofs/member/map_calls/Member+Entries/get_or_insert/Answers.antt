@@ -1,14 +1,14 @@
 use Rattle.std.proofs.Common.{rules}
 use Rattle.vbr_at_table.proofs.Lemmas.{kept_aside}
-use Rattle.vbr_set.proofs.Balances.{absent_adds, added, once_in_map}
+use Rattle.vbr_set.proofs.members.Balances.{absent_adds, added, once_in_map}
 use Rattle.vbr_set.proofs.member.map_calls.«Member+Entries».get_or_insert.Goals as goal
 
 pub invariant_of-self : goal.invariant_of-self
 invariant_of-self c = record {
   part = search rules;
-  counted = added once_in_map c.set.ensures c.get_or_insert-answer.ensures c.self.invariant.counted _
+  counted = added once_in_map c.set.ensures c.get_or_insert-answer.ensures.told c.self.invariant.counted _
       c.one_if_wanted.ensures
       (absent_adds c.self.inside.pass.trace.who c.args.key c.args.value c.get_or_insert-answer.result);
-  put_aside = kept_aside _ _ _ c.get_or_insert-answer.ensures.bounds.0.aside
-      c.get_or_insert-answer.ensures.same.start c.self.invariant.put_aside;
+  put_aside = kept_aside _ _ _ c.get_or_insert-answer.ensures.told.bounds.0.aside
+      c.get_or_insert-answer.ensures.told.same.start c.self.invariant.put_aside;
 }

@@ -1,11 +1,11 @@
 use Rattle.std.proofs.Common.{refl, subst, sym}
-use Rattle.vbr_set.specs.MapCalls.{MapAnswersAll}
-use Rattle.vbr_set.specs.Members.{MemberView}
-use Rattle.vbr_set.specs.RecordCalls.{InsertsHeldBy, store_told}
-use Rattle.vbr_set.specs.Sharing.{set_shared}
-use Rattle.vbr_at_table.specs.Aside.{HasAside}
-use Rattle.vbr_set.proofs.Balances.{once_in_map}
-use Rattle.vbr_set.proofs.HeldMembers.{ends_spent, none_added, one_added, part_held, still_put, tells_still}
+use Rattle.vbr_set.specs.calls.MapCalls.{MapAnswersAll}
+use Rattle.vbr_set.specs.calls.Members.{MemberView}
+use Rattle.vbr_set.specs.calls.RecordCalls.{InsertsHeldBy, store_told}
+use Rattle.vbr_set.specs.members.Sharing.{set_shared}
+use Rattle.vbr_at_table.specs.hands.Aside.{HasAside}
+use Rattle.vbr_set.proofs.members.Balances.{once_in_map}
+use Rattle.vbr_set.proofs.held_slots.HeldMembers.{ends_spent, none_added, one_added, part_held, still_put, tells_still}
 use Rattle.vbr_set.proofs.member.records.«Member+Entries».insert_held.Goals as goal
 
 pub invariant_of-self : goal.invariant_of-self

@@ -1,14 +1,14 @@
 use Rattle.std.proofs.Common.{None, Ok, Err, ap, subst, sym}
 use Rattle.std.specs.Prelude.{Option, Result, ℕ}
-use Rattle.vbr_at_table.specs.Aside.{HasAside}
-use Rattle.vbr_at_table.specs.Hands.{HandView}
-use Rattle.vbr_set.specs.HeldStores.{PutsAside, put_answer}
-use Rattle.vbr_set.specs.Members.{MemberView}
-use Rattle.vbr_set.specs.RecordCalls.{aside_left}
-use Rattle.vbr_set.specs.Sharing.{set_shared}
+use Rattle.vbr_at_table.specs.hands.Aside.{HasAside}
+use Rattle.vbr_at_table.specs.hands.Hands.{HandView}
+use Rattle.vbr_set.specs.calls.HeldStores.{PutsAside, put_answer}
+use Rattle.vbr_set.specs.calls.Members.{MemberView}
+use Rattle.vbr_set.specs.calls.RecordCalls.{aside_left}
+use Rattle.vbr_set.specs.members.Sharing.{set_shared}
 use Rattle.vbr_set.specs.declared.record_refusals.HeldRefusal.TheVariants.{OutOfSteps}
-use Rattle.vbr_set.proofs.HeldMembers.{part_kept, put_again}
-use Rattle.vbr_set.proofs.HeldStores.{none_put, put_added, put_same, put_spent, puts_aside}
+use Rattle.vbr_set.proofs.held_slots.HeldMembers.{part_kept, put_again}
+use Rattle.vbr_set.proofs.held_slots.HeldStores.{none_put, put_added, put_same, put_spent, puts_aside}
 use Rattle.vbr_set.proofs.member.records.«Member+Entries».put_held.Goals as goal
 
 pub invariant_of-self : goal.invariant_of-self

@@ -1,14 +1,14 @@
 use Rattle.std.proofs.Common.{rules}
 use Rattle.vbr_at_table.proofs.Lemmas.{kept_aside}
-use Rattle.vbr_set.proofs.Balances.{once_in_map, taken}
-use Rattle.vbr_set.proofs.EntryCalls.{taken_takes}
+use Rattle.vbr_set.proofs.members.Balances.{once_in_map, taken}
+use Rattle.vbr_set.proofs.histories.EntryCalls.{taken_takes}
 use Rattle.vbr_set.proofs.member.records.«Member+Entries».remove_exactly.Goals as goal
 
 pub invariant_of-self : goal.invariant_of-self
 invariant_of-self c = record {
   part = search rules;
-  counted = taken once_in_map c.set.ensures c.remove_exactly-answer.ensures.removes c.self.invariant.counted _
+  counted = taken once_in_map c.set.ensures c.remove_exactly-answer.ensures.told.removes c.self.invariant.counted _
       c.one_if_wanted.ensures (taken_takes c.self.inside.pass.trace.who c.args.key c.remove_exactly-answer.result);
-  put_aside = kept_aside _ _ _ c.remove_exactly-answer.ensures.removes.bounds.takes_no_slot.kept.aside
-      c.remove_exactly-answer.ensures.removes.same.start c.self.invariant.put_aside;
+  put_aside = kept_aside _ _ _ c.remove_exactly-answer.ensures.told.removes.bounds.takes_no_slot.kept.aside
+      c.remove_exactly-answer.ensures.told.removes.same.start c.self.invariant.put_aside;
 }

@@ -1,14 +1,15 @@
 use Rattle.std.proofs.Common.{None, Ok, ap, subst, sym, true}
 use Rattle.std.specs.Prelude.{Result}
-use Rattle.vbr_at_table.specs.Aside.{HasAside}
-use Rattle.vbr_at_table.specs.Hands.{HandView}
+use Rattle.vbr_at_table.specs.hands.Aside.{HasAside}
+use Rattle.vbr_at_table.specs.hands.Hands.{HandView}
 use Rattle.vbr_list.specs.declared.holding.NotReplaced.{NotReplaced}
-use Rattle.vbr_set.specs.HeldStores.{ReplacesAside, ReplacesHeldBy, replaced_answer}
-use Rattle.vbr_set.specs.Members.{MemberView}
-use Rattle.vbr_set.specs.RecordCalls.{aside_left}
-use Rattle.vbr_set.specs.Sharing.{set_shared}
-use Rattle.vbr_set.proofs.HeldMembers.{part_kept, put_again}
-use Rattle.vbr_set.proofs.HeldStores.{replaced_kept, replaced_same, replaced_spent, replaces_aside, tells_unreplaced}
+use Rattle.vbr_set.specs.calls.HeldStores.{ReplacesAside, ReplacesHeldBy, replaced_answer}
+use Rattle.vbr_set.specs.calls.Members.{MemberView}
+use Rattle.vbr_set.specs.calls.RecordCalls.{aside_left}
+use Rattle.vbr_set.specs.members.Sharing.{set_shared}
+use Rattle.vbr_set.proofs.held_slots.HeldMembers.{part_kept, put_again}
+use Rattle.vbr_set.proofs.held_slots.HeldStores.{replaced_kept, replaced_same, replaced_spent, replaces_aside}
+use Rattle.vbr_set.proofs.held_slots.HeldStores.{tells_unreplaced}
 use Rattle.vbr_set.proofs.member.records.«Member+Entries».replace_held.Goals as goal
 
 pub invariant_of-self : goal.invariant_of-self

@@ -1,4 +1,4 @@
-use Rattle.vbr_set.proofs.HeldStores.{puts_by}
+use Rattle.vbr_set.proofs.held_slots.HeldStores.{puts_by}
 use Rattle.vbr_set.proofs.set.record_calls.«VbrSet+Entries».put_held.Goals as goal
 
 pub returns : goal.returns

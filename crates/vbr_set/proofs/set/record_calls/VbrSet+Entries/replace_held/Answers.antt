@@ -1,4 +1,4 @@
-use Rattle.vbr_set.proofs.HeldStores.{replaces_by}
+use Rattle.vbr_set.proofs.held_slots.HeldStores.{replaces_by}
 use Rattle.vbr_set.proofs.set.record_calls.«VbrSet+Entries».replace_held.Goals as goal
 
 pub returns : goal.returns

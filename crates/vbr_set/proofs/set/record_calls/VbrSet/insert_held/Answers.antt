@@ -1,7 +1,7 @@
 use Rattle.std.proofs.Common.{sym, ap, ◌∙◌}
 use Rattle.vbr_machine.specs.Start.{Start}
-use Rattle.vbr_slots.specs.Views.{TableView}
-use Rattle.vbr_set.proofs.HeldCalls.{set_held}
+use Rattle.vbr_slots.specs.views.Views.{TableView}
+use Rattle.vbr_set.proofs.held_slots.HeldCalls.{set_held}
 use Rattle.vbr_set.proofs.set.record_calls.VbrSet.insert_held.Goals as goal
 
 pub returns : goal.returns

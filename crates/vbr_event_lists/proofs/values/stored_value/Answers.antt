@@ -1,0 +1,20 @@
+-- The numbers of the link words are those of the list, which is worked.
+use Rattle.std.proofs.Common.{ℕ, List, sym, subst}
+use Rattle.vbr_machine.specs.Machine.{opening}
+use Rattle.vbr_machine.specs.declared.event.Effect.{Effect}
+use Rattle.vbr_machine.specs.declared.event.Step.{Step}
+use Rattle.vbr_event_lists.specs.Worked.{AreWorked, one_slot}
+use Rattle.vbr_event_lists.specs.Valued.{valued}
+use Rattle.vbr_event_lists.specs.declared.values.TheConstants.{STORED_VALUE_WORDS}
+use Rattle.vbr_event_lists.proofs.RowLists as rows
+use Rattle.vbr_event_lists.proofs.ValuedRows.{stored_value}
+use Rattle.vbr_event_lists.proofs.values.stored_value.Goals as goal
+
+pub returns : goal.returns
+returns c = record {
+  worked =
+      subst (λ (list : List (ℕ × Step × Effect)). AreWorked (valued one_slot) (opening (valued one_slot)) list
+      STORED_VALUE_WORDS)
+      (λ i. rows.stored_value_with (sym c.numbered.ensures i) (sym c.numbered-2.ensures i) (sym c.numbered-3.ensures i)
+      (sym c.numbered-4.ensures i)) stored_value;
+}

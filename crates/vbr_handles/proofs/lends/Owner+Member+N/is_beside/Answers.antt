@@ -1,6 +1,0 @@
-use Rattle.std.proofs.Common.{rules}
-use Rattle.vbr_handles.proofs.AllHandles.{lent_back}
-use Rattle.vbr_handles.proofs.lends.«Owner+Member+N».is_beside.Goals as goal
-
-pub returns : goal.returns
-returns g c = search (rules, lent_back)

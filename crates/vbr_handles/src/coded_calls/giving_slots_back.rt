@@ -1,0 +1,40 @@
+//! Giving the slots of a handle's pass back, by itself and before a close.
+ghost use Rattle.vbr_set.specs.reports.Closing.{ClosesBy};
+ghost use Rattle.vbr_handles.specs.GivingSlotsBack.{ClosesWithoutSlots, TellsGivenBack};
+
+use crate::coded_calls::records::let_go;
+use crate::items::Listed;
+use crate::owner::Owner;
+use crate::report_numbers::ReportNumbers;
+use std::alloc::Global;
+use vbr_set::Kind;
+use vbr_set::member::Member;
+use vbr_words::Nodes;
+
+/// Puts the slots that the pass of a handle keeps to itself into the shared pool, as
+/// [`Member::give_slots_back`] does, and returns how many; 0 where the handle is empty.
+pub fn give_slots_back<N: Nodes>(owner: &mut Owner<Member<N>>) -> u32
+    ensures { TellsGivenBack owner.old.member owner.new.member result }
+{
+    if owner.is_empty() {
+        return 0;
+    }
+    owner.member_mut().give_slots_back()
+}
+
+/// Lets go of the slot that its member holds, gives the slots of its pass back, and then closes a handle, as
+/// [`crate::coded_calls::close`] does: so those that go on have them. Where it is the last one and is refused, it stays
+/// full, holds none, and its slots are in the shared pool.
+pub fn close<N: Kind, I: Listed<N>>(
+    alloc: Global,
+    owner: &mut Owner<Member<N>>,
+    items: &mut [I],
+    told: &mut ReportNumbers,
+) -> i32
+    ensures { ClosesWithoutSlots I.listing (ClosesBy N.kind) owner.old.member owner.new.member
+        items.old items.new told.old told.new result }
+{
+    let_go(owner);
+    give_slots_back(owner);
+    crate::coded_calls::close::<N, I>(alloc, owner, items, told)
+}

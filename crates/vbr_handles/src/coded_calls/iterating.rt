@@ -1,0 +1,63 @@
+//! The calls of an iteration with their answers as numbers. What is next goes out where there is such, and
+//! else nothing is written.
+ghost use Rattle.std.specs.Prelude.{◌≡◌};
+ghost use Rattle.vbr_list.specs.calls.Told.{is_yes};
+ghost use Rattle.vbr_handles.specs.Codes.{call_code};
+ghost use Rattle.vbr_handles.specs.Iterating.{TellsNext, TellsNextEntry};
+ghost use Rattle.vbr_handles.specs.ValueCalls.{WritesGiven};
+
+use crate::coded_calls::entries::give;
+use crate::coded_calls::{EMPTY, NO, YES, call_code};
+use crate::entry::Entry;
+use crate::owner::Owner;
+use vbr_set::member::Member;
+use vbr_set::{Cursor, MapMember, Refusal};
+use vbr_words::Nodes;
+
+/// Tells the next key at a cursor by the member of a handle, and writes it.
+pub fn next_key<N: Nodes>(
+    owner: &mut Owner<Member<N>>,
+    cursor: &mut Cursor,
+    key: &mut u64,
+    budget: u32,
+) -> i32
+    ensures { TellsNext owner.old.member owner.new.member cursor.old cursor.new budget
+        key.old key.new result }
+{
+    if owner.is_empty() {
+        return EMPTY;
+    }
+    give(owner.member_mut().next_key(cursor, budget), key)
+}
+
+/// Tells the next entry at a cursor by the member of a handle, and writes its key and its value.
+pub fn next_entry(
+    owner: &mut Owner<MapMember>,
+    cursor: &mut Cursor,
+    entry: &mut Entry,
+    budget: u32,
+) -> i32
+    ensures { TellsNextEntry owner.old.member owner.new.member cursor.old cursor.new budget
+        (entry.old.key, entry.old.value) (entry.new.key, entry.new.value) result }
+{
+    if owner.is_empty() {
+        return EMPTY;
+    }
+    give_entry(owner.member_mut().next_entry(cursor, budget), entry)
+}
+
+// Writes the key and the value of an answer, where it gives an entry, and tells the number of the answer.
+fn give_entry(answer: Result<Option<(u64, u64)>, Refusal>, entry: &mut Entry) -> i32
+    ensures code { result ≡ call_code (is_yes answer) }
+    ensures writes { WritesGiven answer (entry.old.key, entry.old.value)
+        (entry.new.key, entry.new.value) }
+{
+    match answer {
+        Ok(Some((key, value))) => {
+            *entry = Entry { key, value };
+            YES
+        }
+        Ok(None) => NO,
+        Err(refusal) => call_code(Err(refusal)),
+    }
+}

@@ -1,0 +1,7 @@
+-- Look-ups and gets: walks of loads alone, and values that are read.
+pub mod Passing
+pub mod Sights
+pub mod Following
+pub mod ValueReads
+pub mod ReadFirst
+pub mod FoundValues

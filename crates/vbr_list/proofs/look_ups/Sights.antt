@@ -1,0 +1,63 @@
+-- What a look-up came to, as what its answer asks.
+use Rattle.vbr_list.proofs.Names.{◌≡◌, ◌≢◌, ℕ, ◌≤◌, Bool, true, false, None, Option, is_some, arith, refl, sym, subst}
+use Rattle.vbr_list.proofs.Names.{At, Call, DecidesKey, Get, Ghosts, Insert, IsHeld, IsSlot, KeyAt, Know, link_of}
+use Rattle.vbr_list.proofs.Names.{set_call, Start}
+use Rattle.vbr_at_table.specs.answers.Answering.{IsAnswered}
+use Rattle.vbr_list.specs.look_ups.LookUpPieces.{LookUpAnswers, steps_to_answer}
+use Rattle.vbr_list.specs.calls.Pieces.{trace_in}
+use Rattle.vbr_list.specs.walks.Places.{IsSight, sighted, is_present}
+use Rattle.vbr_list.specs.calls.Told.{given_by, kept_call, look_up_op}
+use Rattle.vbr_list.specs.declared.call.PendingCall.{PendingCall}
+use Rattle.vbr_list.specs.declared.looking.Sight.{Sight}
+use Rattle.vbr_list.specs.declared.looking.Sight.TheVariants.{Present, Absent}
+use Rattle.vbr_list.proofs.pieces.Told.{told_bare}
+
+pub keyed_slot : (know : Know) (place : At) (key : ℕ) → KeyAt know place key → IsSlot place
+keyed_slot know place key k = grind arith
+
+module _ (start : Start) (know : Know) (key : ℕ) where
+  pub sight_held : (sight : Sight) → IsSight start know key sight → IsHeld know (sighted sight)
+  sight_held sight s = grind arith
+
+  pub sight_unmarked : (sight : Sight) → IsSight start know key sight → (link_of (sighted sight).word).mark ≡ false
+  sight_unmarked sight s = grind arith
+
+  pub sight_answers : (sight : Sight) → IsSight start know key sight →
+      DecidesKey start know key (sighted sight) (is_present sight)
+  sight_answers (Present node) s = (keyed_slot know node.at key s.2, s.2)
+  sight_answers (Absent pred) s = (s.0.behind, s.1)
+
+-- ---- its answer
+
+-- where it gives no value, it answers as a set does
+pub answers_bare : {N : Type 0} {kind : Ghosts N} {c d : PendingCall N kind} (gives : Bool) (answer : Option ℕ) →
+    given_by (look_up_op gives) answer ≡ None →
+    IsAnswered (trace_in c) (trace_in d) (set_call (trace_in c).who (look_up_op gives) c.key (is_some answer)) →
+    LookUpAnswers gives c d answer
+answers_bare {c = c} {d = d} gives answer none answered =
+    let p = trace_in c in
+    let op = look_up_op gives in
+    let P : Call → Type 0 = IsAnswered p (trace_in d) in
+    let Q : Option ℕ → Type 0 =
+    λ value. P (kept_call p.start (record (set_call p.who op c.key (is_some answer)) { value = value })) in
+    let x = subst Q (sym none) (subst P (told_bare p.start p.who op c.key (is_some answer)) answered) in
+    record { made = x.made; adds = x.adds }
+
+-- a no gives none
+pub none_given : (gives : Bool) → given_by (look_up_op gives) None ≡ None
+none_given true = refl
+none_given false = refl
+
+-- no look-up inserts, and one that is a get gives the value
+pub op_other : (gives : Bool) → look_up_op gives ≢ Insert
+op_other true = λ e. absurd (cc)
+op_other false = λ e. absurd (cc)
+
+pub op_gets : (gives : Bool) → look_up_op gives ≡ Get → gives ≡ true
+op_gets true e = refl
+op_gets false e = absurd (cc)
+
+-- ---- what its answer costs
+
+pub few_to_answer : (gives : Bool) → steps_to_answer gives ≤ 3
+few_to_answer gives = grind arith

@@ -1,0 +1,75 @@
+-- What calls hold and find, with wide words: what stays so.
+use Rattle.vbr_list.proofs.Names.{◌≡◌, ap, refl, Bor, None, Option, option_copied, Some, ◌∙◌}
+use Rattle.vbr_list.proofs.Names.{Ghosts, Held, ℕ}
+use Rattle.vbr_at_table.specs.reads.Held.{said, said_if, said_succ}
+use Rattle.vbr_slots.specs.views.Views.{TableView}
+use Rattle.vbr_words.specs.Packing.{slot_bits}
+use Rattle.vbr_slots.specs.declared.at_table.AtTable.{AtTable}
+use Rattle.vbr_slots.specs.steps.AtTables.{IsSameTable}
+use Rattle.vbr_list.specs.named_entries.OtherEntries.{IsNodeOf}
+use Rattle.vbr_list.specs.walks.Places.{is_present, sighted}
+use Rattle.vbr_list.specs.calls.Words.{wide_found, wide_held, wide_sight}
+use Rattle.vbr_list.specs.declared.call.PendingCall.{PendingCall}
+use Rattle.vbr_list.specs.declared.entries.Entry.{Entry}
+use Rattle.vbr_list.specs.declared.found.Found.{Found}
+use Rattle.vbr_list.specs.declared.looking.Sight.{Sight}
+use Rattle.vbr_list.specs.declared.looking.Sight.TheVariants.{Absent, Present}
+
+-- what is there is there with wide words
+pub wide_is : {N : Type 0} {kind : Ghosts N} (c : PendingCall N kind) {found : Option Held} {held : Held} →
+    found ≡ Some held → said_if c.at.slots.now found ≡ Some (wide_held c held)
+wide_is c is = ap (said_if c.at.slots.now) is
+
+-- so it is of what is lent
+pub wide_lent : {N : Type 0} {kind : Ghosts N} (c : PendingCall N kind) (lent : Option (Bor Held)) {cur : Option Held} →
+    option_copied lent ≡ cur → option_copied (said_succ c.at.slots.now lent) ≡ said_if c.at.slots.now cur
+wide_lent c None same = ap (said_if c.at.slots.now) same
+wide_lent c (Some node) same = ap (said_if c.at.slots.now) same
+
+-- what was found is the node of an entry, whatever its words
+pub node_wide : {N : Type 0} {kind : Ghosts N} (c : PendingCall N kind) {found : Found} {entry : Entry} →
+    IsNodeOf found entry → IsNodeOf (wide_found c found) entry
+node_wide c x = record {
+  present = x.present;
+  node = wide_held c x.node;
+  cur = wide_is c x.cur;
+  place = x.place;
+  birth = x.birth;
+}
+
+-- what is there with wide words is there, at the same place and with the same birth
+bare_is : (table : TableView) (cur : Option Held) (node : Held) → said_if table cur ≡ Some node →
+    (held : Held) × (cur ≡ Some held) × (held.at ≡ node.at) × (held.birth ≡ node.birth)
+bare_is table None node is = absurd (cc)
+bare_is table (Some held) node is =
+    let same : said table held ≡ node = cc in
+    (held, refl, ap (λ (h : Held). h.at) same, ap (λ (h : Held). h.birth) same)
+
+pub node_bare : {N : Type 0} {kind : Ghosts N} (c : PendingCall N kind) (found : Found) {entry : Entry} →
+    IsNodeOf (wide_found c found) entry → IsNodeOf found entry
+node_bare c found x =
+    let bare = bare_is c.at.slots.now found.cur x.node x.cur in
+    record {
+      present = x.present;
+      node = bare.0;
+      cur = bare.1;
+      place = bare.2 ∙ x.place;
+      birth = bare.3 ∙ x.birth;
+    }
+
+-- what tells a look-up's answer is the same place with wide words
+pub wide_sighted : {N : Type 0} {kind : Ghosts N} (c : PendingCall N kind) (sight : Sight) →
+    sighted (wide_sight c sight) ≡ wide_held c (sighted sight)
+wide_sighted c (Present node) = refl
+wide_sighted c (Absent pred) = refl
+
+pub wide_present : {N : Type 0} {kind : Ghosts N} (c : PendingCall N kind) (sight : Sight) →
+    is_present (wide_sight c sight) ≡ is_present sight
+wide_present c (Present node) = refl
+wide_present c (Absent pred) = refl
+
+-- the layout of a table at which a pass went on is that of the table before
+pub layout_at : {N : Type 0} {kind : Ghosts N} {c d : AtTable N kind} {layout : ℕ} →
+    layout ≡ slot_bits d.slots.now.start.shape.slots → IsSameTable c d → layout ≡ slot_bits
+    c.slots.now.start.shape.slots
+layout_at is table = is ∙ ap (λ (s : Bor TableView). slot_bits s.now.start.shape.slots) table.slots

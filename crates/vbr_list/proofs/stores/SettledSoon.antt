@@ -1,0 +1,178 @@
+-- What a call with a slot in hand costs that stores a value, seen from before its searches.
+use Rattle.vbr_list.proofs.Names.{◌≡◌, ◌<◌, ◌≤◌, ℕ, ◌+◌, Bool, true, false, Option, subst, inl, inr, arith}
+use Rattle.vbr_list.proofs.Names.{begins_refl, Call, Ghosts, HandView, Insert, MadeTwo, PassLaw, PIECE, refl, Remove}
+use Rattle.vbr_list.proofs.Names.{None, same_on, Some, Trace}
+use Rattle.vbr_at_table.specs.answers.Records.{PublishesSlot}
+use Rattle.vbr_list.specs.updates.Holding.{FindsOtherEntry, StoresByHand, StoresHeld, TiresStoring}
+use Rattle.vbr_list.specs.named_entries.OtherEntries.{WasOther}
+use Rattle.vbr_list.specs.walks.Leaving.{LeavesReplaced}
+use Rattle.vbr_list.specs.calls.Pieces.{GoesOn, IsSameCall, pass_in, trace_in}
+use Rattle.vbr_list.specs.updates.Removing.{MarksAndSearches}
+use Rattle.vbr_list.specs.updates.Settling.{AnswersIn, MaySettle, SearchesWith, SettlesIn, SettlesSoon, StoredIn}
+use Rattle.vbr_list.specs.updates.Settling.{StoredSoon}
+use Rattle.vbr_list.specs.updates.Settling.{had_node}
+use Rattle.vbr_list.specs.updates.Storing.{Makes, storing_calls}
+use Rattle.vbr_list.specs.walks.Traversing.{LastWalk, SearchFinds, SearchTires}
+use Rattle.vbr_list.specs.walks.Walking.{WalksAgain}
+use Rattle.vbr_list.specs.declared.call.PendingCall.{PendingCall}
+use Rattle.vbr_list.specs.declared.found.Found.{Found}
+use Rattle.vbr_list.specs.calls.Told.{given_call, stored_call}
+use Rattle.vbr_list.specs.declared.entries.Entry.{Entry}
+use Rattle.vbr_list.proofs.walks.Disturbing.{run_at}
+use Rattle.vbr_list.proofs.inserts.HeldCosts.{costs_after, lacks_after, stored_costs, stored_leaves}
+use Rattle.vbr_list.proofs.stores.LateSearches.{late_searched}
+use Rattle.vbr_list.proofs.inserts.Linking.{begun, counts_until, IsLinking, quiet_until, TakesOn}
+use Rattle.vbr_list.proofs.named_entries.Publishing.{published_since}
+use Rattle.vbr_list.proofs.stores.Stores.{are_alone, has_made, HasMade, makes_on, searches_with_end}
+use Rattle.vbr_list.proofs.walks.Sweeping.{leaves_replaced_since}
+
+abbrev pub AnswersSoon : {N : Type 0} {kind : Ghosts N} → Bool → PendingCall N kind → PendingCall N kind → Type 0
+AnswersSoon stored c d = StoredSoon stored (trace_in c) (trace_in d) c.key c.used d.used c.budget
+
+-- one more search, and what came then
+pub searches_with : {N : Type 0} {kind : Ghosts N} {b c d : PendingCall N kind} {hand : HandView} →
+    PassLaw (pass_in b) → IsLinking 11 b c hand → GoesOn c d →
+    WalksAgain 9 (trace_in c) (trace_in d) c.key c.used d.used → (now more all : ℕ) → now ≤ d.used + more →
+    more + 3 ≤ all → SearchesWith (trace_in b) (trace_in d) b.key b.used now all
+searches_with {b = b} {c = c} {d = d} law so went walks =
+    let quiet = quiet_until so went in
+    let P : ℕ → Type 0 = λ key. WalksAgain 9 (trace_in c) (trace_in d) key c.used d.used in
+    searches_with_end (trace_in b) (trace_in c) (trace_in d) law.start
+    (run_at (trace_in b) (trace_in d) quiet.same (quiet.is_run law.is_run)) b.key so.1.same so.1.seen
+    went.goes.quiet.seen so.6 (subst P so.0.key walks)
+
+module _ {N : Type 0} {kind : Ghosts N} (b c d e : PendingCall N kind) {hand : HandView} (law : PassLaw (pass_in b))
+    (so : IsLinking 11 b c hand) (went : GoesOn c d) (found : Found) (finds : SearchFinds c d found)
+    (made : HasMade (trace_in d) (trace_in e)) where
+  -- it is answered soon then
+  pub soon_then : (stored : Bool) → SettlesSoon PIECE stored d e → AnswersSoon stored b e
+  soon_then stored soon =
+      let quiet = quiet_until so went in
+      let same = begun so went in
+      record {
+        ended = trace_in d;
+        quiet = quiet;
+        to = made.seen;
+        used = d.used;
+        searches = searches_with law so went finds.walks d.used 0 3 (omega arith) (omega arith);
+        few = let few = soon.few in omega (arith, few);
+        leaves = λ yes room.
+            let L : ℕ → Type 0 = LeavesReplaced (trace_in d) (trace_in e) in
+            let budget = same.budget in
+            leaves_replaced_since (trace_in e) b.key law.start quiet
+            (subst L same.key (soon.leaves yes (omega (arith, room, budget))));
+      }
+
+  -- or late
+  pub answers_then : (stored : Bool) → SettlesIn PIECE stored d e found → AnswersIn stored b e
+  answers_then false soon = soon_then false soon
+  answers_then true (inl soon) = inl (soon_then true soon)
+  answers_then true (inr late) =
+      let quiet = quiet_until so went in
+      let p = trace_in b in
+      let S : ℕ → Type 0 = λ k. MarksAndSearches PIECE (trace_in d) (trace_in e) k d.used e.used found.pred in
+      let L : ℕ → Type 0 = λ k. LastWalk (trace_in c) (trace_in d) k c.used d.used found in
+      inr (late_searched p (trace_in c) (trace_in d) (trace_in e) law.start
+      (run_at p (trace_in e) (same_on quiet.same made.same) made.is_run) b.key so.1.same went.goes.quiet.same so.1.seen
+      went.goes.quiet.seen quiet made.seen so.6 found (subst L so.0.key finds.last) e.used
+      (subst S (begun so went).key late))
+
+-- a piece that may have answered the call
+pub takes_settled : {N : Type 0} {kind : Ghosts N} {c d : PendingCall N kind} → MaySettle c d → TakesOn c d
+takes_settled x =
+    record {
+      call = x.call;
+      counts = x.counts;
+      more = (let more = x.more in omega (arith, more));
+      takes_no_slot = x.takes_no_slot;
+    }
+
+-- ---- by a slot in hand that the caller holds
+
+-- two calls where a node was replaced
+held_two : (p r : Trace) (who key value : ℕ) (there : Option ℕ) → Makes (storing_calls who key value there) p r →
+    had_node there ≡ true →
+    (first : Call) × (second : Call) × MadeTwo first second p r × (first.op ≡ Remove) × (second.op ≡ Insert)
+held_two p r who key value None made had = absurd (let z : false ≡ true = had in cc)
+held_two p r who key value (Some old) made had =
+    (given_call who Remove key (Some old), stored_call who key value true, made, refl, refl)
+
+-- the value was stored after some searches
+pub held_stores : {N : Type 0} {kind : Ghosts N} (b c d e : PendingCall N kind) {hand first : HandView}
+    (law : PassLaw (pass_in b)) (so : IsLinking 11 b c hand) (went : GoesOn c d) (found : Found)
+    (finds : SearchFinds c d found) → IsSameCall d e → (value : ℕ) (there : Option ℕ) → hand ≡ first →
+    StoresByHand value d e hand found there →
+    StoresHeld (pass_in b) (pass_in e) b.key value b.used e.used b.budget first there
+held_stores b c d e {hand} {first} law so went found finds call value there is x =
+    let p = trace_in b in
+    let q = trace_in d in
+    let r = trace_in e in
+    let same = begun so went in
+    let quiet = quiet_until so went in
+    let K : ℕ → Type 0 = λ k. Makes (storing_calls q.who k value there) p r in
+    let W : ℕ → Type 0 = λ who. Makes (storing_calls who b.key value there) p r in
+    let S : ℕ → HandView → Type 0 = λ k h. PublishesSlot p x.slot.ended h.slot h.birth k in
+    let F : ℕ → Type 0 = λ k. S k hand in
+    let H : HandView → Type 0 = S b.key in
+    let L : ℕ → Type 0 = LeavesReplaced q r in
+    let made : Makes (storing_calls p.who b.key value there) p r =
+    subst W quiet.same.who
+    (subst K same.key (makes_on p q r (storing_calls q.who d.key value there) quiet x.stores.stores.made)) in
+    let has = has_made p r (storing_calls p.who b.key value there) made in
+    let ok = run_at p r has.same has.is_run in
+    let paid : StoredIn (had_node there) p r b.key b.used e.used b.budget =
+    answers_then b c d e law so went found finds
+    (has_made q r (storing_calls q.who d.key value there) x.stores.stores.made) (had_node there) x.paid in
+    record {
+      made = made;
+      alone = are_alone p r (storing_calls p.who b.key value there) law.start law.low made;
+      spent = x.stores.stores.spent;
+      slot = record {
+        ended = x.slot.ended;
+        same = same_on quiet.same x.slot.same;
+        to = x.slot.to;
+        published = subst H is (subst F same.key (published_since quiet x.slot.published));
+      };
+      leaves = λ yes room.
+          let kept = call.budget in
+          let before = same.budget in
+          leaves_replaced_since r b.key law.start quiet
+          (subst L same.key (x.stores.leaves yes (omega (arith, room, kept, before))));
+      leaves_alone = stored_leaves (had_node there) p r law.start ok b.key b.used e.used b.budget paid;
+      paid = paid;
+      costs = stored_costs (had_node there) p r law.start ok b.key b.used e.used b.budget
+          (held_two p r p.who b.key value there made) paid;
+    }
+
+-- there are no steps left
+pub held_tires : {N : Type 0} {kind : Ghosts N} {b c d : PendingCall N kind} {hand : HandView}
+    (law : PassLaw (pass_in b)) (so : IsLinking 11 b c hand) (went : GoesOn c d) → SearchTires c d →
+    TiresStoring (trace_in b) (trace_in d) b.key b.used d.used b.budget
+held_tires {b = b} {d = d} law so went tired =
+    let short : b.budget < d.used + PIECE = rw so.0.budget at tired.tired in
+    let quiet = quiet_until so went in
+    let searches : SearchesWith (trace_in b) (trace_in d) b.key b.used (b.budget + 1) 11 =
+    searches_with {b = b} law so went tired.walks (b.budget + 1) 8 11 (omega (arith, short)) (omega arith) in
+    record {
+      short = record { counts = counts_until so went; short = short };
+      searches = searches;
+      lacks = lacks_after 12 (trace_in b) (trace_in d) law.start
+          (run_at (trace_in b) (trace_in d) quiet.same (quiet.is_run law.is_run)) b.key quiet b.used b.budget searches;
+    }
+
+-- the key was found otherwise
+pub held_finds : {N : Type 0} {kind : Ghosts N} {b c d : PendingCall N kind} {hand : HandView}
+    (law : PassLaw (pass_in b)) (so : IsLinking 11 b c hand) (went : GoesOn c d) (found : Found) →
+    SearchFinds c d found → (entry : Entry) → WasOther (trace_in b) (trace_in d) b.key entry →
+    FindsOtherEntry (trace_in b) (trace_in d) b.key b.used d.used entry
+held_finds {b = b} {d = d} law so went found finds entry was =
+    let quiet = quiet_until so went in
+    let searches : SearchesWith (trace_in b) (trace_in d) b.key b.used d.used 3 =
+    searches_with {b = b} law so went finds.walks d.used 0 3 (omega arith) (omega arith) in
+    record {
+      was = was;
+      searches = searches;
+      costs = costs_after 12 0 (trace_in b) (trace_in d) (trace_in d) law.start
+          (run_at (trace_in b) (trace_in d) quiet.same (quiet.is_run law.is_run)) b.key quiet
+          (begins_refl (trace_in d).seen) b.used d.used d.used 3 searches (omega arith);
+    }

@@ -1,0 +1,9 @@
+-- Calls that change the list: inserts, removes and stores.
+pub mod Wanted
+pub mod Expecting
+pub mod Inserting
+pub mod Removing
+pub mod Storing
+pub mod Settling
+pub mod Replacing
+pub mod Holding

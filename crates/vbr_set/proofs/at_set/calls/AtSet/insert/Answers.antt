@@ -1,0 +1,6 @@
+use Rattle.vbr_set.proofs.histories.Histories.{called}
+use Rattle.vbr_set.proofs.at_set.calls.AtSet.insert.Goals as goal
+
+pub returns-clause-told : goal.returns-clause-told
+returns-clause-told c = called _ _ c.insert-answer.new.pass c.args.budget c.insert-answer.result
+    c.law.ensures c.law-2.ensures c.insert-answer.ensures

@@ -1,0 +1,8 @@
+use Rattle.vbr_list.specs.declared.wanted.Wanted.TheVariants.{Absent}
+use Rattle.vbr_set.proofs.histories.MapHistories.{called_store}
+use Rattle.vbr_set.proofs.at_set.map_calls.«AtSet+Entries».get_or_insert.Goals as goal
+
+pub returns-clause-told : goal.returns-clause-told
+returns-clause-told c = called_store c.a_run_is_a_map.ensures _ _ c.get_or_insert-answer.new.pass
+    c.args.key c.args.value Absent c.args.budget c.get_or_insert-answer.result c.law.ensures c.law-2.ensures
+    c.get_or_insert-answer.ensures

@@ -1,9 +1,0 @@
-use Rattle.vbr_set.specs.MapCalls.{GetsEntry}
-use Rattle.vbr_set.proofs.InTurn.{all_at}
-use Rattle.vbr_set.proofs.set.batches.AtSet+Entries.get_all.Goals as goal
-
-pub returns-clause-same : goal.returns-clause-same
-returns-clause-same c = (all_at GetsEntry _ _ _ _ _ c.look_up_all.ensures).0
-
-pub returns-clause-told : goal.returns-clause-told
-returns-clause-told c = (all_at GetsEntry _ _ _ _ _ c.look_up_all.ensures).1

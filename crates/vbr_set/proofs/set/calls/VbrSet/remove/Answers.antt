@@ -1,6 +1,0 @@
-use Rattle.vbr_set.proofs.Histories.{called}
-use Rattle.vbr_set.proofs.set.calls.VbrSet.remove.Goals as goal
-
-pub returns : goal.returns
-returns c = called c.args.self.now c.args.pass.now c.remove-answer.new.pass c.args.budget c.remove-answer.result
-    c.law.ensures c.law-2.ensures c.remove-answer.ensures

@@ -1,7 +1,0 @@
-use Rattle.vbr_list.specs.declared.wanted.Wanted.TheVariants.{Present}
-use Rattle.vbr_set.proofs.MapHistories.{called_store}
-use Rattle.vbr_set.proofs.set.map_calls.«VbrSet+Entries».replace.Goals as goal
-
-pub returns : goal.returns
-returns c = called_store c.a_run_is_a_map.ensures c.args.self.now c.args.pass.now c.replace-answer.new.pass c.args.key
-    c.args.value Present c.args.budget c.replace-answer.result c.law.ensures c.law-2.ensures c.replace-answer.ensures

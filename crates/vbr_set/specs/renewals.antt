@@ -1,0 +1,5 @@
+-- Renewals: a fresh set opens with what the old one had.
+pub mod Renewing
+pub mod RenewingAll
+pub mod RenewingWithSlots
+pub mod RenewalRoom

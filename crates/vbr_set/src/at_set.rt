@@ -1,0 +1,36 @@
+//! A caller at its set: it has each call, which a member, and a pass beside its set, make by it.
+pub mod batches;
+pub mod calls;
+pub mod iterating;
+pub mod map_calls;
+pub mod record_calls;
+
+ghost use Rattle.std.specs.Prelude.{◌≡◌, None};
+ghost use Rattle.vbr_slots.specs.views.Views.{IsOf};
+
+use crate::set::VbrSet;
+use vbr_slots::Pass;
+use vbr_words::{Keys, Nodes};
+
+// A caller at its set, for one call. It is a macro since a function can't hand on in a call what it was lent.
+macro_rules! at_set {
+    ($set:expr, $pass:expr) => {
+        $crate::at_set::AtSet {
+            set: $set,
+            pass: &mut $pass,
+        }
+    };
+}
+
+pub(crate) use at_set;
+
+/// A caller at its set: a pass with no slot in hand, and a reference to the set, lent for a call or more.
+#[derive(Drop)]
+pub struct AtSet<'c, N: Nodes = Keys> {
+    /// The set.
+    pub set: &'c VbrSet<N>,
+    /// The pass that makes the calls.
+    pub pass: &'c mut Pass,
+    ghost own: { IsOf pass.now.trace set.now },
+    ghost empty_hand: { pass.now.hand ≡ None },
+}

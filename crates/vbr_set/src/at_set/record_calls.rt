@@ -1,0 +1,84 @@
+//! The calls of a caller that name an entry by where it stands.
+ghost use Rattle.vbr_set.specs.calls.AtSets.{IsSameSet, member_after, member_at};
+ghost use Rattle.vbr_set.specs.calls.RecordCalls.{FindsEntry, FindsKey};
+ghost use Rattle.vbr_set.specs.calls.RemovingExactly.{TakesExactly, TakesKeyExactly};
+
+use crate::at_set::AtSet;
+use vbr_list::{Entry, Refusal, get_entry, has_entry, remove_exactly, remove_key_exactly};
+use vbr_machine::laws::a_run_is_a_map;
+use vbr_words::Entries;
+
+impl AtSet<'_> {
+    /// As [`AtSet::has`]: gives the entry of the key, with the value 0.
+    #[inline]
+    pub fn get_entry(&mut self, key: u64, budget: u32) -> Result<Option<Entry>, Refusal>
+        ensures same { IsSameSet self.old self.new }
+        ensures told { FindsKey (member_at self.old) (member_after self.old self.new)
+            key budget result }
+    {
+        let set = self.set;
+        self.pass.law();
+        let answer = has_entry(&set.slots, self.pass, key, budget);
+        self.pass.law();
+        answer
+    }
+
+    /// Takes a key out where its node is that of this entry, by its slot and its birth, in at most `budget`
+    /// steps, and says whether it did: [`remove_key_exactly`]. Else it makes no call: at a moment of it the set
+    /// lacked the entry.
+    ///
+    /// Budgets, the refusal and what an answer takes are those of [`AtSet::remove`].
+    #[inline]
+    pub fn remove_exactly(&mut self, key: u64, entry: &Entry, budget: u32) -> Result<bool, Refusal>
+        ensures same { IsSameSet self.old self.new }
+        ensures told { TakesKeyExactly (member_at self.old) (member_after self.old self.new)
+            key entry.now budget result }
+    {
+        let set = self.set;
+        self.pass.law();
+        let answer = remove_key_exactly(&set.slots, self.pass, key, entry, budget);
+        self.pass.law();
+        answer
+    }
+}
+
+impl AtSet<'_, Entries> {
+    /// As [`AtSet::get`]: gives the entry of the key, with its value.
+    #[inline]
+    pub fn get_entry(&mut self, key: u64, budget: u32) -> Result<Option<Entry>, Refusal>
+        ensures same { IsSameSet self.old self.new }
+        ensures told { FindsEntry (member_at self.old) (member_after self.old self.new)
+            key budget result }
+    {
+        let set = self.set;
+        a_run_is_a_map();
+        self.pass.law();
+        let answer = get_entry(&set.slots, self.pass, key, budget);
+        self.pass.law();
+        answer
+    }
+
+    /// Takes a key out where its node is that of this entry, by its slot and its birth, in at most `budget`
+    /// steps, and gives the value that was there: [`remove_exactly`]. Else it makes no call and gives none: at
+    /// a moment of it the map lacked the entry.
+    ///
+    /// Budgets, the refusal and what an answer takes are those of [`AtSet::remove`].
+    #[inline]
+    pub fn remove_exactly(
+        &mut self,
+        key: u64,
+        entry: &Entry,
+        budget: u32,
+    ) -> Result<Option<u64>, Refusal>
+        ensures same { IsSameSet self.old self.new }
+        ensures told { TakesExactly (member_at self.old) (member_after self.old self.new)
+            key entry.now budget result }
+    {
+        let set = self.set;
+        a_run_is_a_map();
+        self.pass.law();
+        let answer = remove_exactly(&set.slots, self.pass, key, entry, budget);
+        self.pass.law();
+        answer
+    }
+}

@@ -1,0 +1,3 @@
+-- The words of a table.
+pub mod Words
+pub mod WideWords
