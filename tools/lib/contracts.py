@@ -15,15 +15,15 @@ OPEN = []
 # load each, by its README.
 ON_SHARED_WORDS = {
     "stepping.rt": {
-        "load_at_as": "load",
-        "load_as": "load",
+        "load_at": "load",
+        "load": "load",
         "read_epoch_as": "load",
-        "store_as": "store",
-        "store_at_as": "store",
-        "exchange_as": "compare_exchange",
-        "exchange_at_as": "compare_exchange",
-        "fetch_or_as": "fetch_or",
-        "fetch_and_as": "fetch_and",
+        "store": "store",
+        "store_at": "store",
+        "exchange": "compare_exchange",
+        "exchange_at": "compare_exchange",
+        "fetch_or": "fetch_or",
+        "fetch_and": "fetch_and",
         "meet_as": "split_seat join_seat load split_seat",
         "note_runner": "split_seat",
         "note_again": "split_seat",

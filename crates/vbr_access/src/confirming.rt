@@ -1,5 +1,5 @@
 //! Answers by one more load of a link word.
-ghost use Rattle.std.specs.Prelude.{◌≡◌, ◌≢◌, OnOk, IfErr};
+ghost use Rattle.std.specs.Prelude.{◌≢◌, OnOk, IfErr};
 ghost use Rattle.vbr_machine.specs.declared.history.Op.TheVariants.{Insert, Remove};
 ghost use Rattle.vbr_slots.specs.views.Views.{IsOf, knows};
 ghost use Rattle.vbr_at_table.specs.answers.Answering.{AnswersAbsent, AnswersLookUp, AnswersPresent};

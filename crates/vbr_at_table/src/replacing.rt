@@ -1,7 +1,6 @@
 //! Replacing a node: its key gets another value.
 ghost use Rattle.std.specs.Prelude.{IfOk, IfErr};
 ghost use Rattle.vbr_slots.specs.steps.AtTables.{IsSameTable, trace_of, pass_of};
-ghost use Rattle.vbr_slots.specs.views.Views.{knows};
 ghost use Rattle.vbr_at_table.specs.answers.Exchanges.{StoresIn, GivesBack};
 ghost use Rattle.vbr_at_table.specs.hands.Hands.{IsHandOf};
 ghost use Rattle.vbr_at_table.specs.reads.Held.{said, said_marked, said_rollback};

@@ -2,11 +2,11 @@
 mod Names
 -- The pieces of a call, one after another: what they add up to, and what they keep.
 mod pieces
--- Walks along a bucket: from place to place, whatever others do meanwhile.
-mod walks
+-- Traversals of a bucket: from place to place, whatever others do meanwhile.
+mod traversals
 -- Entries that are named by where they stand: whether they were in the map, and when.
 mod named_entries
--- Look-ups and gets: walks of loads alone, and values that are read.
+-- Look-ups and gets: traversals by loads alone, and values that are read.
 mod look_ups
 -- Iterations: cursors go from key to key, and from bucket to bucket.
 mod iterations

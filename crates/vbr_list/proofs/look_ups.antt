@@ -1,4 +1,4 @@
--- Look-ups and gets: walks of loads alone, and values that are read.
+-- Look-ups and gets: traversals of loads alone, and values that are read.
 pub mod Passing
 pub mod Sights
 pub mod Following

@@ -1,4 +1,4 @@
-pub mod walks
+pub mod traversals
 pub mod calls
 pub mod updates
 pub mod look_ups

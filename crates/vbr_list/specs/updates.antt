@@ -2,6 +2,7 @@
 pub mod Wanted
 pub mod Expecting
 pub mod Inserting
+pub mod Preparing
 pub mod Removing
 pub mod Storing
 pub mod Settling

@@ -177,7 +177,7 @@ fn get_entry_by<N: Nodes>(
     let mut call = begin!(slots, stepper, key, budget, 0);
     call.at.law();
     loop {
-        let Some(sight) = call.look() else {
+        let Some(sight) = call.search_past() else {
             return (Err(Refusal::OutOfSteps { used: call.used }), call.used);
         };
         if !affords(call.budget, call.used) {

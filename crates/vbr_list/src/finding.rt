@@ -3,9 +3,9 @@ ghost use Rattle.std.specs.Prelude.{◌≡◌, None, IfOk, IfErr, IfSome, IfNone
 ghost use Rattle.vbr_slots.specs.steps.Calls.{Took};
 ghost use Rattle.vbr_slots.specs.views.Views.{IsOf};
 ghost use Rattle.vbr_at_table.specs.hands.KeptSlots.{TakesNoSlot};
-ghost use Rattle.vbr_list.specs.walks.Found.{FindGivesUp, FindsIn};
+ghost use Rattle.vbr_list.specs.traversals.Found.{FindGivesUp, FindsIn};
 ghost use Rattle.vbr_list.specs.calls.Pieces.{GoesOn, HasRoomForPiece};
-ghost use Rattle.vbr_list.specs.walks.Traversing.{SearchFinds, SearchTires};
+ghost use Rattle.vbr_list.specs.traversals.Traversing.{SearchFinds, SearchTires};
 ghost use Rattle.vbr_list.specs.calls.Words.{wide_found, said_found};
 
 use crate::call::{PendingCall, begin};

@@ -3,7 +3,7 @@ ghost use Rattle.std.specs.Prelude.{◌≤◌, IfOk, IfErr};
 ghost use Rattle.vbr_slots.specs.steps.AtTables.{IsSameTable, pass_of, trace_of};
 ghost use Rattle.vbr_slots.specs.views.Views.{IsOf};
 ghost use Rattle.vbr_at_table.specs.reads.Held.{said, said_marked};
-ghost use Rattle.vbr_list.specs.walks.Helping.{GoesIn, Helps, HelpsNone, MayHelp, RetiresMarked};
+ghost use Rattle.vbr_list.specs.traversals.Helping.{GoesIn, Helps, HelpsNone, MayHelp, RetiresMarked};
 
 use vbr_at_table::{Held, Marked, Rollback, retire, steps_to_unlink, unlink};
 use vbr_slots::{AtTable, Slots, Stepper};

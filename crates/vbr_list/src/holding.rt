@@ -11,8 +11,7 @@ ghost use Rattle.vbr_list.specs.updates.Inserting.{CountsWithin, HasHandAndRoom}
 ghost use Rattle.vbr_list.specs.calls.Pieces.{HasRoomForPiece, IsSameCall, pass_in, trace_in};
 ghost use Rattle.vbr_list.specs.updates.Replacing.{HasUnused};
 ghost use Rattle.vbr_list.specs.updates.Settling.{HasHandForValue, MaySettle};
-ghost use Rattle.vbr_list.specs.look_ups.Telling.{KnowsThere};
-ghost use Rattle.vbr_list.specs.walks.Traversing.{LocatesFor};
+ghost use Rattle.vbr_list.specs.traversals.Traversing.{LocatesFor};
 ghost use Rattle.vbr_slots.specs.steps.Calls.{Took};
 ghost use Rattle.vbr_slots.specs.views.Views.{IsOf};
 ghost use Rattle.vbr_list.specs.calls.Words.{wide_found};
@@ -23,7 +22,7 @@ use crate::found::Found;
 use crate::valuing::steps_to_update;
 use vbr_at_table::{Hand, Refusal, take, update};
 use vbr_slots::{AtTable, Pass, Slots, Stepper};
-use vbr_words::{At, Entries, Nodes};
+use vbr_words::{Entries, Nodes};
 
 /// Why a slot in hand wasn't published. It is in hand still.
 #[derive(Clone, Copy, Debug, PartialEq, Eq)]

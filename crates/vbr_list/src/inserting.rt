@@ -7,6 +7,8 @@ ghost use Rattle.vbr_list.specs.calls.CallBounds.{Calls, CallsAs, CallsInsert, B
 ghost use Rattle.vbr_list.specs.calls.Told.{stored_in};
 
 use crate::call::begin;
+use crate::preparing::Prepared;
+use crate::wanted::Wanted;
 use vbr_at_table::{Refusal, give_back};
 use vbr_slots::{Pass, Slots, Stepper};
 use vbr_words::{Entries, Nodes};
@@ -81,9 +83,9 @@ fn insert_by<N: Nodes>(
 {
     let mut call = begin!(slots, stepper, key, budget, 0);
     call.at.law();
-    let hand = match call.prepare() {
-        Ok(Some(hand)) => hand,
-        Ok(None) => return (Ok(false), call.used),
+    let hand = match call.prepare(Wanted::Absent, false) {
+        Ok(Prepared::Ready(hand)) => hand,
+        Ok(Prepared::Answered(_)) => return (Ok(false), call.used),
         Err(refusal) => return (Err(refusal), call.used),
     };
     match call.link_held(value, hand) {

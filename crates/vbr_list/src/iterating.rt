@@ -1,5 +1,4 @@
 //! Going over all keys, one after another, while other threads make calls.
-ghost use Rattle.std.specs.Prelude.{◌≡◌};
 ghost use Rattle.vbr_slots.specs.steps.AtTables.{IsSameTable, pass_of, trace_of};
 ghost use Rattle.vbr_slots.specs.steps.Calls.{Took};
 ghost use Rattle.vbr_slots.specs.views.Views.{IsOf};

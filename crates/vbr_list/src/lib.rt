@@ -11,7 +11,7 @@
 //! through its states in one order: in hand, linked, marked, unlinked, stamped. Only a stamped
 //! slot, or one whose node was given up, is born in again.
 //!
-//! **A walk.** A call starts at the head and goes from place to place (`src/visiting.rt`). What it
+//! **A traversal.** A call starts at the head and goes from place to place (`src/visiting.rt`). What it
 //! reads counts once the epoch is read again and hasn't moved. Where it has moved, or an exchange
 //! is lost, the call starts again at the head. A piece of a call is begun only where eight steps
 //! are left of the budget (`PIECE`).
@@ -35,8 +35,8 @@
 //!
 //! **Progress.** Nobody waits for anybody. A call starts again only for what another pass did: it
 //! moved the epoch, or changed the list of the bucket. Each such change counts once. With n nodes
-//! and m changes there are at most m + 1 walks, each of at most n + m nodes. An insert makes one
-//! walk more. That a call is answered while others go on isn't claimed.
+//! and m changes there are at most m + 1 traversals, each of at most n + m nodes. An insert makes one
+//! traversal more. That a call is answered while others go on isn't claimed.
 //!
 //! **What is proved,** and by which contracts:
 //!
@@ -68,6 +68,7 @@ pub mod laws;
 mod looking;
 pub mod looking_up;
 pub mod next;
+mod preparing;
 pub mod record_laws;
 pub mod removing;
 mod replacing;

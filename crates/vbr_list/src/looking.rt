@@ -3,7 +3,7 @@
 //! goes on.
 ghost use Rattle.std.specs.Prelude.{◌≡◌, IfOk, IfErr, IfSome, IfNone};
 ghost use Rattle.vbr_at_table.specs.reads.Held.{held_of};
-ghost use Rattle.vbr_list.specs.look_ups.LookUpPieces.{LookTires, Sees, WalkStops, WalksTo};
+ghost use Rattle.vbr_list.specs.look_ups.LookUpPieces.{LookTires, Sees, TraversalStops, TraversesTo};
 ghost use Rattle.vbr_list.specs.calls.Pieces.{GoesOn, Observes, trace_in};
 ghost use Rattle.vbr_list.specs.calls.Words.{wide_sight};
 
@@ -37,14 +37,14 @@ pub(crate) fn held_of(marked: Marked) -> Held
 }
 
 impl<N: Nodes> PendingCall<'_, N> {
-    // One walk from the head to the key, past marked nodes.
+    // One traversal from the head to the key by loads alone, past marked nodes.
     #[inline(always)]
-    fn walk(&mut self) -> Result<Sight, Stop>
+    fn traverse_past(&mut self) -> Result<Sight, Stop>
         ensures goes { GoesOn self.old self.new }
         ensures observes { Observes (trace_in self.old) (trace_in self.new) }
         ensures sight { IfOk result (λ sight.
-            WalksTo self.old self.new (wide_sight self.old sight)) }
-        ensures stopped { IfErr result (WalkStops self.old self.new) }
+            TraversesTo self.old self.new (wide_sight self.old sight)) }
+        ensures stopped { IfErr result (TraversalStops self.old self.new) }
     {
         self.at.law();
         if !affords(self.budget, self.used) {
@@ -76,10 +76,10 @@ impl<N: Nodes> PendingCall<'_, N> {
         Ok(Sight::Absent(pred))
     }
 
-    /// Looks until it comes to the key or to where it is absent; none where the budget has no room for
+    /// Traverses so until it comes to the key or to where it is absent; none where the budget has no room for
     /// one more piece.
     #[inline(always)]
-    pub(crate) fn look(&mut self) -> Option<Sight>
+    pub(crate) fn search_past(&mut self) -> Option<Sight>
         ensures goes { GoesOn self.old self.new }
         ensures observes { Observes (trace_in self.old) (trace_in self.new) }
         ensures sight { IfSome result (λ sight.
@@ -88,7 +88,7 @@ impl<N: Nodes> PendingCall<'_, N> {
     {
         self.at.law();
         loop {
-            match self.walk() {
+            match self.traverse_past() {
                 Ok(sight) => return Some(sight),
                 Err(Stop::Again) => {}
                 Err(Stop::Tired) => return None,

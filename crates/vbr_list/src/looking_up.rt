@@ -9,7 +9,7 @@ ghost use Rattle.vbr_list.specs.declared.looking.Sight.TheVariants.{Present, Abs
 ghost use Rattle.vbr_list.specs.look_ups.LookUpPieces.{GivesNone, GivesValueOf};
 ghost use Rattle.vbr_list.specs.look_ups.LookUpPieces.{IsAskedOf, IsSightFor, LookUpAnswers, LookUpRollsBack, steps_to_answer};
 ghost use Rattle.vbr_list.specs.calls.Pieces.{HasRoomForPiece, Settles, trace_in};
-ghost use Rattle.vbr_list.specs.walks.Places.{is_present, sighted};
+ghost use Rattle.vbr_list.specs.traversals.Places.{is_present, sighted};
 ghost use Rattle.vbr_list.specs.calls.Told.{given_in, look_up_op};
 ghost use Rattle.vbr_list.specs.calls.Words.{wide_held, wide_sight};
 
@@ -262,7 +262,7 @@ fn look_up<N: Nodes>(
     let mut call = begin!(slots, stepper, key, budget, 0);
     call.at.law();
     loop {
-        let Some(sight) = call.look() else {
+        let Some(sight) = call.search_past() else {
             return (Err(Refusal::OutOfSteps { used: call.used }), call.used);
         };
         if !affords(call.budget, call.used) {

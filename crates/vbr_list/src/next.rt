@@ -1,5 +1,5 @@
 //! The next key of a bucket, from a number on.
-ghost use Rattle.std.specs.Prelude.{◌≡◌, ◌+◌, ◌<◌, true};
+ghost use Rattle.std.specs.Prelude.{◌<◌};
 ghost use Rattle.vbr_slots.specs.steps.AtTables.{IsSameTable, pass_of, trace_of};
 ghost use Rattle.vbr_slots.specs.steps.Calls.{Took};
 ghost use Rattle.vbr_slots.specs.views.Views.{IsOf};
@@ -23,7 +23,7 @@ use vbr_words::{Entries, Nodes};
 ///
 /// OutOfSteps is its one refusal. While the other passes stand still, a budget of 5n + 11 is enough,
 /// with n nodes in the bucket, and what it returns took at most 5n + 3 steps, or 5n + 5 with values. A call
-/// that others disturb m times there makes at most m walks more, each among at most n + m nodes.
+/// that others disturb m times there makes at most m traversals more, each among at most n + m nodes.
 pub fn next_key<N: Nodes>(
     slots: &Slots<N>,
     pass: &mut Pass,

@@ -2,7 +2,6 @@
 //! function says its law in its contract, and does nothing.
 ghost use Rattle.std.specs.Prelude.{ℕ, List};
 ghost use Rattle.vbr_machine.specs.Acceptance.{IsInHand};
-ghost use Rattle.vbr_machine.specs.Knowledge.{Know};
 ghost use Rattle.vbr_machine.specs.Records.{IsInHandAlone};
 ghost use Rattle.vbr_machine.specs.Runs.{Begins, BeginsFor, IsRun, know_after};
 ghost use Rattle.vbr_machine.specs.declared.event.Event.{Event};

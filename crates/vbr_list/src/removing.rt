@@ -1,5 +1,5 @@
 //! Removes.
-ghost use Rattle.std.specs.Prelude.{◌≡◌, ◌+◌, ◌≤◌, true, false, Some, None, IfOk, IfErr, is_some};
+ghost use Rattle.std.specs.Prelude.{◌≡◌, ◌+◌, ◌≤◌, true, Some, None, IfOk, IfErr, is_some};
 ghost use Rattle.vbr_machine.specs.declared.history.Op.TheVariants.{Remove};
 ghost use Rattle.vbr_slots.specs.steps.AtTables.{IsSameTable, pass_of, trace_of};
 ghost use Rattle.vbr_slots.specs.steps.Calls.{Took};
@@ -7,12 +7,12 @@ ghost use Rattle.vbr_slots.specs.views.Views.{IsOf};
 ghost use Rattle.vbr_at_table.specs.declared.budget.TheConstants.{PIECE};
 ghost use Rattle.vbr_list.specs.updates.Expecting.{CallsRemoveIf, removal_in, takes_out};
 ghost use Rattle.vbr_list.specs.calls.CallBounds.{Calls, CallsAs, CallsRemove};
-ghost use Rattle.vbr_list.specs.walks.Leaving.{BoundsOfRemove, Sweeps, WasClear};
-ghost use Rattle.vbr_list.specs.calls.Pieces.{Goes, GoesOn, HasRoomForPiece, Settles, trace_in};
-ghost use Rattle.vbr_list.specs.updates.Removing.{Clears, IsMarkedFor, MayExpect, RemoveAnswers, RemoveRollsBack, UnlinksOrSearches};
+ghost use Rattle.vbr_list.specs.traversals.Leaving.{BoundsOfRemove, Sweeps, WasClear};
+ghost use Rattle.vbr_list.specs.calls.Pieces.{Goes, GoesOn, HasRoomForPiece, Settles};
+ghost use Rattle.vbr_list.specs.updates.Removing.{Clears, IsMarkedFor, IsOut, LeavesWithRoom, MayExpect, RemoveAnswers, RemoveRollsBack, UnlinksOrSearches};
 ghost use Rattle.vbr_list.specs.named_entries.RemovingExactly.{RemovesExactly, RemovesKeyExactly, RemovesNodeExactly};
-ghost use Rattle.vbr_list.specs.walks.Traversing.{LocatesFor};
-ghost use Rattle.vbr_list.specs.walks.Walking.{WalksAgain};
+ghost use Rattle.vbr_list.specs.traversals.Traversing.{LocatesFor};
+ghost use Rattle.vbr_list.specs.traversals.Searching.{TraversesAgain};
 ghost use Rattle.vbr_list.specs.calls.Words.{wide_found, wide_held, wide_marked};
 
 use crate::call::{PendingCall, begin};
@@ -23,15 +23,15 @@ use crate::valuing::{is_yes, steps_to_value_of, value_if_any};
 use vbr_at_table::budget::affords;
 use vbr_at_table::{Held, Marked, Refusal, Rollback, mark};
 use vbr_slots::{AtTable, Pass, Slots, Stepper};
-use vbr_words::{At, Entries, Nodes};
+use vbr_words::{Entries, Nodes};
 
-// Walks to the key as `find` does, with what is left of a budget, and so helps to unlink each marked
+// Searches for the key as `find` does, with what is left of a budget, and so helps to unlink each marked
 // node that it meets: when it has come to the key, no marked node of the key was in a list at a moment,
 // but one that was replaced, and each that was removed before has left.
 // Gives how many steps are used then. Few removes lose their unlinking, so it is done apart from them.
 #[cold]
 #[inline(never)]
-fn walk_apart<N: Nodes>(
+fn search_apart<N: Nodes>(
     slots: &Slots<N>,
     stepper: &mut Stepper,
     key: u64,
@@ -44,7 +44,7 @@ fn walk_apart<N: Nodes>(
     ensures within { (used ≤ result) × (result ≤ budget) }
     ensures clear { result + PIECE ≤ budget → WasClear stepper.old.trace stepper.new.trace key }
     ensures sweeps { result + PIECE ≤ budget → Sweeps stepper.old.trace stepper.new.trace key }
-    ensures walks { WalksAgain 9 stepper.old.trace stepper.new.trace key used result }
+    ensures traverses { TraversesAgain 9 stepper.old.trace stepper.new.trace key used result }
 {
     let mut call = begin!(slots, stepper, key, budget, used);
     call.at.law();
@@ -52,38 +52,41 @@ fn walk_apart<N: Nodes>(
     call.used
 }
 
-// As `walk_apart`, at a table: what makes the steps is lent, so that a remove that wins its unlinking
+// As `search_apart`, at a table: what makes the steps is lent, so that a remove that wins its unlinking
 // has all of its own in registers.
 #[inline(always)]
-pub(crate) fn walk_on<N: Nodes>(at: &mut AtTable<'_, N>, key: u64, budget: u32, used: u32) -> u32
+fn search_on<N: Nodes>(at: &mut AtTable<'_, N>, key: u64, budget: u32, used: u32) -> u32
     requires within { used ≤ budget }
     ensures table { IsSameTable at.old at.new }
     ensures goes { Goes (pass_of at.old) (pass_of at.new) used result }
     ensures within { (used ≤ result) × (result ≤ budget) }
     ensures clear { result + PIECE ≤ budget → WasClear (trace_of at.old) (trace_of at.new) key }
     ensures sweeps { result + PIECE ≤ budget → Sweeps (trace_of at.old) (trace_of at.new) key }
-    ensures walks { WalksAgain 9 (trace_of at.old) (trace_of at.new) key used result }
+    ensures traverses { TraversesAgain 9 (trace_of at.old) (trace_of at.new) key used result }
 {
     let slots = at.slots;
-    walk_apart(slots, at.stepper, key, budget, used)
+    search_apart(slots, at.stepper, key, budget, used)
 }
 
 impl<N: Nodes> PendingCall<'_, N> {
-    // Unlinks and retires the node that was marked; where that is lost, walks on until it is out of
-    // its list, by this pass or another.
+    // Unlinks and retires a node of the call's key that is marked; where that is lost, searches on until it
+    // is out of its list, by this pass or another.
     #[inline(always)]
-    fn unlink_marked(&mut self, pred: &Held, marked: Marked)
+    pub(crate) fn unlink_marked(&mut self, pred: &Held, marked: Marked)
         requires marked { IsMarkedFor self.old (wide_held self.old pred.now)
             (wide_marked self.old marked) }
         requires room { HasRoomForPiece self.old }
         ensures goes { GoesOn self.old self.new }
-        ensures clear { Clears self.old self.new }
-        ensures paid { UnlinksOrSearches self.old self.new (wide_held self.old pred.now) }
+        ensures leaves { LeavesWithRoom self.old self.new marked.slot }
+        ensures clear { IsOut self.old marked.slot → Clears self.old self.new }
+        ensures paid { UnlinksOrSearches self.old self.new
+            (wide_held self.old pred.now) marked.slot }
     {
+        self.at.law();
         let (outcome, made) = unlink_and_retire(&mut self.at, pred, marked);
         self.used += made;
         if outcome.is_err() {
-            self.used = walk_on(&mut self.at, self.key, self.budget, self.used);
+            self.used = search_on(&mut self.at, self.key, self.budget, self.used);
         }
     }
 

@@ -4,14 +4,13 @@ ghost use Rattle.vbr_words.specs.Packing.{unpacked};
 ghost use Rattle.vbr_at_table.specs.costs.StepCosts.{steps_to_birth};
 ghost use Rattle.vbr_list.specs.updates.Inserting.{GivesHandBack, HasHandAndRoom};
 ghost use Rattle.vbr_list.specs.calls.Pieces.{GoesOn, pass_in};
-ghost use Rattle.vbr_list.specs.updates.Replacing.{HasUnused, IsOldNode, KnowsFoundValue, LeavesWithRoom, MayStoreNode, PublishesOrKeeps, ReplacesFound, ReplacesAndLeaves, ReplacesPaid, UnlinksReplaced};
+ghost use Rattle.vbr_list.specs.updates.Replacing.{HasUnused, KnowsFoundValue, MayStoreNode, PublishesOrKeeps, ReplacesFound, ReplacesAndLeaves, ReplacesPaid, UnlinksReplaced};
+ghost use Rattle.vbr_list.specs.updates.Removing.{IsMarkedFor, LeavesWithRoom};
 ghost use Rattle.vbr_list.specs.updates.Settling.{MaySettle, SettlesNone};
 ghost use Rattle.vbr_list.specs.calls.Words.{wide_found, wide_held, wide_marked};
 
 use crate::call::PendingCall;
 use crate::found::Found;
-use crate::helping::unlink_and_retire;
-use crate::removing::walk_on;
 use vbr_at_table::budget::affords;
 use vbr_at_table::{Hand, Held, Marked, birth_after, replace};
 use vbr_words::{Layout, Nodes, decode};
@@ -68,25 +67,17 @@ impl<N: Nodes> PendingCall<'_, N> {
         }
     }
 
-    // Unlinks and retires the node that was replaced, if the budget has room; where that is lost, walks
-    // on until it is out of its list, by this pass or another.
+    // Takes the node that was replaced out of its list, if the budget has room.
     #[inline(always)]
     pub(crate) fn unlink_replaced(&mut self, pred: &Held, marked: Marked)
-        requires old { IsOldNode self.old (wide_held self.old pred.now)
+        requires marked { IsMarkedFor self.old (wide_held self.old pred.now)
             (wide_marked self.old marked) }
         ensures goes { GoesOn self.old self.new }
         ensures leaves { LeavesWithRoom self.old self.new marked.slot }
         ensures paid { UnlinksReplaced self.old self.new (wide_held self.old pred.now) marked.slot }
     {
-        self.at.law();
-        let fits = affords(self.budget, self.used);
-        if !fits {
-            return;
-        }
-        let (outcome, made) = unlink_and_retire(&mut self.at, pred, marked);
-        self.used += made;
-        if outcome.is_err() {
-            self.used = walk_on(&mut self.at, self.key, self.budget, self.used);
+        if affords(self.budget, self.used) {
+            self.unlink_marked(pred, marked);
         }
     }
 

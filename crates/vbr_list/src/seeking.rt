@@ -3,13 +3,13 @@
 ghost use Rattle.std.specs.Prelude.{◌<◌, ◌≤◌, IfOk, IfErr};
 ghost use Rattle.vbr_slots.specs.steps.AtTables.{IsSameTable, pass_of, trace_of};
 ghost use Rattle.vbr_list.specs.calls.Pieces.{Peeks};
-ghost use Rattle.vbr_list.specs.look_ups.Seeking.{SeekStops, Sought, WalksToNext};
+ghost use Rattle.vbr_list.specs.look_ups.Seeking.{SeekStops, Sought, TraversesToNext};
 
 use crate::entries::{Entry, named};
 use crate::looking::held_of;
 use crate::traversal::Stop;
 use crate::valuing::{steps_to_value_of, value_if_any};
-use crate::visiting::{Visited, start_at, visit_behind};
+use crate::visiting::{Visited, start_at, visit_at};
 use vbr_at_table::budget::affords;
 use vbr_slots::AtTable;
 use vbr_words::{Nodes, decode};
@@ -25,10 +25,10 @@ pub(crate) struct NextNode {
     pub(crate) is_last: bool,
 }
 
-// One walk from the head of a bucket to its next node, past marked nodes, where so many steps of the
+// One traversal by loads from the head of a bucket to its next node, past marked nodes, where so many steps of the
 // budget are used.
 #[inline(always)]
-fn walk<N: Nodes>(
+fn traverse_in<N: Nodes>(
     at: &mut AtTable<'_, N>,
     bucket: u32,
     from: u64,
@@ -39,7 +39,7 @@ fn walk<N: Nodes>(
     requires within { used.old ≤ budget }
     ensures table { IsSameTable at.old at.new }
     ensures peeks { Peeks (pass_of at.old) (pass_of at.new) used.old used.new budget }
-    ensures next { IfOk result (WalksToNext (trace_of at.old) (trace_of at.new)
+    ensures next { IfOk result (TraversesToNext (trace_of at.old) (trace_of at.new)
         bucket from used.old used.new) }
     ensures stopped { IfErr result (SeekStops (trace_of at.old) (trace_of at.new)
         bucket used.old used.new budget) }
@@ -57,7 +57,7 @@ fn walk<N: Nodes>(
         if !affords(budget, *used) {
             return Err(Stop::Tired);
         }
-        match visit_behind(at, &here, from, used) {
+        match visit_at(at, &here, from, used) {
             Err(_) => return Err(Stop::Again),
             Ok(Visited::Marked(marked)) => here = held_of(marked),
             Ok(Visited::Smaller(node)) => here = node,
@@ -99,7 +99,7 @@ pub(crate) fn seek_in<N: Nodes>(
     at.law();
     let mut since = used;
     loop {
-        match walk(at, bucket, from, budget, &mut since) {
+        match traverse_in(at, bucket, from, budget, &mut since) {
             Ok(next) => return (Some(next), since),
             Err(Stop::Again) => {}
             Err(Stop::Tired) => return (None, since),

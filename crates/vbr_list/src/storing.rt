@@ -1,135 +1,25 @@
 //! Storing a value where what is there is as it is wanted.
-ghost use Rattle.std.specs.Prelude.{◌≡◌, ◌+◌, ◌≤◌, false, true, None, IfOk, IfErr, IfNone, IfSome};
+ghost use Rattle.std.specs.Prelude.{◌≡◌, ◌+◌, ◌≤◌, true, None, IfOk, IfErr};
 ghost use Rattle.vbr_slots.specs.steps.Calls.{Took};
 ghost use Rattle.vbr_slots.specs.views.Views.{IsOf};
 ghost use Rattle.vbr_list.specs.updates.Holding.{LeavesInHand, StoresByHand};
-ghost use Rattle.vbr_list.specs.updates.Inserting.{HasHandAndRoom, Links, Prepares, TriesFor};
+ghost use Rattle.vbr_list.specs.updates.Inserting.{HasHandAndRoom, Links};
 ghost use Rattle.vbr_list.specs.calls.Pieces.{HasRoomForPiece, pass_in, trace_in};
 ghost use Rattle.vbr_list.specs.updates.Replacing.{HasUnused};
-ghost use Rattle.vbr_list.specs.updates.Settling.{AnswersPaid, AskLoses, Asks, AsksMet, ChangePaid, HasHandForValue, IsMet, IsPreparedStore, MaySettle, Meeting, MeetTires, PreparesNoStore, SettlesNone, SettlesPaid, StoreAnswers, StoresAndLeaves, StoresNone, has_wanted};
+ghost use Rattle.vbr_list.specs.updates.Settling.{AnswersPaid, ChangePaid, HasHandForValue, MaySettle, SettlesNone, SettlesPaid, StoreAnswers, StoresAndLeaves, StoresNone};
 ghost use Rattle.vbr_list.specs.updates.Storing.{CallsStore, HasUnstored};
 ghost use Rattle.vbr_list.specs.look_ups.Telling.{KnowsThere};
-ghost use Rattle.vbr_list.specs.walks.Traversing.{LocatesFor};
+ghost use Rattle.vbr_list.specs.traversals.Traversing.{LocatesFor};
 ghost use Rattle.vbr_list.specs.declared.wanted.Wanted.TheVariants.{Absent, Anything, Present, Value};
 ghost use Rattle.vbr_list.specs.calls.Words.{wide_found};
 
 use crate::call::{PendingCall, begin};
 use crate::found::Found;
+use crate::preparing::Prepared;
 use crate::wanted::Wanted;
-use vbr_at_table::budget::affords;
-use vbr_at_table::{Hand, Refusal, Rollback, give_back, update};
+use vbr_at_table::{Hand, Refusal, give_back, update};
 use vbr_slots::{Pass, Slots, Stepper};
 use vbr_words::{Entries, Nodes};
-
-/// How a store without a slot in hand found the key.
-#[derive(Clone, Copy)]
-pub(crate) enum Met {
-    /// As it is wanted.
-    AsWanted,
-    /// Otherwise: it has answered a get with what was there.
-    Otherwise(Option<u64>),
-}
-
-/// What a store has before it changes anything.
-pub(crate) enum Prepared {
-    /// A slot in hand.
-    Ready(Hand),
-    /// Its answer.
-    Answered(Option<u64>),
-}
-
-// Whether a key is as it is wanted that is there, or isn't, whatever value it has.
-#[inline(always)]
-fn has_wanted(wanted: Wanted, present: bool) -> bool
-    ensures { result ≡ has_wanted wanted present }
-{
-    match wanted {
-        Wanted::Absent => !present,
-        Wanted::Present => present,
-        Wanted::Anything => true,
-        Wanted::Value(_) => false,
-    }
-}
-
-// ---- without a slot in hand
-
-impl<N: Nodes> PendingCall<'_, N> {
-    // Reads what was there where that is asked for, and answers a get with it where it isn't as wanted.
-    #[inline(always)]
-    fn ask(&mut self, found: &Found, wanted: Wanted) -> Result<Met, Rollback>
-        requires values { (trace_in self.old).start.shape.values ≡ true }
-        requires locates { LocatesFor self.old (wide_found self.old found.now) }
-        requires open { has_wanted wanted found.now.present ≡ false }
-        requires room { HasRoomForPiece self.old }
-        ensures asks { Asks self.old self.new }
-        ensures met { IfOk result
-            (AsksMet wanted self.old self.new (wide_found self.old found.now)) }
-        ensures lost { IfErr result
-            (λ _. AskLoses self.old self.new (wide_found self.old found.now)) }
-    {
-        self.at.law();
-        let there = self.read_found(found)?;
-        if wanted.wants(there) {
-            return Ok(Met::AsWanted);
-        }
-        self.tell_found(found, there)?;
-        Ok(Met::Otherwise(there))
-    }
-
-    // Looks for the key until it is found as it is wanted, or a get was answered, as it is otherwise;
-    // none where the budget has no room for one more piece. Where anything is wanted it makes no step.
-    #[inline(always)]
-    fn meet(&mut self, wanted: Wanted) -> Option<Met>
-        requires values { (trace_in self.old).start.shape.values ≡ true }
-        ensures meets { Meeting self.old self.new }
-        ensures met { IfSome result (IsMet wanted self.old self.new) }
-        ensures tired { IfNone result (MeetTires self.old self.new) }
-    {
-        self.at.law();
-        if let Wanted::Anything = wanted {
-            return Some(Met::AsWanted);
-        }
-        loop {
-            let Some(found) = self.search() else {
-                return None;
-            };
-            if has_wanted(wanted, found.present) {
-                return Some(Met::AsWanted);
-            }
-            if !affords(self.budget, self.used) {
-                return None;
-            }
-            if let Ok(met) = self.ask(&found, wanted) {
-                return Some(met);
-            }
-        }
-    }
-
-    // Takes a slot once the key was found as it is wanted; else gives what was there.
-    #[inline(always)]
-    fn prepare_store(&mut self, wanted: Wanted) -> Result<Prepared, Refusal>
-        requires values { (trace_in self.old).start.shape.values ≡ true }
-        requires empty_hand { (pass_in self.old).hand ≡ None }
-        ensures prepares { Prepares self.old self.new }
-        ensures tries { TriesFor wanted self.old self.new }
-        ensures prepared { IfOk result (IsPreparedStore wanted self.old self.new) }
-        ensures refused { IfErr result (PreparesNoStore wanted self.old self.new) }
-    {
-        self.at.law();
-        let Some(met) = self.meet(wanted) else {
-            return Err(Refusal::OutOfSteps { used: self.used });
-        };
-        match met {
-            Met::Otherwise(there) => Ok(Prepared::Answered(there)),
-            Met::AsWanted => {
-                let hand = self.provide()?;
-                Ok(Prepared::Ready(hand))
-            }
-        }
-    }
-}
-
-// ---- with a slot in hand
 
 impl<N: Nodes> PendingCall<'_, N> {
     // Links the slot in hand with this value where the key was found absent, in four steps. Else the
@@ -401,7 +291,7 @@ fn store_by(
     slots.kind();
     let mut call = begin!(slots, stepper, key, budget, 0);
     call.at.law();
-    match call.prepare_store(wanted) {
+    match call.prepare(wanted, true) {
         Err(refusal) => (Err(refusal), call.used),
         Ok(Prepared::Answered(there)) => (Ok(there), call.used),
         Ok(Prepared::Ready(hand)) => (call.store_with(value, wanted, hand), call.used),

@@ -1,18 +1,16 @@
-//! What an insert does before it links a node: it answers no, or takes a slot once the key was found
-//! absent. A remove of an absent key answers no by the same piece, and a store takes its slot so.
+//! An answer no, of an insert whose key is there or of a remove whose key is absent; and the slot that an
+//! insert or a store takes.
 ghost use Rattle.std.specs.Prelude.{◌≡◌, ◌+◌, ◌≤◌, false, length, None, IfOk, IfErr};
 ghost use Rattle.vbr_slots.specs.steps.Calls.{Quiet};
 ghost use Rattle.vbr_at_table.specs.answers.Answering.{KeepsIn};
 ghost use Rattle.vbr_at_table.specs.hands.KeptSlots.{TriesWhereEmpty};
-ghost use Rattle.vbr_list.specs.updates.Inserting.{AnswersNone, Prepares, PreparesHand, PreparesNone, Provides, ProvidesNone, TriesFor, denied};
+ghost use Rattle.vbr_list.specs.updates.Inserting.{AnswersNone, Prepares, Provides, ProvidesNone, denied};
 ghost use Rattle.vbr_list.specs.calls.Pieces.{HasRoomForPiece, IsSameCall, Replies, pass_in, trace_in};
-ghost use Rattle.vbr_list.specs.walks.Traversing.{LocatesFor};
-ghost use Rattle.vbr_list.specs.declared.wanted.Wanted.TheVariants.{Absent};
+ghost use Rattle.vbr_list.specs.traversals.Traversing.{LocatesFor};
 ghost use Rattle.vbr_list.specs.calls.Words.{wide_found};
 
 use crate::call::PendingCall;
 use crate::found::Found;
-use vbr_at_table::budget::affords;
 use vbr_at_table::{Hand, Refusal, Rollback, confirm_absent, confirm_present, take};
 use vbr_machine::Op;
 use vbr_words::Nodes;
@@ -66,34 +64,6 @@ impl<N: Nodes> PendingCall<'_, N> {
                 Refusal::NoSlot => Err(Refusal::NoSlot),
                 Refusal::EpochSpent { epoch } => Err(Refusal::EpochSpent { epoch }),
             },
-        }
-    }
-
-    /// Looks for the key without a hand: a hand, once the key was found absent; or none, and the answer is
-    /// no.
-    #[inline(always)]
-    pub(crate) fn prepare(&mut self) -> Result<Option<Hand>, Refusal>
-        requires empty_hand { (pass_in self.old).hand ≡ None }
-        ensures prepares { Prepares self.old self.new }
-        ensures tries { TriesFor Absent self.old self.new }
-        ensures prepared { IfOk result (PreparesHand self.old self.new) }
-        ensures refused { IfErr result (PreparesNone self.old self.new) }
-    {
-        self.at.law();
-        loop {
-            let Some(found) = self.search() else {
-                return Err(Refusal::OutOfSteps { used: self.used });
-            };
-            if !found.present {
-                let hand = self.provide()?;
-                return Ok(Some(hand));
-            }
-            if !affords(self.budget, self.used) {
-                return Err(Refusal::OutOfSteps { used: self.used });
-            }
-            if self.answer_no(&found).is_ok() {
-                return Ok(None);
-            }
         }
     }
 }

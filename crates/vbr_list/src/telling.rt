@@ -7,7 +7,7 @@ ghost use Rattle.vbr_list.specs.calls.Budgets.{steps_where};
 ghost use Rattle.vbr_list.specs.updates.Inserting.{AnswersNone};
 ghost use Rattle.vbr_list.specs.calls.Pieces.{HasRoomForPiece, IsSameCall, pass_in, trace_in};
 ghost use Rattle.vbr_list.specs.look_ups.Telling.{KnowsThere, LosesRead, ReadsFound, TellsThere};
-ghost use Rattle.vbr_list.specs.walks.Traversing.{LocatesFor};
+ghost use Rattle.vbr_list.specs.traversals.Traversing.{LocatesFor};
 ghost use Rattle.vbr_list.specs.calls.Words.{wide_found};
 
 use crate::call::PendingCall;

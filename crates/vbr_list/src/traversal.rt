@@ -3,16 +3,16 @@ ghost use Rattle.std.specs.Prelude.{◌≡◌, ◌+◌, ◌≤◌, IsSome, IfOk,
 ghost use Rattle.vbr_words.specs.Words.{link_of};
 ghost use Rattle.vbr_slots.specs.views.Views.{knows};
 ghost use Rattle.vbr_at_table.specs.reads.Held.{HoldsMarked, IsHeld, Names};
-ghost use Rattle.vbr_list.specs.walks.Helping.{Helps, HelpsNone};
+ghost use Rattle.vbr_list.specs.traversals.Helping.{Helps, HelpsNone};
 ghost use Rattle.vbr_list.specs.calls.Pieces.{GoesOn, HasRoomForPiece, Observes, pass_in, trace_in};
-ghost use Rattle.vbr_list.specs.walks.Traversing.{HasComeTo, IsPredFor, SearchStops, WalkFinds};
-ghost use Rattle.vbr_list.specs.walks.Visiting.{IsVisit, MeetsBehind, RollsBackFrom, StartsAt, StartsNone};
+ghost use Rattle.vbr_list.specs.traversals.Traversing.{HasComeTo, IsPredFor, SearchStops, TraversalFinds};
+ghost use Rattle.vbr_list.specs.traversals.Visiting.{IsVisit, MeetsBehind, RollsBackFrom, StartsAt, StartsNone};
 ghost use Rattle.vbr_list.specs.calls.Words.{wide_found, wide_held, wide_marked, wide_visited};
 
 use crate::call::PendingCall;
 use crate::found::Found;
 use crate::helping::help_by_copy;
-use crate::visiting::{Visited, start_at, visit_behind};
+use crate::visiting::{Visited, start_at, visit_at};
 use vbr_at_table::budget::affords;
 use vbr_at_table::{Held, Marked, Rollback};
 use vbr_words::{Nodes, decode};
@@ -61,7 +61,7 @@ impl<N: Nodes> PendingCall<'_, N> {
     {
         // Once it is read, its range is known: so the steps that it has room for are counted without overflow.
         let _budget = self.budget;
-        visit_behind(&mut self.at, here, self.key, &mut self.used)
+        visit_at(&mut self.at, here, self.key, &mut self.used)
     }
 
     // Helps to unlink a marked node behind a place, in one step to six: gives the place with its new link,
@@ -98,7 +98,7 @@ impl<N: Nodes> PendingCall<'_, N> {
     pub(crate) fn traverse(&mut self) -> Result<Found, Stop>
         ensures goes { GoesOn self.old self.new }
         ensures found { IfOk result (λ told.
-            WalkFinds self.old self.new (wide_found self.old told)) }
+            TraversalFinds self.old self.new (wide_found self.old told)) }
         ensures stopped { IfErr result (SearchStops self.old self.new) }
     {
         self.at.law();

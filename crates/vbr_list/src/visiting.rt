@@ -1,5 +1,5 @@
-//! The two pieces of each walk along the list of a bucket: it starts at the head, and visits the node
-//! behind a place.
+//! The two pieces of each traversal of the list of a bucket: it starts at the head, and visits the node
+//! after a place.
 ghost use Rattle.std.specs.Prelude.{◌+◌, ◌<◌, ◌≤◌, IsSome, IfOk, IfErr};
 ghost use Rattle.vbr_words.specs.Words.{link_of};
 ghost use Rattle.vbr_slots.specs.steps.AtTables.{IsSameTable, pass_of, trace_of};
@@ -8,14 +8,14 @@ ghost use Rattle.vbr_at_table.specs.reads.Held.{IsHeld, said};
 ghost use Rattle.vbr_at_table.specs.reads.Reading.{ReadsIn};
 ghost use Rattle.vbr_at_table.specs.declared.budget.TheConstants.{PIECE};
 ghost use Rattle.vbr_list.specs.calls.Pieces.{LooksOn};
-ghost use Rattle.vbr_list.specs.walks.Visiting.{IsVisit, MeetsBehind, RollsBackFrom, StartsAt, StartsNone};
+ghost use Rattle.vbr_list.specs.traversals.Visiting.{IsVisit, MeetsBehind, RollsBackFrom, StartsAt, StartsNone};
 ghost use Rattle.vbr_list.specs.calls.Words.{said_visited};
 
 use vbr_at_table::{Held, Marked, Rollback, checkpoint, first, key_of, next};
 use vbr_slots::AtTable;
 use vbr_words::Nodes;
 
-/// What a visit comes to behind a place.
+/// What a visit comes to after a place.
 #[derive(Clone, Copy)]
 pub(crate) enum Visited {
     /// An unmarked node with a key below the number.
@@ -42,7 +42,7 @@ pub(crate) fn start_at<N: Nodes>(at: &mut AtTable<'_, N>, bucket: u32) -> Result
 
 /// Visits the node that the link of a place names, and counts the steps: three if it is marked, else five.
 #[inline(always)]
-pub(crate) fn visit_behind<N: Nodes>(
+pub(crate) fn visit_at<N: Nodes>(
     at: &mut AtTable<'_, N>,
     here: &Held,
     number: u64,

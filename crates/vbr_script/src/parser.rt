@@ -1,5 +1,5 @@
 //! The parser: line by line, each line token by token.
-ghost use Rattle.std.specs.Prelude.{◌≡◌, ◌≤◌, ◌<◌, ◌+◌, ◌^◌, ℕ, List, ◌++◌, ◌∷◌, [], Some, None, length, vec_len, IfOk, OnOk, IsErrOf};
+ghost use Rattle.std.specs.Prelude.{◌≡◌, ◌<◌, ◌+◌, ℕ, Some, None, IfOk, IsErrOf};
 ghost use Rattle.vbr_script.specs.Text.{tokens_of};
 ghost use Rattle.vbr_script.specs.Number.{number_below};
 ghost use Rattle.vbr_script.specs.Grammar.{meaning_of, meaning_of_tokens, lone_token};

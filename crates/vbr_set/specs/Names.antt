@@ -26,7 +26,7 @@ pub use Rattle.vbr_at_table.specs.pools.Refusals.{LeavesRoom}
 pub use Rattle.vbr_at_table.specs.costs.WithinBudget.{TookWithin}
 pub use Rattle.vbr_at_table.specs.Soundness.{HasSafeRun}
 pub use Rattle.vbr_list.specs.calls.Budgets.{IsAnsweredOrSpent, LacksSteps, enough_past, enough_to_insert, enough_to_look_up, enough_to_search, enough_to_unlink, enough_with_a_slot, find_costs, insert_costs, listed_for, look_up_costs, remove_costs}
-pub use Rattle.vbr_list.specs.walks.Leaving.{Leaves}
+pub use Rattle.vbr_list.specs.traversals.Leaving.{Leaves}
 pub use Rattle.vbr_list.specs.calls.Refusals.{IsRefusedInsert, IsTired}
 pub use Rattle.vbr_at_table.specs.declared.refusal.Refusal.{Refusal}
 pub use Rattle.vbr_at_table.specs.declared.refusal.Refusal.TheVariants.{OutOfSteps, NoSlot, EpochSpent}

@@ -7,8 +7,6 @@ pub mod map_calls;
 pub mod record_calls;
 pub mod reserving;
 
-ghost use Rattle.std.specs.Prelude.{◌≡◌};
-
 use crate::set::VbrSet;
 use std::marker::Model;
 use vbr_slots::Pass;

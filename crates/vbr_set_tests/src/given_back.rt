@@ -1,5 +1,4 @@
 //! Slots that a member keeps to itself, gives back, and takes in reserve: rows of a set and of a map.
-ghost use Rattle.std.specs.Prelude.{◌≡◌};
 
 use crate::members::{expect_insert, expect_remove};
 use std::alloc::Global;

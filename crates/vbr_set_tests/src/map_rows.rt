@@ -1,6 +1,5 @@
 //! The map: rows call by call, and what is in it when it is closed.
 ghost use Rattle.std.specs.Prelude.{◌≡◌, IfOk};
-ghost use Rattle.vbr_slots.specs.runs.Closing.{AllOf};
 ghost use Rattle.vbr_slots.specs.views.Views.{IsOf, new_pass, new_passes};
 
 use crate::alone::expect_report;

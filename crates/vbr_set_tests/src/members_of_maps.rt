@@ -1,5 +1,5 @@
 //! Members of a map: their calls, meetings and tokens, and how a map is closed by them.
-ghost use Rattle.std.specs.Prelude.{◌≡◌, ◌≤◌, [], ◌∷◌, IfOk, IfSome};
+ghost use Rattle.std.specs.Prelude.{◌≡◌, ◌≤◌, [], ◌∷◌, IfSome};
 ghost use Rattle.vbr_machine.specs.Maps.{map_start};
 ghost use Rattle.vbr_set.specs.calls.Members.{AreNew};
 

@@ -1,7 +1,7 @@
 //! The command of the program: its options, its texts, and how the arguments are read.
 ghost use Rattle.std.specs.Prelude.{◌≡◌, ℕ, List, [], ◌∷◌, Some, None, true, false, IfOk, IfErr, map, fold, codes};
 ghost use Rattle.clap.specs.Words.{app_of, rule_of, with_rule, kind_of};
-ghost use Rattle.vbr_settings.specs.Options.{AreOptions, HasFault, faults, own_settings, each_option, settings_of_each, number_option, switch, lone_argument, shape_options, asked_options, command_line, settings_of, asks_map, file_of, explained_of};
+ghost use Rattle.vbr_settings.specs.Options.{AreOptions, HasFault, own_settings, each_option, settings_of_each, number_option, switch, lone_argument, shape_options, asked_options, command_line, settings_of, asks_map, file_of, explained_of};
 ghost use Rattle.vbr_settings.specs.Given.{IsReadOff, IsOptionsErrorOf};
 
 use crate::config::MAX_WORKERS;

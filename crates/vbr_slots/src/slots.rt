@@ -1,5 +1,5 @@
 //! The table.
-ghost use Rattle.std.specs.Prelude.{◌≡◌, ◌<◌, ◌≤◌, []};
+ghost use Rattle.std.specs.Prelude.{◌≡◌, ◌<◌, ◌≤◌};
 ghost use Rattle.vbr_words.specs.Packing.{slot_bits};
 ghost use Rattle.vbr_words.specs.declared.link.TheConstants.{SLOT_BITS};
 ghost use Rattle.vbr_machine.specs.Start.{IsStart};

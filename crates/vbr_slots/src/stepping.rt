@@ -1,9 +1,8 @@
 // The ways in which a step reaches its word: a load, a store, an exchange, an `|` or an `&` with
 // bits, and a load while the seat of another pass is joined.
 //
-// A step is given to the table as an event. A function that ends in `_as` takes the event as its type
-// argument. The function without that ending picks it for its callers; where there is none, the caller
-// picks it.
+// A step is given to the table as an event: each of these functions takes it as its type argument, which
+// the caller picks.
 ghost use Rattle.std.specs.Prelude.{◌≡◌, ℕ, ◌+◌, ◌<◌, ◌≤◌, ◌^◌};
 ghost use Rattle.vbr_machine.specs.Acceptance.{Accepts};
 ghost use Rattle.vbr_machine.specs.Machine.{Load, Store, Exchange, FetchOr, FetchAnd, access_of, place_of_step};
@@ -53,26 +52,10 @@ fn link_index_in<N: Nodes>(shape: &Shape, holder: At) -> usize
 }
 
 impl<N: Nodes> Slots<N> {
-    // One load of a link word, which is the step.
+    // One load of a link word, which is the step. The stepper's own pool and hand stay.
     #[inline]
-    pub(crate) fn load_at_as<E: Naming>(&self, runner: &mut Runner, step: Step, holder: At) -> u64
-        requires named { NamesStep E.event E.opening runner.old self.now step }
-        requires own { IsOf runner.old self.now }
-        requires accepted { Accepts self.now.start (knows runner.old) step }
-        requires place { places.place_of holder ≡ place_of_step step }
-        requires access { access_of (knows runner.old) step ≡ Load }
-        ensures { Did step runner.old runner.new (wide_in self.now result) }
-    {
-        let _ = &runner.epoch;
-        let word = link_index_in::<N>(&self.opening.shape, holder);
-        self.table
-            .shared
-            .load::<DoesAtLink<E>>(&mut runner.seat, word)
-    }
-
-    // The same of a stepper, whose own pool and hand stay.
-    #[inline]
-    pub(crate) fn load_at(&self, stepper: &mut Stepper, step: Step, holder: At) -> u64
+    pub(crate) fn load_at<E: Naming>(&self, stepper: &mut Stepper, step: Step, holder: At) -> u64
+        requires named { NamesStep E.event E.opening stepper.old.trace self.now step }
         requires own { IsOf stepper.old.trace self.now }
         requires accepted { Accepts self.now.start (knows stepper.old.trace) step }
         requires place { places.place_of holder ≡ place_of_step step }
@@ -80,7 +63,12 @@ impl<N: Nodes> Slots<N> {
         ensures step { Did step stepper.old.trace stepper.new.trace (wide_in self.now result) }
         ensures pool { KeepsPool stepper.old stepper.new }
     {
-        self.load_at_as::<Brand>(&mut stepper.runner, step, holder)
+        let runner = &mut stepper.runner;
+        let _ = &runner.epoch;
+        let word = link_index_in::<N>(&self.opening.shape, holder);
+        self.table
+            .shared
+            .load::<DoesAtLink<E>>(&mut runner.seat, word)
     }
 
     // One load of a link word, and one of the epoch: two steps. The stepper's pass read `before` last.
@@ -100,31 +88,15 @@ impl<N: Nodes> Slots<N> {
         requires stays { (found epoch : ℕ) → epoch_after step found epoch ≡ epoch }
         ensures { Reads step stepper.old stepper.new (wide_in self.now result.0) result.1 }
     {
-        let found = self.load_at(stepper, step, holder);
+        let found = self.load_at::<Brand>(stepper, step, holder);
         let epoch = self.read_epoch_as::<Brand>(&mut stepper.runner, before);
         (found, epoch)
     }
 
-    // One load, which is the step.
+    // One load, which is the step. The stepper's own pool and hand stay.
     #[inline]
-    pub(crate) fn load_as<E: Naming>(&self, runner: &mut Runner, step: Step, place: Place) -> u64
-        requires named { NamesStep E.event E.opening runner.old self.now step }
-        requires own { IsOf runner.old self.now }
-        requires accepted { Accepts self.now.start (knows runner.old) step }
-        requires place { place ≡ place_of_step step }
-        requires plain { IsPlain place }
-        requires access { access_of (knows runner.old) step ≡ Load }
-        ensures { Did step runner.old runner.new result }
-    {
-        let word = place_index_in::<N>(&self.opening.shape, place);
-        let found = self.table.shared.load::<Does<E>>(&mut runner.seat, word);
-        keep_epoch(&mut runner.epoch, step, found);
-        found
-    }
-
-    // The same of a stepper, whose own pool and hand stay.
-    #[inline]
-    pub(crate) fn load(&self, stepper: &mut Stepper, step: Step, place: Place) -> u64
+    pub(crate) fn load<E: Naming>(&self, stepper: &mut Stepper, step: Step, place: Place) -> u64
+        requires named { NamesStep E.event E.opening stepper.old.trace self.now step }
         requires own { IsOf stepper.old.trace self.now }
         requires accepted { Accepts self.now.start (knows stepper.old.trace) step }
         requires place { place ≡ place_of_step step }
@@ -133,7 +105,11 @@ impl<N: Nodes> Slots<N> {
         ensures step { Did step stepper.old.trace stepper.new.trace result }
         ensures pool { KeepsPool stepper.old stepper.new }
     {
-        self.load_as::<Brand>(&mut stepper.runner, step, place)
+        let runner = &mut stepper.runner;
+        let word = place_index_in::<N>(&self.opening.shape, place);
+        let found = self.table.shared.load::<Does<E>>(&mut runner.seat, word);
+        keep_epoch(&mut runner.epoch, step, found);
+        found
     }
 
     // One load of the epoch, which is the step. The runner read `before` last, which its caller looks up
@@ -171,14 +147,14 @@ impl<N: Nodes> Slots<N> {
         requires stays { (found epoch : ℕ) → epoch_after step found epoch ≡ epoch }
         ensures { Reads step stepper.old stepper.new result.0 result.1 }
     {
-        let found = self.load(stepper, step, place);
+        let found = self.load::<Brand>(stepper, step, place);
         let epoch = self.read_epoch_as::<Brand>(&mut stepper.runner, before);
         (found, epoch)
     }
 
     // One store of a word, which is the step.
     #[inline]
-    fn store_as<E: Naming>(&self, runner: &mut Runner, step: Step, place: Place, new: u64)
+    pub(crate) fn store<E: Naming>(&self, runner: &mut Runner, step: Step, place: Place, new: u64)
         requires named { NamesStep E.event E.opening runner.old self.now step }
         requires own { IsOf runner.old self.now }
         requires accepted { Accepts self.now.start (knows runner.old) step }
@@ -194,21 +170,9 @@ impl<N: Nodes> Slots<N> {
         keep_epoch(&mut runner.epoch, step, new);
     }
 
-    #[inline]
-    pub(crate) fn store(&self, runner: &mut Runner, step: Step, place: Place, new: u64)
-        requires own { IsOf runner.old self.now }
-        requires accepted { Accepts self.now.start (knows runner.old) step }
-        requires place { place ≡ place_of_step step }
-        requires plain { IsPlain place }
-        requires access { access_of (knows runner.old) step ≡ Store new }
-        ensures { Did step runner.old runner.new new }
-    {
-        self.store_as::<Brand>(runner, step, place, new);
-    }
-
     // One store of a link word, which is the step.
     #[inline]
-    fn store_at_as<E: Naming>(&self, runner: &mut Runner, step: Step, holder: At, new: u64)
+    pub(crate) fn store_at<E: Naming>(&self, runner: &mut Runner, step: Step, holder: At, new: u64)
         requires named { NamesStep E.event E.opening runner.old self.now step }
         requires own { IsOf runner.old self.now }
         requires accepted { Accepts self.now.start (knows runner.old) step }
@@ -223,20 +187,9 @@ impl<N: Nodes> Slots<N> {
             .store::<DoesAtLink<E>>(&mut runner.seat, word, new);
     }
 
-    #[inline]
-    pub(crate) fn store_at(&self, runner: &mut Runner, step: Step, holder: At, new: u64)
-        requires own { IsOf runner.old self.now }
-        requires accepted { Accepts self.now.start (knows runner.old) step }
-        requires place { places.place_of holder ≡ place_of_step step }
-        requires access { access_of (knows runner.old) step ≡ Store (wide_in self.now new) }
-        ensures { Did step runner.old runner.new (wide_in self.now new) }
-    {
-        self.store_at_as::<Brand>(runner, step, holder, new);
-    }
-
     // One exchange of an expected link word for a new one, which is the step. Returns what it found.
     #[inline]
-    fn exchange_at_as<E: Naming>(
+    pub(crate) fn exchange_at<E: Naming>(
         &self,
         runner: &mut Runner,
         step: Step,
@@ -259,28 +212,9 @@ impl<N: Nodes> Slots<N> {
             .compare_exchange::<DoesAtLink<E>>(&mut runner.seat, word, expected, new)
     }
 
-    #[inline]
-    pub(crate) fn exchange_at(
-        &self,
-        runner: &mut Runner,
-        step: Step,
-        holder: At,
-        expected: u64,
-        new: u64,
-    ) -> u64
-        requires own { IsOf runner.old self.now }
-        requires accepted { Accepts self.now.start (knows runner.old) step }
-        requires place { places.place_of holder ≡ place_of_step step }
-        requires access { access_of (knows runner.old) step ≡
-            Exchange (wide_in self.now expected) (wide_in self.now new) }
-        ensures { Did step runner.old runner.new (wide_in self.now result) }
-    {
-        self.exchange_at_as::<Brand>(runner, step, holder, expected, new)
-    }
-
     // One exchange of an expected word for a new one, which is the step. Returns what it found.
     #[inline]
-    fn exchange_as<E: Naming>(
+    pub(crate) fn exchange<E: Naming>(
         &self,
         runner: &mut Runner,
         step: Step,
@@ -305,28 +239,9 @@ impl<N: Nodes> Slots<N> {
         found
     }
 
-    #[inline]
-    pub(crate) fn exchange(
-        &self,
-        runner: &mut Runner,
-        step: Step,
-        place: Place,
-        expected: u64,
-        new: u64,
-    ) -> u64
-        requires own { IsOf runner.old self.now }
-        requires accepted { Accepts self.now.start (knows runner.old) step }
-        requires place { place ≡ place_of_step step }
-        requires plain { IsPlain place }
-        requires access { access_of (knows runner.old) step ≡ Exchange expected new }
-        ensures { Did step runner.old runner.new result }
-    {
-        self.exchange_as::<Brand>(runner, step, place, expected, new)
-    }
-
     // One `|` of the word with bits, which is the step. Returns the word that it found.
     #[inline]
-    pub(crate) fn fetch_or_as<E: Naming>(
+    pub(crate) fn fetch_or<E: Naming>(
         &self,
         runner: &mut Runner,
         step: Step,
@@ -352,7 +267,7 @@ impl<N: Nodes> Slots<N> {
 
     // One `&` of the word with bits, which is the step. Returns the word that it found.
     #[inline]
-    pub(crate) fn fetch_and_as<E: Naming>(
+    pub(crate) fn fetch_and<E: Naming>(
         &self,
         runner: &mut Runner,
         step: Step,

@@ -1,11 +1,9 @@
 //! The list of one bucket where nodes have values: worked calls of a map, with their steps.
-ghost use Rattle.std.specs.Prelude.{◌≡◌, None};
-ghost use Rattle.vbr_slots.specs.views.Views.{IsOf};
+ghost use Rattle.std.specs.Prelude.{None};
 
 use crate::rows::{
     Call, Row, expect, expect_alone, expect_answer, expect_left, helped_away, with_17_steps,
 };
-use std::alloc::Global;
 use std::process::Abort;
 use std::test::Fail;
 use vbr_list::{Refusal, Wanted, get, has, insert_entry, remove_entry, store};

@@ -67,7 +67,8 @@ pub fn read_one<N: Nodes>(rt: &impl Abort, slots: &Slots<N>, pass: &mut Pass) ->
     ensures head { IsUnmarked (knows pass.new.trace) (said slots.now result.0) }
     ensures node { IsPresent (knows pass.new.trace) (said slots.now result.1) }
     ensures place { result.1.at ≡ Slot 0 }
-    ensures names { (slot : ℕ) × Names (said slots.now result.0) slot × (result.1.at ≡ Slot slot) }
+    ensures names { (slot : ℕ) ×
+        Names (said slots.now result.0) slot × (result.1.at ≡ Slot slot) }
 {
     let head = head_of(rt, slots, pass, to_slot(0));
     assert_eq!(rt; head.at, At::Head(0));

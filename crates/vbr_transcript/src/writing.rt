@@ -1,5 +1,5 @@
 //! Writing by a loop over `write`.
-ghost use Rattle.std.specs.Prelude.{◌≡◌, ℕ, take, map, OnOk, OnErr};
+ghost use Rattle.std.specs.Prelude.{OnOk, OnErr};
 ghost use Rattle.std.specs.List.{flat_map};
 ghost use Rattle.std.specs.Io.KnownBytes.{Appends};
 ghost use Rattle.vbr_transcript.specs.Writing.{AppendsSome};

@@ -1,5 +1,5 @@
 //! The machine as a program: a world that makes steps one at a time, plain and exact.
-ghost use Rattle.std.specs.Prelude.{List, [], ◌≡◌, ◌<◌, ◌≤◌, ◌↔◌, length, ◌⊎◌, IfOk, IfErr, IsErrOf, Err, true, false};
+ghost use Rattle.std.specs.Prelude.{[], ◌≡◌, ◌<◌, ◌≤◌, ◌↔◌, length, ◌⊎◌, IfOk, IfErr, IsErrOf, Err, true, false};
 ghost use Rattle.std.specs.List.Sorted.{IsStrictlyIncreasing};
 ghost use Rattle.vbr_words.specs.Places.{IsIn};
 ghost use Rattle.vbr_machine.specs.Opened.{opening_keys, opening_payloads};

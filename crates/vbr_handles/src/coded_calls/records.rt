@@ -1,7 +1,7 @@
 //! The calls of handles for a program that keeps a record of its own beside each slot, with their answers as
 //! numbers: those of a set, and of either. A slot that is taken, and an entry, go out where the answer is yes, and
 //! else nothing is written.
-ghost use Rattle.std.specs.Prelude.{◌≡◌, is_some};
+ghost use Rattle.std.specs.Prelude.{◌≡◌};
 ghost use Rattle.vbr_list.specs.calls.Told.{is_yes};
 ghost use Rattle.vbr_handles.specs.Codes.{call_code, hold_code, held_call_code, let_go_code};
 ghost use Rattle.vbr_handles.specs.HeldSlots.{MakesRoom, TellsHold, TellsInsertHeld, TellsLetGo, WritesSlot, has_added_held};

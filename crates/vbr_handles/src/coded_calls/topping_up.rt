@@ -1,7 +1,7 @@
 //! What a handle keeps in reserve by itself: after a call that adds a key it takes slots up to that.
 ghost use Rattle.std.specs.Prelude.{◌≡◌, ◌&&◌, true, false};
 ghost use Rattle.vbr_slots.specs.views.Views.{Trace, counted_steps, steps_of};
-ghost use Rattle.vbr_handles.specs.ToppingUp.{TopsUpReserve, TopsUpWhere, has_added, has_stored_new, lacks_slots, left_of, reserve_of};
+ghost use Rattle.vbr_handles.specs.ToppingUp.{TopsUpWhere, has_added, has_stored_new, lacks_slots, left_of, reserve_of};
 
 use vbr_set::Refusal;
 use vbr_set::member::Member;

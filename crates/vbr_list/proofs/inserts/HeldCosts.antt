@@ -3,15 +3,15 @@ use Rattle.vbr_list.proofs.Names.{◌≡◌, ℕ, ◌+◌, ◌*◌, ◌<◌, ◌
 use Rattle.vbr_list.proofs.Names.{Begins, begins_refl, begins_run, bucket_of, Call, Insert, IsAlone, IsRun, IsStart}
 use Rattle.vbr_list.proofs.Names.{MadeTwo, PIECE, Quiet, Remove, Trace}
 use Rattle.vbr_list.specs.calls.Budgets.{enough_to_search, listed_for}
-use Rattle.vbr_list.specs.walks.Disturbed.{costs_in_hand_among, disturbed, enough_in_hand_among}
+use Rattle.vbr_list.specs.traversals.Disturbed.{costs_in_hand_among, disturbed, enough_in_hand_among}
 use Rattle.vbr_list.specs.updates.Holding.{CostsInHand, LacksInHand}
 use Rattle.vbr_list.specs.updates.Inserting.{Searches}
-use Rattle.vbr_list.specs.walks.Leaving.{LeavesReplaced}
+use Rattle.vbr_list.specs.traversals.Leaving.{LeavesReplaced}
 use Rattle.vbr_list.specs.updates.Settling.{StoredIn}
-use Rattle.vbr_list.specs.walks.Walking.{met_since}
-use Rattle.vbr_list.proofs.walks.Disturbing.{alone_undisturbed, met_less, met_quiet, undisturbed}
+use Rattle.vbr_list.specs.traversals.Searching.{met_since}
+use Rattle.vbr_list.proofs.traversals.Disturbing.{alone_undisturbed, met_less, met_quiet, undisturbed}
 use Rattle.vbr_list.proofs.stores.LateSearches.{met_replaced}
-use Rattle.vbr_list.proofs.walks.Walking.{disturbed_on, searched_in}
+use Rattle.vbr_list.proofs.traversals.Searching.{disturbed_on, searched_in}
 
 -- a number for a pass that was disturbed so often is one for a pass that was alone
 costs_told : (each after : ℕ) (p q : Trace) (key before since : ℕ) →

@@ -7,17 +7,17 @@ use Rattle.vbr_at_table.specs.answers.Records.{PublishesSlot}
 use Rattle.vbr_list.specs.updates.Holding.{AnswersHeld, KeepsHeld, LinksHeld, TiresHeld, answer_unpublished}
 use Rattle.vbr_list.specs.updates.Inserting.{CountsWithin, HasHandAndRoom, SearchedFor, SearchesFor}
 use Rattle.vbr_list.specs.calls.Pieces.{GoesOn, IsSameCall, pass_in, trace_in}
-use Rattle.vbr_list.specs.walks.Traversing.{SearchFinds, SearchTires}
+use Rattle.vbr_list.specs.traversals.Traversing.{SearchFinds, SearchTires}
 use Rattle.vbr_list.specs.declared.call.PendingCall.{PendingCall}
 use Rattle.vbr_list.specs.declared.found.Found.{Found}
 use Rattle.vbr_list.specs.declared.holding.StillInHand.{StillInHand}
 use Rattle.vbr_list.specs.declared.holding.StillInHand.TheVariants.{Present, OutOfSteps}
-use Rattle.vbr_list.proofs.walks.Disturbing.{run_at}
+use Rattle.vbr_list.proofs.traversals.Disturbing.{run_at}
 use Rattle.vbr_list.proofs.inserts.HeldCosts.{costs_after, lacks_after}
 use Rattle.vbr_list.proofs.pieces.Going.{call_on, within_call}
 use Rattle.vbr_list.proofs.inserts.Inserts.{LinksHand, LinksNone, MadeInsert, links_hand}
 use Rattle.vbr_list.proofs.inserts.Linking.{IsLinking, TakesOn, begun, counts_until, has_until, none_until, quiet_until}
-use Rattle.vbr_list.proofs.walks.LostWalks.{search_ends}
+use Rattle.vbr_list.proofs.traversals.LostTraversals.{search_ends}
 use Rattle.vbr_list.proofs.inserts.Preparing.{within_on}
 
 -- the insert was answered
@@ -92,7 +92,7 @@ module _ {N : Type 0} {kind : Ghosts N} {b c d : PendingCall N kind} {hand first
       let q = trace_in d in
       let quiet = quiet_until so went in
       let searches : SearchesFor p q b.key b.used (b.budget + 1) 11 =
-      search_ends law so.0 so.1 went so.6 tired.walks (b.budget + 1) 8 11 (omega (arith, short)) (omega arith) in
+      search_ends law so.0 so.1 went so.6 tired.traverses (b.budget + 1) 8 11 (omega (arith, short)) (omega arith) in
       record {
         same = is_first;
         has = has_until so went;

@@ -5,7 +5,8 @@ use Rattle.vbr_list.proofs.Names.{AtTable, Ghosts, had_then, HandView, HasUnpubl
 use Rattle.vbr_list.proofs.Names.{Made, needed_before, NoSlot, PassLaw, Quiet, quiet_on, Refusal, same_on, shared_on}
 use Rattle.vbr_list.proofs.Names.{shares_more, slots_kept_on, steps_to_update, steps_to_value, TableView, TookWithin}
 use Rattle.vbr_list.specs.calls.Budgets.{LacksSteps, enough_to_insert, listed_for}
-use Rattle.vbr_list.specs.walks.Disturbed.{disturbed, enough_to_insert_among, insert_costs_among, steps_for_slot}
+use Rattle.vbr_list.specs.traversals.Disturbed.{disturbed, enough_to_insert_among, insert_costs_among, steps_for_slot}
+use Rattle.vbr_list.specs.traversals.Disturbed.{steps_to_prepare}
 use Rattle.vbr_list.specs.updates.Inserting.{CountsWithin, InsertIsShort, Links, Prepares, SearchedFor, SearchesFor}
 use Rattle.vbr_list.specs.updates.Inserting.{TriesFor}
 use Rattle.vbr_list.specs.declared.wanted.Wanted.TheVariants.{Absent}
@@ -13,15 +14,15 @@ use Rattle.vbr_list.specs.calls.Pieces.{GoesOn, IsSameCall, pass_in, trace_in}
 use Rattle.vbr_list.specs.calls.Refusals.{IsRefusedInsert}
 use Rattle.vbr_list.specs.calls.CallBounds.{CallsAs, BoundsOfInsert}
 use Rattle.vbr_list.specs.calls.Told.{stored_in}
-use Rattle.vbr_list.specs.walks.Traversing.{SearchFinds}
+use Rattle.vbr_list.specs.traversals.Traversing.{SearchFinds}
 use Rattle.vbr_list.specs.declared.call.PendingCall.{PendingCall}
 use Rattle.vbr_list.specs.declared.found.Found.{Found}
-use Rattle.vbr_list.proofs.walks.Disturbing.{run_at}
+use Rattle.vbr_list.proofs.traversals.Disturbing.{run_at}
 use Rattle.vbr_list.proofs.pieces.Going.{bucket_is, ok_as}
 use Rattle.vbr_list.proofs.inserts.Linking.{IsLinking, begun, quiet_until}
 use Rattle.vbr_list.proofs.pieces.LonePasses.{each_alone}
-use Rattle.vbr_list.proofs.walks.LostWalks.{search_ends}
-use Rattle.vbr_list.proofs.walks.Moments.{so_later}
+use Rattle.vbr_list.proofs.traversals.LostTraversals.{search_ends}
+use Rattle.vbr_list.proofs.traversals.Moments.{so_later}
 use Rattle.vbr_list.proofs.inserts.Preparing.{each_same, each_seen, each_since, refused_second, tries_before}
 use Rattle.vbr_list.proofs.inserts.Preparing.{within_all}
 use Rattle.vbr_list.proofs.inserts.Preparing.{within_most, within_on}
@@ -29,7 +30,7 @@ use Rattle.vbr_list.proofs.inserts.Sufficing.{answered_or_spent, each_error, lac
 use Rattle.vbr_list.proofs.inserts.Sufficing.{never_refused}
 use Rattle.vbr_list.proofs.inserts.Sufficing.{slot_later}
 use Rattle.vbr_list.proofs.pieces.Told.{stored_same, told_since}
-use Rattle.vbr_list.proofs.walks.Walking.{insert_lacks, twice_paid}
+use Rattle.vbr_list.proofs.traversals.Searching.{insert_lacks, twice_paid}
 
 -- the pass made the insert of this value with this reply
 abbrev pub MadeInsert : {N : Type 0} {kind : Ghosts N} → ℕ → PendingCall N kind → PendingCall N kind → Bool → Type 0
@@ -61,7 +62,8 @@ links_hand {b = b} {d = d} {e = e} law so went found finds value reply few made 
         ended = trace_in d;
         quiet = quiet;
         to = made.seen;
-        searches = search_ends law so.0 so.1 went so.6 finds.walks e.used steps (steps + 3) (omega (arith, few, start))
+        searches = search_ends law so.0 so.1 went so.6 finds.traverses e.used steps (steps + 3)
+            (omega (arith, few, start))
             (omega arith);
       };
     }
@@ -126,7 +128,7 @@ insert_unlinked {b = b} {d = d} answer prepares tries had refused lacking none c
 pub insert_linked : {N : Type 0} {kind : Ghosts N} {b d e : PendingCall N kind} (value : ℕ)
     (answer : Result Bool Refusal) → PassLaw (pass_in b) → b.used ≡ 0 → Prepares b d → TriesFor Absent b d →
     Quiet (trace_in b) (trace_in d) →
-    SearchedFor (trace_in b) (trace_in d) b.key b.used d.used (steps_for_slot (pass_in b) (trace_in d) + 3)
+    SearchedFor (trace_in b) (trace_in d) b.key b.used d.used (steps_to_prepare Absent (pass_in b) (trace_in d) + 3)
     → Links d e → HasUnpublished (pass_in d) (pass_in e) answer → IfOk answer (LinksHand value d e) →
     IfErr answer (LinksNone d e)
     → CallsAs (stored_in (trace_in b) b.key value) (BoundsOfInsert (pass_in b) (pass_in e) b.key b.budget) (pass_in b)
@@ -144,7 +146,7 @@ insert_linked {b = b} {d = d} {e = e} value answer law begun prepares tries firs
     let taking = steps_for_slot p r.trace in
     let storing = steps_to_value p.trace.start.shape.values in
     let C : ℕ → Type 0 = λ used. CountsWithin p.trace q.trace used d.used budget in
-    let S : ℕ → Type 0 = λ used. SearchedFor p.trace q.trace key used d.used (steps_for_slot p q.trace + 3) in
+    let S : ℕ → Type 0 = λ used. SearchedFor p.trace q.trace key used d.used (steps_to_prepare Absent p q.trace + 3) in
     let prepared = subst C begun prepares.counts in
     let before = subst S begun searched in
     let made : IfOk answer (λ reply. Made (stored_in q.trace key value reply) q.trace r.trace) =
@@ -170,7 +172,8 @@ insert_linked {b = b} {d = d} {e = e} value answer law begun prepares tries firs
     let last : SearchesFor q.trace r.trace key d.used (budget + 1) 11 =
     subst (λ (k : ℕ). SearchesFor q.trace r.trace k d.used (budget + 1) 11) call.key
     (subst (λ (n : ℕ). SearchesFor q.trace r.trace d.key d.used (n + 1) 11) call.budget after) in
-    let few = insert_lacks p.trace q.trace r.trace law.start run key budget d.used (steps_for_slot p q.trace) first
+    let few = insert_lacks p.trace q.trace r.trace law.start run key budget d.used (steps_to_prepare Absent p q.trace)
+    first
     none.quiet before last in
     lacks (enough_to_insert_among n t taking) budget refusal (omega (arith, few, later))))
     refused in

@@ -6,18 +6,18 @@ use Rattle.vbr_list.proofs.Names.{IsSucc, KeepsIn, Know, knows, none_back, none_
 use Rattle.vbr_list.proofs.Names.{Quiet, quiet_on, TakesNoSlot, Took, Trace}
 use Rattle.vbr_list.specs.updates.Inserting.{CountsWithin, AnswersNone, HasHandAndRoom, Links}
 use Rattle.vbr_list.specs.calls.Pieces.{GoesOn, IsSameCall, pass_in, trace_in}
-use Rattle.vbr_list.specs.walks.Places.{IsCur, IsEnd, Locates}
-use Rattle.vbr_list.specs.walks.Traversing.{SearchFinds, LocatesFor}
-use Rattle.vbr_list.specs.walks.Walking.{LosesFound}
+use Rattle.vbr_list.specs.traversals.Places.{IsCur, IsEnd, Locates}
+use Rattle.vbr_list.specs.traversals.Traversing.{SearchFinds, LocatesFor}
+use Rattle.vbr_list.specs.traversals.Searching.{LosesFound}
 use Rattle.vbr_list.specs.declared.call.PendingCall.{PendingCall}
 use Rattle.vbr_list.specs.declared.found.Found.{Found}
 use Rattle.vbr_list.proofs.pieces.Going.{call_on, counts_step, within_call}
 use Rattle.vbr_list.proofs.pieces.KeptHands.{own_kept}
-use Rattle.vbr_list.proofs.walks.LostWalks.{search_lost}
-use Rattle.vbr_list.proofs.walks.Moments.{stands_before}
+use Rattle.vbr_list.proofs.traversals.LostTraversals.{search_lost}
+use Rattle.vbr_list.proofs.traversals.Moments.{stands_before}
 use Rattle.vbr_list.proofs.inserts.Preparing.{within_on, within_same}
 use Rattle.vbr_list.proofs.stores.Stores.{hand_kept}
-use Rattle.vbr_list.proofs.walks.Walking.{HasRepeated}
+use Rattle.vbr_list.proofs.traversals.Searching.{HasRepeated}
 
 -- the call has made so many searches, with a slot in hand; so many steps for each that was lost
 abbrev pub IsLinking : {N : Type 0} {kind : Ghosts N} → ℕ → PendingCall N kind → PendingCall N kind → HandView → Type 0

@@ -1,17 +1,17 @@
 -- The steps of an insert, and what its refusals say.
 use Rattle.vbr_list.proofs.Names.{◌≡◌, ◌≢◌, ℕ, ◌+◌, ◌-◌, ◌<◌, ◌≤◌, Bool, true, false, List, [], ◌∷◌, length, Result, Ok}
-use Rattle.vbr_list.proofs.Names.{Err, inl, inr, refl, sym, ◌∙◌, subst, arith, IfOk, IfErr, is_err, is_ok}
+use Rattle.vbr_list.proofs.Names.{Err, inl, inr, refl, sym, ◌∙◌, subst, arith, IfOk, IfErr, is_err}
 use Rattle.vbr_list.proofs.Names.{Begins, counts_on, CountsSteps, EpochSpent, Ghosts, had_grown, had_on, in_need_after}
 use Rattle.vbr_list.proofs.Names.{IsRun, IsSame, none_in_need}
-use Rattle.vbr_list.proofs.Names.{IsSpent, LeavesRoom, Made, made_on, missed_after, needed_after, none_on, NoSlot, Op}
+use Rattle.vbr_list.proofs.Names.{IsSpent, LeavesRoom, Made, made_on, missed_after, needed_after, NoSlot, Op}
 use Rattle.vbr_list.proofs.Names.{OutOfSteps, PassView, Quiet, Refusal, set_call, shared_taken, shares_more}
-use Rattle.vbr_list.proofs.Names.{slots_kept_on, some_grown, Start, TakesNoSlot, Took, took_all, TookWithin, Trace}
+use Rattle.vbr_list.proofs.Names.{slots_kept_on, some_grown, Start, TakesNoSlot, took_all, TookWithin, Trace}
 use Rattle.vbr_list.proofs.Names.{TriesNoFlag, TriesOnlyWhere, TriesWhereEmpty}
 use Rattle.vbr_machine.specs.declared.history.Call.{Call as ListedCall}
 use Rattle.vbr_list.specs.updates.Inserting.{CountsWithin, InsertIsShort, InsertShowsSpent, Prepares, TakesNone}
 use Rattle.vbr_list.specs.updates.Wanted.{WasWantedFor}
 use Rattle.vbr_list.specs.declared.wanted.Wanted.TheVariants.{Absent}
-use Rattle.vbr_list.specs.calls.Pieces.{GoesOn, HasRoomForPiece, IsSameCall, pass_in, trace_in}
+use Rattle.vbr_list.specs.calls.Pieces.{GoesOn, IsSameCall, pass_in, trace_in}
 use Rattle.vbr_list.specs.calls.Refusals.{IsRefusedInsert}
 use Rattle.vbr_list.specs.declared.call.PendingCall.{PendingCall}
 use Rattle.vbr_list.proofs.pieces.Going.{call_on, counts_step, within_call}
@@ -45,22 +45,6 @@ prepares_none c d same counts none hand = record {
   shared = shares_more (pass_in c) (pass_in d) none.shared;
   wins = none_in_need (pass_in c) (pass_in d) none.wins;
 }
-
--- so it is of a call that went on
-pub prepares_still : {N : Type 0} {kind : Ghosts N} → {c d : PendingCall N kind} → GoesOn c d → Prepares c d
-prepares_still {c = c} {d = d} x = prepares_none c d x.call (steps_gone x) x.goes.hand.takes_no_slot x.goes.hand.hand
-
--- a step that answers comes after that
-pub prepares_answered : {N : Type 0} {kind : Ghosts N} → {c d e : PendingCall N kind} → GoesOn c d → IsSameCall d e →
-    e.used ≡ d.used + 1 → HasRoomForPiece d → Took (trace_in d) (trace_in e) 1 → TakesNoSlot (pass_in d) (pass_in e) →
-    (pass_in e).hand ≡ (pass_in d).hand → Prepares c e
-prepares_answered {c = c} {d = d} {e = e} x same used fits took none hand =
-    let budget = x.call.budget in
-    let P : ℕ → Type 0 = λ since. CountsWithin (trace_in c) (trace_in e) c.used since c.budget in
-    prepares_none c e (call_on x.call same)
-    (subst P (sym used)
-    (within_on (steps_gone x) (counts_step d.used 1 took) (omega arith) (omega (arith, fits, budget))))
-    (none_on x.goes.hand.takes_no_slot none) (hand ∙ x.goes.hand.hand)
 
 -- a slot is taken after that
 pub prepares_on : {N : Type 0} {kind : Ghosts N} → {c d e : PendingCall N kind} → GoesOn c d →
@@ -170,12 +154,6 @@ pub made_since : {p q r : Trace} {op : Op} {key : ℕ} {reply : Bool} → Quiet 
     Made (set_call q.who op key reply) q r → Made (set_call p.who op key reply) p r
 made_since {p} {q} {r} {op} {key} {reply} quiet made =
     let P : ℕ → Type 0 = λ who. Made (set_call who op key reply) p r in subst P quiet.same.who (made_on quiet made)
-
-pub if_ok : {T E : Type 0} {P : Type 0} (x : Result T E) → is_ok x ≡ true → IfOk x (λ _. P) → P
-if_ok x e p = grind arith
-
-pub if_err : {T E : Type 0} {P : Type 0} (x : Result T E) → is_ok x ≡ false → IfErr x (λ _. P) → P
-if_err x e p = grind arith
 
 pub if_failed : {T E : Type 0} {P : Type 0} (x : Result T E) → is_err x ≡ true → IfErr x (λ _. P) → P
 if_failed x e p = grind arith

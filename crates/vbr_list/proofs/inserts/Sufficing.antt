@@ -7,12 +7,12 @@ use Rattle.vbr_list.proofs.Names.{some_grown, Start, steps_to_take_among, steps_
 use Rattle.vbr_list.specs.calls.Budgets.{IsAnsweredOrSpent, LacksSteps, enough_to_insert, enough_to_look_up}
 use Rattle.vbr_list.specs.calls.Budgets.{enough_to_search}
 use Rattle.vbr_list.specs.calls.Budgets.{insert_costs, listed_for}
-use Rattle.vbr_list.specs.walks.Disturbed.{disturbed, enough_among, enough_to_insert_among, enough_to_search_among}
-use Rattle.vbr_list.specs.walks.Disturbed.{insert_costs_among, steps_for_slot}
+use Rattle.vbr_list.specs.traversals.Disturbed.{disturbed, enough_among, enough_to_insert_among, enough_to_search_among}
+use Rattle.vbr_list.specs.traversals.Disturbed.{insert_costs_among, steps_for_slot}
 use Rattle.vbr_list.specs.updates.Inserting.{InsertIsShort, TakesNone}
 use Rattle.vbr_list.specs.calls.Pieces.{GoesOn, pass_in, trace_in}
 use Rattle.vbr_list.specs.declared.call.PendingCall.{PendingCall}
-use Rattle.vbr_list.proofs.walks.Disturbing.{undisturbed}
+use Rattle.vbr_list.proofs.traversals.Disturbing.{undisturbed}
 
 -- where an own pool with slots keeps some, a slot is taken in no more steps than were allowed for before
 take_later : (start : Start) (before now : List ℕ) (less more : ℕ) → less ≤ more → (before ≢ [] → now ≢ []) →

@@ -7,24 +7,24 @@ use Rattle.vbr_list.specs.calls.Budgets.{nodes_listed_in, steps_to_value_of}
 use Rattle.vbr_list.specs.look_ups.Cursors.{HasStayedOrMoved, IsBehindKey, IsPastKey, PassesBy}
 use Rattle.vbr_list.specs.look_ups.Cursors.{SeesMore, StopsShort, costs_over, costs_over_among, enough_to_come_among}
 use Rattle.vbr_list.specs.look_ups.Cursors.{entered_by, going_costs, next_bucket}
-use Rattle.vbr_list.specs.walks.Disturbed.{disturbed_in, enough_among, seek_costs_among}
+use Rattle.vbr_list.specs.traversals.Disturbed.{disturbed_in, enough_among, seek_costs_among}
 use Rattle.vbr_list.specs.look_ups.Next.{HasNoNext, enough_to_seek}
 use Rattle.vbr_list.specs.calls.Pieces.{Goes, Observes}
 use Rattle.vbr_list.specs.look_ups.Seeking.{GivesNextNode, IteratesNodes, Sought, steps_besides}
-use Rattle.vbr_list.specs.walks.Walking.{SearchesIn}
+use Rattle.vbr_list.specs.traversals.Searching.{SearchesIn}
 use Rattle.vbr_list.specs.declared.cursor.Cursor.{Cursor}
 use Rattle.vbr_list.specs.declared.seeking.NextNode.{NextNode}
 use Rattle.vbr_list.proofs.iterations.Cursors.{entry_since, passes_bucket, passes_key, passes_last, passes_on}
 use Rattle.vbr_list.proofs.iterations.Cursors.{passes_still}
-use Rattle.vbr_list.proofs.walks.Disturbing.{enough_among_more, grows_disturbed, run_at, seek_costs_more}
-use Rattle.vbr_list.proofs.walks.Disturbing.{undisturbed_in}
+use Rattle.vbr_list.proofs.traversals.Disturbing.{enough_among_more, grows_disturbed, run_at, seek_costs_more}
+use Rattle.vbr_list.proofs.traversals.Disturbing.{undisturbed_in}
 use Rattle.vbr_list.proofs.named_entries.EntryAnswers.{there_since}
 use Rattle.vbr_list.proofs.named_entries.SeenEntries.{full_since}
 use Rattle.vbr_list.proofs.iterations.GoingOver.{going_more, going_no_less}
 use Rattle.vbr_list.proofs.pieces.Going.{goes_on, goes_refl, within_of}
 use Rattle.vbr_list.proofs.pieces.Observing.{observes_on, observes_refl}
 use Rattle.vbr_list.proofs.look_ups.ValueReads.{few_to_value}
-use Rattle.vbr_list.proofs.walks.Walking.{searched_since}
+use Rattle.vbr_list.proofs.traversals.Searching.{searched_since}
 
 -- ---- what buckets cost
 

@@ -11,7 +11,7 @@ use Rattle.vbr_list.specs.look_ups.Cursors.{IsBeforeCursor, PassesBy, SeesMore, 
 use Rattle.vbr_list.specs.look_ups.Next.{HasNoNext, IsNextKey}
 use Rattle.vbr_list.specs.declared.cursor.Cursor.{Cursor}
 use Rattle.vbr_list.proofs.pieces.Going.{by_either}
-use Rattle.vbr_list.proofs.walks.Moments.{later_moment, so_later}
+use Rattle.vbr_list.proofs.traversals.Moments.{later_moment, so_later}
 
 -- ---- a pass that has seen more
 

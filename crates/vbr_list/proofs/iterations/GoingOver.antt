@@ -6,11 +6,12 @@ use Rattle.vbr_list.proofs.Names.{advances, begins_refl, IsRun, PassLaw, PassVie
 use Rattle.vbr_list.proofs.Names.{Trace}
 use Rattle.vbr_list.specs.calls.Budgets.{nodes_listed_in, steps_to_value_of}
 use Rattle.vbr_list.specs.look_ups.Cursors.{going_costs, greatest_walk_costs, walk_costs, walks_cost}
-use Rattle.vbr_list.specs.walks.Disturbed.{advances_since, changes_since, disturbed_at, disturbed_in}
+use Rattle.vbr_list.specs.traversals.Disturbed.{advances_since, changes_since, disturbed_at, disturbed_in}
 use Rattle.vbr_list.specs.look_ups.Seeking.{steps_besides}
-use Rattle.vbr_list.specs.walks.Walking.{SearchesIn, met_in, nodes_after}
-use Rattle.vbr_list.proofs.walks.Disturbing.{advances_disturb, disturbed_there, epochs_grow, grows_disturbed, met_after}
-use Rattle.vbr_list.proofs.walks.Disturbing.{met_unanswered, run_at}
+use Rattle.vbr_list.specs.traversals.Searching.{SearchesIn, met_in, nodes_after}
+use Rattle.vbr_list.proofs.traversals.Disturbing.{advances_disturb, disturbed_there, epochs_grow, grows_disturbed}
+use Rattle.vbr_list.proofs.traversals.Disturbing.{met_after}
+use Rattle.vbr_list.proofs.traversals.Disturbing.{met_unanswered, run_at}
 
 -- ---- one bucket more
 
@@ -102,8 +103,8 @@ module _ {p : PassView} {q r : Trace} (law : PassLaw p) (first : Quiet p.trace q
         let u = t.0 in let v = t.1 in
         omega (arith, a, b, f, g, u, v)
 
-    walk_grows : walk_costs p.trace q bucket ≤ walk_costs p.trace r bucket
-    walk_grows = let t = times in let v = t.1 in omega (arith, v)
+    traversal_grows : walk_costs p.trace q bucket ≤ walk_costs p.trace r bucket
+    traversal_grows = let t = times in let v = t.1 in omega (arith, v)
 
   costs_grow : (from count : ℕ) → walks_cost p.trace q from count ≤ walks_cost p.trace r from count
   costs_grow from zero = omega arith
@@ -112,7 +113,7 @@ module _ {p : PassView} {q r : Trace} (law : PassLaw p) (first : Quiet p.trace q
       let changes = changes_grow (from + count) in
       let one = mul-le (changes_since p.trace q (from + count) + 1) (walk_costs p.trace q (from + count))
       (changes_since p.trace r (from + count) + 1) (walk_costs p.trace r (from + count)) (omega (arith, changes))
-      (walk_grows (from + count)) in
+      (traversal_grows (from + count)) in
       omega (arith, rest, one)
 
   greatest_grows : (from count : ℕ) →
@@ -120,7 +121,7 @@ module _ {p : PassView} {q r : Trace} (law : PassLaw p) (first : Quiet p.trace q
   greatest_grows from zero = omega arith
   greatest_grows from (suc count) =
       let rest = greatest_grows from count in
-      let one = walk_grows (from + count) in
+      let one = traversal_grows (from + count) in
       let left = le-max_left (greatest_walk_costs p.trace r from count) (walk_costs p.trace r (from + count)) in
       let right = le-max_right (greatest_walk_costs p.trace r from count) (walk_costs p.trace r (from + count)) in
       max-le (omega (arith, rest, left)) (omega (arith, one, right))

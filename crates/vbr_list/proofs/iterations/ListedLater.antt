@@ -11,9 +11,9 @@ use Rattle.vbr_machine.specs.Nodes.{behind, count_below, is_behind}
 use Rattle.vbr_machine.specs.Sound.{IsListed, Sound}
 use Rattle.vbr_machine.proofs.Lemmas.{InList, in_list_from, slot_is_one}
 use Rattle.vbr_list.specs.calls.Budgets.{nodes_listed_in}
-use Rattle.vbr_list.specs.walks.Disturbed.{disturbed_in, enough_among}
-use Rattle.vbr_list.specs.walks.Walking.{met_in}
-use Rattle.vbr_list.proofs.walks.Disturbing.{disturbed_there, grows_disturbed, met_after, met_unanswered, run_at}
+use Rattle.vbr_list.specs.traversals.Disturbed.{disturbed_in, enough_among}
+use Rattle.vbr_list.specs.traversals.Searching.{met_in}
+use Rattle.vbr_list.proofs.traversals.Disturbing.{disturbed_there, grows_disturbed, met_after, met_unanswered, run_at}
 
 -- ---- counts
 

@@ -1,4 +1,4 @@
--- A walk of loads alone goes on from place to place, past the keys that a seek tells of.
+-- A traversal of loads alone goes on from place to place, past the keys that a seek tells of.
 use Rattle.vbr_list.proofs.Names.{◌≡◌, ℕ, ◌+◌, ◌<◌, ◌≤◌, Bool, true, false, Option, Some, None, sym, ap, ◌∙◌, subst}
 use Rattle.vbr_list.proofs.Names.{arith, is_none, is_some, refl}
 use Rattle.vbr_list.proofs.Names.{At, behind_kept, bucket_of, Held, held_in_kept, held_in_next, held_kept, held_of}
@@ -11,8 +11,8 @@ use Rattle.vbr_list.specs.look_ups.Next.{HasNoNext}
 use Rattle.vbr_list.specs.calls.Pieces.{LooksOn, Peeks}
 use Rattle.vbr_list.specs.look_ups.Seeking.{TellsNode, steps_besides}
 use Rattle.vbr_list.specs.look_ups.Valuing.{ReadsValue}
-use Rattle.vbr_list.specs.walks.Visiting.{IsVisit, MeetsBehind, StartsAt}
-use Rattle.vbr_list.specs.walks.Walking.{IsDisturbed, MovesEpoch, WalksOnce}
+use Rattle.vbr_list.specs.traversals.Visiting.{IsVisit, MeetsBehind, StartsAt}
+use Rattle.vbr_list.specs.traversals.Searching.{IsDisturbed, MovesEpoch, TraversesOnce}
 use Rattle.vbr_machine.specs.Membership.{Knows}
 use Rattle.vbr_machine.specs.declared.knowledge.Read.TheVariants.{ValueOf}
 use Rattle.vbr_list.specs.named_entries.Entries.{entry_of}
@@ -21,14 +21,14 @@ use Rattle.vbr_list.specs.declared.seeking.NextNode.{NextNode}
 use Rattle.vbr_list.proofs.named_entries.SeenEntries.{entry_at_slot, named_same, was_full, was_there}
 use Rattle.vbr_list.specs.declared.visiting.Visited.{Visited}
 use Rattle.vbr_list.specs.declared.visiting.Visited.TheVariants.{Beyond, Marked as MarkedNode, Smaller}
-use Rattle.vbr_list.proofs.walks.Disturbing.{grows_disturbed, met_until, run_at}
+use Rattle.vbr_list.proofs.traversals.Disturbing.{grows_disturbed, met_until, run_at}
 use Rattle.vbr_list.proofs.pieces.Going.{goes_counted, keeps_still}
 use Rattle.vbr_list.proofs.pieces.Observing.{reads_observe}
 use Rattle.vbr_list.proofs.look_ups.Passing.{leads_kept, peeks_on, peeks_refl}
-use Rattle.vbr_list.proofs.walks.Reaching.{behind_node, head_before, key_kept, node_before, stood_since}
-use Rattle.vbr_list.proofs.walks.Traversals.{Follows, IsPlaceBefore}
+use Rattle.vbr_list.proofs.traversals.Reaching.{behind_node, head_before, key_kept, node_before, stood_since}
+use Rattle.vbr_list.proofs.traversals.Traversals.{Follows, IsPlaceBefore}
 use Rattle.vbr_list.proofs.look_ups.ValueReads.{few_to_value}
-use Rattle.vbr_list.proofs.walks.Visits.{met_paid, met_past, met_to, starts_walk, visit_moved, visit_paid}
+use Rattle.vbr_list.proofs.traversals.Visits.{met_paid, met_past, met_to, starts_traversal, visit_moved, visit_paid}
 
 -- ---- places
 
@@ -61,7 +61,7 @@ follows_head {p} law bucket from before since budget head looks sum fits x =
       inside = record { held = x.known; inside = come.is.inside };
       leads = itself;
       fresh = x.reads.fresh;
-      walks = starts_walk law bucket looks.goes.quiet looks.observes 5 before since head sum x;
+      traverses = starts_traversal law bucket looks.goes.quiet looks.observes 5 before since head sum x;
     }
 
 -- and on by a visit
@@ -76,7 +76,7 @@ module _ {p q r : PassView} (law : PassLaw p) {bucket from a b c budget : ℕ} {
 
   -- it rolled back, which was a disturbance
   pub visit_lost : is_some (link_of here.word).slot ≡ true → MovesEpoch q.trace r.trace →
-      (a < c) × WalksOnce 5 3 p.trace r.trace bucket a c × IsDisturbed p.trace r.trace bucket
+      (a < c) × TraversesOnce 5 3 p.trace r.trace bucket a c × IsDisturbed p.trace r.trace bucket
   visit_lost some moves =
       let before =
       grows_disturbed p.trace q.trace law.start (run_at p.trace q.trace first.same (first.is_run law.is_run)) bucket
@@ -84,7 +84,7 @@ module _ {p q r : PassView} (law : PassLaw p) {bucket from a b c budget : ℕ} {
       let less = visit_moved law bucket first looks.goes.quiet looks.observes x.fresh moves in
       let low = x.some in (
         omega (arith, low, few),
-        visit_paid law bucket first looks.goes.quiet x.walks (omega (arith, few)) some,
+        visit_paid law bucket first looks.goes.quiet x.traverses (omega (arith, few)) some,
         omega (arith, before, less),
       )
 
@@ -97,9 +97,9 @@ module _ {p q r : PassView} (law : PassLaw p) {bucket from a b c budget : ℕ} {
     ok : IsRun p.trace.start p.trace.passes s.trace.seen
     ok = let all = quiet_on whole reads.quiet in run_at p.trace s.trace all.same (all.is_run law.is_run)
 
-    pub value_paid : WalksOnce 5 (steps_besides p.trace) p.trace s.trace bucket a (c + n)
+    pub value_paid : TraversesOnce 5 (steps_besides p.trace) p.trace s.trace bucket a (c + n)
     value_paid =
-        let paid = met_paid law bucket first looks.goes.quiet looks.observes x.walks m {now_used = c}
+        let paid = met_paid law bucket first looks.goes.quiet looks.observes x.traverses m {now_used = c}
         (omega (arith, few)) in
         let more = met_until p.trace s.trace law.start ok bucket r.trace whole.seen reads.quiet.seen in
         let same : steps_to_value_of r.trace.start ≡ steps_to_value_of p.trace.start =
@@ -108,7 +108,7 @@ module _ {p q r : PassView} (law : PassLaw p) {bucket from a b c budget : ℕ} {
 
     -- or it isn't, which was a disturbance
     pub value_lost : MovesEpoch r.trace s.trace →
-        (a < c + n) × WalksOnce 5 (steps_besides p.trace) p.trace s.trace bucket a (c + n) ×
+        (a < c + n) × TraversesOnce 5 (steps_besides p.trace) p.trace s.trace bucket a (c + n) ×
         IsDisturbed p.trace s.trace bucket
     value_lost moves =
         let before =
@@ -130,7 +130,8 @@ module _ {p q r : PassView} (law : PassLaw p) {bucket from a b c budget : ℕ} {
         inside = record { held = come.is.held; inside = come.is.inside };
         leads = itself;
         fresh = m.fresh;
-        walks = met_to law bucket first looks.goes.quiet looks.observes x.walks m (omega (arith, few)) come.is.unmarked;
+        traverses = met_to law bucket first looks.goes.quiet looks.observes x.traverses m (omega (arith, few))
+            come.is.unmarked;
       }
 
   -- a marked node
@@ -154,7 +155,7 @@ module _ {p q r : PassView} (law : PassLaw p) {bucket from a b c budget : ℕ} {
         leads = onward (link_of here.word) gone.slot (link_of gone.word)
             (leads_kept (link_of pred.word) (link_of here.word) m.keeps x.leads) names held.held.link held.mark;
         fresh = m.fresh;
-        walks = met_past law bucket first looks.goes.quiet looks.observes x.walks m (omega (arith, few));
+        traverses = met_past law bucket first looks.goes.quiet looks.observes x.traverses m (omega (arith, few));
       }
 
 -- and a value is read

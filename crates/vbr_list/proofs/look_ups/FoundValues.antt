@@ -1,21 +1,21 @@
 -- What a search found is read, and answers a get.
 use Rattle.vbr_list.proofs.Names.{◌≡◌, ℕ, ◌+◌, ◌<◌, ◌≤◌, Bool, true, false, Option, Some, None, arith, refl, sym, subst}
 use Rattle.vbr_list.proofs.Names.{is_some, IsSome}
-use Rattle.vbr_list.proofs.Names.{counts_on, CountsSteps, entry_call, Get, Ghosts, Held, held_kept, Insert, IsSame}
+use Rattle.vbr_list.proofs.Names.{counts_on, CountsSteps, entry_call, Ghosts, Held, held_kept, Insert, IsSame}
 use Rattle.vbr_list.proofs.Names.{Keeps, KeepsIn, Know, knows, link_of, Made, made_on, MadeTwo, payload_kept, Quiet}
 use Rattle.vbr_list.proofs.Names.{ReadsIn, Remove, Start, steps_to_birth, Trace, ValueAt}
 use Rattle.vbr_at_table.specs.costs.StepCosts.{birth_steps}
 use Rattle.vbr_list.specs.calls.Budgets.{steps_where}
 use Rattle.vbr_list.specs.calls.Pieces.{GoesOn, IsSameCall, pass_in, trace_in}
-use Rattle.vbr_list.specs.walks.Places.{IsEnd, Locates}
-use Rattle.vbr_list.specs.updates.Settling.{Asks}
+use Rattle.vbr_list.specs.traversals.Places.{IsEnd, Locates}
+use Rattle.vbr_list.specs.updates.Preparing.{Asks, told_otherwise}
 use Rattle.vbr_list.specs.look_ups.Telling.{IsFoundValue, IsThere, TellsThere}
 use Rattle.vbr_list.specs.calls.Told.{given_call, stored_call}
 use Rattle.vbr_list.specs.declared.call.PendingCall.{PendingCall}
 use Rattle.vbr_list.specs.declared.found.Found.{Found}
-use Rattle.vbr_list.proofs.pieces.Going.{call_on, counts_step, goes_read}
+use Rattle.vbr_list.proofs.pieces.Going.{call_on, counts_step, goes_read, settles_step}
 use Rattle.vbr_list.proofs.pieces.KeptHands.{hand_on, own_kept}
-use Rattle.vbr_list.proofs.walks.Reaching.{key_kept, pred_on}
+use Rattle.vbr_list.proofs.traversals.Reaching.{key_kept, pred_on}
 use Rattle.vbr_list.proofs.pieces.Told.{kept_all}
 
 -- ---- what was found is known later
@@ -112,7 +112,20 @@ asks_read present same used reads =
       few = omega (arith, used, few);
     }
 
--- and then one step answered, or didn't
+-- one step answered, or didn't
+pub asks_one : {N : Type 0} {kind : Ghosts N} {c d : PendingCall N kind} → IsSameCall c d → d.used ≡ c.used + 1 →
+    KeepsIn (pass_in c) (pass_in d) 1 → Asks c d
+asks_one same used keeps =
+    let x = settles_step same used keeps in
+    record {
+      call = same;
+      counts = x.counts;
+      hand = x.hand;
+      more = omega (arith, used);
+      few = omega (arith, used);
+    }
+
+-- so it did after a value was read
 pub asks_then : {N : Type 0} {kind : Ghosts N} {c d e : PendingCall N kind} (present : Bool) → IsSameCall c d →
     d.used ≡ c.used + steps_where present → ReadsIn (pass_in c) (pass_in d) (steps_where present) → IsSameCall d e →
     e.used ≡ d.used + 1 → KeepsIn (pass_in d) (pass_in e) 1 → Asks c e
@@ -128,13 +141,20 @@ asks_then {c = c} {d = d} {e = e} present same used reads then one keeps =
       few = omega (arith, used, one, few);
     }
 
--- a get that was answered after what made no call
+-- what a call is told that finds its key otherwise, after what made no call
+pub otherwise_since : {N : Type 0} {kind : Ghosts N} (gives : Bool) (c d e : PendingCall N kind) (there : Option ℕ) →
+    d.key ≡ c.key → Quiet (trace_in c) (trace_in d) →
+    Made (told_otherwise gives (trace_in d).who d.key there) (trace_in d) (trace_in e) →
+    Made (told_otherwise gives (trace_in c).who c.key there) (trace_in c) (trace_in e)
+otherwise_since gives c d e there key quiet made =
+    let K : ℕ → Type 0 = λ k. Made (told_otherwise gives (trace_in d).who k there) (trace_in c) (trace_in e) in
+    let W : ℕ → Type 0 = λ who. Made (told_otherwise gives who c.key there) (trace_in c) (trace_in e) in
+    subst W quiet.same.who (subst K key (made_on quiet made))
+
+-- so it is of a get
 pub tells_since : {N : Type 0} {kind : Ghosts N} (c d e : PendingCall N kind) (there : Option ℕ) → d.key ≡ c.key →
     Quiet (trace_in c) (trace_in d) → TellsThere d e there → TellsThere c e there
-tells_since c d e there key quiet made =
-    let K : ℕ → Type 0 = λ k. Made (given_call (trace_in d).who Get k there) (trace_in c) (trace_in e) in
-    let W : ℕ → Type 0 = λ who. Made (given_call who Get c.key there) (trace_in c) (trace_in e) in
-    subst W quiet.same.who (subst K key (made_on quiet made))
+tells_since c d e there key quiet made = otherwise_since true c d e there key quiet made
 
 -- ---- calls as a table of entries keeps them
 

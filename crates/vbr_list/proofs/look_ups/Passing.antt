@@ -1,15 +1,15 @@
--- A walk of loads alone goes on: behind a place before the number known marked links lead on.
+-- A traversal of loads alone goes on: behind a place before the number known marked links lead on.
 use Rattle.vbr_list.proofs.Names.{◌≡◌, ℕ, ◌≤◌, Bool, true, false, Option, None, subst}
 use Rattle.vbr_list.proofs.Names.{bucket_of, Held, IsSame, itself, Keeps, Know, knows, LeadsTo, Link, link_of, LinkAt}
 use Rattle.vbr_list.proofs.Names.{onward, PassView, Slot, StandsBeforeOn, Start, Trace}
 use Rattle.vbr_list.specs.calls.Pieces.{Goes, Observes, Peeks}
-use Rattle.vbr_list.specs.walks.Places.{IsCur, IsEnd, IsPred, IsSight}
+use Rattle.vbr_list.specs.traversals.Places.{IsCur, IsEnd, IsPred, IsSight}
 use Rattle.vbr_list.specs.declared.looking.Sight.TheVariants.{Present, Absent}
 use Rattle.vbr_list.proofs.pieces.Going.{tries_on, tries_refl}
-use Rattle.vbr_list.proofs.walks.Moments.{before_cur, stands_before, key_known}
+use Rattle.vbr_list.proofs.traversals.Moments.{before_cur, stands_before, key_known}
 use Rattle.vbr_list.proofs.pieces.Observing.{observes_on, observes_refl}
-use Rattle.vbr_list.proofs.walks.Reaching.{come_to, pred_on}
-use Rattle.vbr_list.proofs.walks.Traversals.{Follows}
+use Rattle.vbr_list.proofs.traversals.Reaching.{come_to, pred_on}
+use Rattle.vbr_list.proofs.traversals.Traversals.{Follows}
 
 -- where known marked links lead, they lead while they are known
 pub leads_kept : {know later : Know} (link last : Link) → Keeps know later → LeadsTo know link last →

@@ -3,9 +3,9 @@ use Rattle.vbr_list.proofs.Names.{◌≡◌, ℕ, Option, Some, None, ap, sym, s
 use Rattle.vbr_list.proofs.Names.{begins_trans, ChangesNone, Held, incarnations_after, Keeps, knows, LostExchange}
 use Rattle.vbr_list.proofs.Names.{PassLaw, PassView, Quiet, ReadsIn, Rollback, Start, Trace, unchanged_by_none}
 use Rattle.vbr_at_table.specs.answers.Exchanges.{LosesExchange}
-use Rattle.vbr_list.specs.walks.Walking.{LosesFound, LosesNext, LosesPlace}
+use Rattle.vbr_list.specs.traversals.Searching.{LosesFound, LosesNext, LosesPlace}
 use Rattle.vbr_list.specs.declared.found.Found.{Found}
-use Rattle.vbr_list.proofs.walks.Disturbing.{lost_place_later, run_at}
+use Rattle.vbr_list.proofs.traversals.Disturbing.{lost_place_later, run_at}
 
 -- a place that is lost after what only read was lost since
 pub place_lost_since : {p q r : Trace} (held : Held) → Quiet p q → Keeps (knows p) (knows q) → ChangesNone p q →

@@ -5,7 +5,7 @@ use Rattle.vbr_list.proofs.Names.{set_call, Start}
 use Rattle.vbr_at_table.specs.answers.Answering.{IsAnswered}
 use Rattle.vbr_list.specs.look_ups.LookUpPieces.{LookUpAnswers, steps_to_answer}
 use Rattle.vbr_list.specs.calls.Pieces.{trace_in}
-use Rattle.vbr_list.specs.walks.Places.{IsSight, sighted, is_present}
+use Rattle.vbr_list.specs.traversals.Places.{IsSight, sighted, is_present}
 use Rattle.vbr_list.specs.calls.Told.{given_by, kept_call, look_up_op}
 use Rattle.vbr_list.specs.declared.call.PendingCall.{PendingCall}
 use Rattle.vbr_list.specs.declared.looking.Sight.{Sight}

@@ -7,7 +7,7 @@ use Rattle.vbr_list.specs.calls.Pieces.{Goes, IsSameCall, KeepsHand, Settles, pa
 use Rattle.vbr_list.specs.declared.call.PendingCall.{PendingCall}
 use Rattle.vbr_list.proofs.pieces.Going.{counts_step, goes_counted}
 use Rattle.vbr_list.proofs.pieces.KeptHands.{hand_on, own_kept}
-use Rattle.vbr_list.specs.walks.Places.{IsCur}
+use Rattle.vbr_list.specs.traversals.Places.{IsCur}
 
 -- whether the nodes of a pass's table have values is what the kind of its nodes says
 pub values_as : {now table : Start} {kind says test : Bool} → now ≡ table → table.shape.values ≡ kind → says ≡ kind →

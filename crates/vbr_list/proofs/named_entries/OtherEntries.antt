@@ -9,13 +9,13 @@ use Rattle.vbr_machine.specs.Records.{IsEntry}
 use Rattle.vbr_machine.specs.declared.knowledge.Read.TheVariants.{BirthOf, KeyOf, LinkAt}
 use Rattle.vbr_machine.proofs.Lemmas.{entry_shown, keys_differ}
 use Rattle.vbr_list.specs.named_entries.OtherEntries.{WasOther}
-use Rattle.vbr_list.specs.walks.Found.{CurStood, IsFound}
+use Rattle.vbr_list.specs.traversals.Found.{CurStood, IsFound}
 use Rattle.vbr_list.specs.named_entries.OtherEntries.{IsNodeOf}
-use Rattle.vbr_list.specs.walks.Places.{IsEnd}
+use Rattle.vbr_list.specs.traversals.Places.{IsEnd}
 use Rattle.vbr_list.specs.declared.entries.Entry.{Entry}
 use Rattle.vbr_list.specs.declared.found.Found.{Found}
-use Rattle.vbr_list.proofs.walks.Disturbing.{run_at}
-use Rattle.vbr_list.proofs.walks.Moments.{key_known, was_so}
+use Rattle.vbr_list.proofs.traversals.Disturbing.{run_at}
+use Rattle.vbr_list.proofs.traversals.Moments.{key_known, was_so}
 
 -- a key that was absent at a moment had no entry then
 absent_other : (p q : Trace) (key : ℕ) (entry : Entry) → IsStart p.start → IsSame p q → WasSo p q key false →

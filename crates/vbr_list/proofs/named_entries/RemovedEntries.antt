@@ -12,9 +12,9 @@ use Rattle.vbr_slots.proofs.Lemmas.{moment_after}
 use Rattle.vbr_list.specs.calls.CallBounds.{CallsAs}
 use Rattle.vbr_list.specs.named_entries.Entries.{WasThere}
 use Rattle.vbr_list.specs.updates.Expecting.{removal_in}
-use Rattle.vbr_list.specs.walks.Found.{CurStood, IsFound}
-use Rattle.vbr_list.specs.walks.Leaving.{BoundsOfRemove}
-use Rattle.vbr_list.specs.walks.Places.{IsEnd}
+use Rattle.vbr_list.specs.traversals.Found.{CurStood, IsFound}
+use Rattle.vbr_list.specs.traversals.Leaving.{BoundsOfRemove}
+use Rattle.vbr_list.specs.traversals.Places.{IsEnd}
 use Rattle.vbr_list.specs.named_entries.OtherEntries.{IsNodeOf, WasOther}
 use Rattle.vbr_list.specs.named_entries.RemovingExactly.{MarkedSlot, RemovesExactly, RemovesKeyExactly}
 use Rattle.vbr_list.specs.named_entries.RemovingExactly.{RemovesNodeExactly}
@@ -26,7 +26,7 @@ use Rattle.vbr_list.proofs.Names.{same_on}
 use Rattle.vbr_list.specs.calls.Told.{given_call, is_yes}
 use Rattle.vbr_list.specs.declared.entries.Entry.{Entry}
 use Rattle.vbr_list.specs.declared.found.Found.{Found}
-use Rattle.vbr_list.proofs.walks.Moments.{cur_is, key_found, was_so}
+use Rattle.vbr_list.proofs.traversals.Moments.{cur_is, key_found, was_so}
 use Rattle.vbr_list.proofs.named_entries.SeenEntries.{was_there}
 use Rattle.vbr_list.proofs.pieces.LonePasses.{gives_alone}
 use Rattle.vbr_list.proofs.pieces.Told.{given_bare, given_kept, remove_yes}

@@ -1,4 +1,4 @@
--- An unmarked node that a walk read was an entry at a moment, with the value that was read.
+-- An unmarked node that a traversal read was an entry at a moment, with the value that was read.
 use Rattle.std.proofs.Common.{◌≡◌, ℕ, true, false, List, Some, refl, sym, ap, ◌∙◌, subst}
 use Rattle.vbr_words.specs.Words.{link_of}
 use Rattle.vbr_words.specs.declared.place.At.{At}

@@ -2,16 +2,16 @@
 -- Enough is said for a pass that is alone, and for one that is disturbed.
 use Rattle.vbr_list.proofs.Names.{◌≡◌, ℕ, ◌+◌, ◌<◌, ◌≤◌, Bool, None, Result, Err, arith}
 use Rattle.vbr_list.proofs.Names.{Call, IsRun, OutOfSteps, PassLaw, PassView, PIECE, Refusal, took_all}
-use Rattle.vbr_list.specs.walks.Leaving.{BoundsOfRemove}
+use Rattle.vbr_list.specs.traversals.Leaving.{BoundsOfRemove}
 use Rattle.vbr_list.specs.calls.Pieces.{Goes, Observes, Tries}
 use Rattle.vbr_list.specs.calls.Refusals.{IsTired}
 use Rattle.vbr_list.specs.calls.CallBounds.{CallsAs, BoundsOfLookUp}
-use Rattle.vbr_list.specs.walks.Walking.{WalksAgain}
-use Rattle.vbr_list.proofs.walks.Disturbing.{run_at}
+use Rattle.vbr_list.specs.traversals.Searching.{TraversesAgain}
+use Rattle.vbr_list.proofs.traversals.Disturbing.{run_at}
 use Rattle.vbr_list.proofs.pieces.Going.{goes_on, within_of}
 use Rattle.vbr_list.proofs.pieces.Observing.{observes_on}
 use Rattle.vbr_list.proofs.inserts.Sufficing.{look_up_lacks, search_lacks}
-use Rattle.vbr_list.proofs.walks.Walking.{HasRepeated, lacks_steps}
+use Rattle.vbr_list.proofs.traversals.Searching.{HasRepeated, lacks_steps}
 
 -- a call that has tried so far goes on, and then its budget has no room for one more piece
 module _ {p q r : PassView} (law : PassLaw p) (key : ℕ) {a b budget : ℕ} (tries : Tries p q 0 a budget)
@@ -39,11 +39,11 @@ module _ {p q r : PassView} (law : PassLaw p) (key : ℕ) {a b budget : ℕ} (tr
       }
 
   pub remove_tires : {A : Type 0} {told : A → Call} {yes : A → Bool} → HasRepeated 9 p.trace q.trace key 6 0 a →
-      WalksAgain 9 q.trace r.trace key a b →
+      TraversesAgain 9 q.trace r.trace key a b →
       CallsAs told (BoundsOfRemove yes p r key budget) p r budget (Err (OutOfSteps b))
-  remove_tires {A} {told} {yes} lost walks =
+  remove_tires {A} {told} {yes} lost traverses =
       let lacks = lacks_steps p.trace q.trace r.trace law.start ok key tries.goes.quiet went.quiet (omega arith) lost
-      walks budget short in
+      traverses budget short in
       refused {S = BoundsOfRemove yes p r key budget} (record {
         takes_no_slot = whole.hand.takes_no_slot;
         unlists = tt;
@@ -57,7 +57,7 @@ module _ {p q r : PassView} (law : PassLaw p) (key : ℕ) {a b budget : ℕ} (tr
 
   pub look_up_tires : {A : Type 0} {told : A → Call} {reading each : ℕ} → each ≤ 3 → Observes p.trace q.trace →
       Observes q.trace r.trace → HasRepeated 5 p.trace q.trace key (3 + each) 0 a →
-      WalksAgain 5 q.trace r.trace key a b →
+      TraversesAgain 5 q.trace r.trace key a b →
       CallsAs told (BoundsOfLookUp told reading p r key budget) p r budget (Err (OutOfSteps b))
   look_up_tires {A} {told} {reading} {each} few before now rounds looks =
       let seen = observes_on before now in

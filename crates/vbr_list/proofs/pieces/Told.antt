@@ -5,7 +5,7 @@ use Rattle.vbr_list.proofs.Names.{AddsAnswer, AddsNone, answer_on, Call, CountsS
 use Rattle.vbr_list.proofs.Names.{PassLaw, PassView, payload_kept, Quiet, Refusal, set_call, Start, Trace}
 use Rattle.vbr_list.specs.calls.LoneReplies.{AnswersAlone}
 use Rattle.vbr_list.specs.calls.CallBounds.{CallsAs, CallsEntry, BoundsOfLookUp}
-use Rattle.vbr_list.specs.walks.Leaving.{BoundsOfRemove}
+use Rattle.vbr_list.specs.traversals.Leaving.{BoundsOfRemove}
 use Rattle.vbr_list.specs.calls.Told.{given_call, given_in, is_yes, kept_call, stored_call, stored_in}
 use Rattle.vbr_list.proofs.pieces.Going.{within_of}
 use Rattle.vbr_list.proofs.pieces.LonePasses.{alone, gives_alone}

@@ -7,7 +7,7 @@ use Rattle.vbr_words.specs.Packing.{slot_bits}
 use Rattle.vbr_slots.specs.declared.at_table.AtTable.{AtTable}
 use Rattle.vbr_slots.specs.steps.AtTables.{IsSameTable}
 use Rattle.vbr_list.specs.named_entries.OtherEntries.{IsNodeOf}
-use Rattle.vbr_list.specs.walks.Places.{is_present, sighted}
+use Rattle.vbr_list.specs.traversals.Places.{is_present, sighted}
 use Rattle.vbr_list.specs.calls.Words.{wide_found, wide_held, wide_sight}
 use Rattle.vbr_list.specs.declared.call.PendingCall.{PendingCall}
 use Rattle.vbr_list.specs.declared.entries.Entry.{Entry}

@@ -4,13 +4,13 @@ use Rattle.vbr_list.proofs.Names.{Begins, begins_trans, Held, Keeps, knows, Made
 use Rattle.vbr_list.proofs.Names.{Trace}
 use Rattle.vbr_at_table.specs.answers.Records.{MarksHeld, MarksSlot}
 use Rattle.vbr_at_table.specs.answers.Values.{MarksEntry}
-use Rattle.vbr_list.specs.walks.Places.{IsPred, Locates}
+use Rattle.vbr_list.specs.traversals.Places.{IsPred, Locates}
 use Rattle.vbr_list.specs.updates.Removing.{MarksFound}
 use Rattle.vbr_list.specs.calls.Told.{given_in}
 use Rattle.vbr_list.specs.look_ups.Valuing.{ReadsValue}
 use Rattle.vbr_list.specs.declared.found.Found.{Found}
-use Rattle.vbr_list.proofs.walks.Moments.{key_found_since}
-use Rattle.vbr_list.proofs.walks.Reaching.{pred_on}
+use Rattle.vbr_list.proofs.traversals.Moments.{key_found_since}
+use Rattle.vbr_list.proofs.traversals.Reaching.{pred_on}
 use Rattle.vbr_list.proofs.pieces.Told.{given_same, told_since}
 use Rattle.vbr_list.proofs.look_ups.ValueReads.{valued_since}
 

@@ -10,21 +10,22 @@ use Rattle.vbr_list.proofs.Names.{met_bound_uninserted, one_key, own_calls, own_
 use Rattle.vbr_list.proofs.Names.{Remove, same_on, same_refl, since, Slot, StandsBehind, Start, Trace}
 use Rattle.vbr_list.proofs.Names.{undisturbed_shown}
 use Rattle.vbr_list.specs.calls.Budgets.{listed_for, steps_to_value_of}
-use Rattle.vbr_list.specs.walks.Disturbed.{changed_after, disturbed, disturbed_after, remove_costs_among}
-use Rattle.vbr_list.specs.walks.Leaving.{Leaves}
+use Rattle.vbr_list.specs.traversals.Disturbed.{changed_after, disturbed, disturbed_after, remove_costs_among}
+use Rattle.vbr_list.specs.traversals.Leaving.{Leaves}
 use Rattle.vbr_list.specs.calls.Pieces.{trace_in}
 use Rattle.vbr_list.specs.updates.Removing.{MarksAndSearches, MarksBehind, SearchesOn}
-use Rattle.vbr_list.specs.walks.Helping.{GoesIn}
-use Rattle.vbr_list.specs.walks.Traversing.{SearchFinds, LastWalk, SearchTires}
-use Rattle.vbr_list.specs.walks.Walking.{KnowsEpoch, LosesPlace, StandsStill, WalksAgain, met_since, nodes_after}
+use Rattle.vbr_list.specs.traversals.Helping.{GoesIn}
+use Rattle.vbr_list.specs.traversals.Traversing.{SearchFinds, LastTraversal, SearchTires}
+use Rattle.vbr_list.specs.traversals.Searching.{KnowsEpoch, LosesPlace, StandsStill, TraversesAgain, met_since}
+use Rattle.vbr_list.specs.traversals.Searching.{nodes_after}
 use Rattle.vbr_list.specs.declared.call.PendingCall.{PendingCall}
 use Rattle.vbr_list.specs.declared.found.Found.{Found}
-use Rattle.vbr_list.proofs.walks.Disturbing.{alone_undisturbed, changed_same, disturbed_same, grows_disturbed}
-use Rattle.vbr_list.proofs.walks.Disturbing.{loses_place_disturb, met_before, met_less, met_quiet, run_at, run_to}
-use Rattle.vbr_list.proofs.walks.Disturbing.{same_between, unchanged_at, undisturbed}
+use Rattle.vbr_list.proofs.traversals.Disturbing.{alone_undisturbed, changed_same, disturbed_same, grows_disturbed}
+use Rattle.vbr_list.proofs.traversals.Disturbing.{loses_place_disturb, met_before, met_less, met_quiet, run_at, run_to}
+use Rattle.vbr_list.proofs.traversals.Disturbing.{same_between, unchanged_at, undisturbed}
 use Rattle.vbr_list.proofs.pieces.Going.{by_either}
 use Rattle.vbr_list.proofs.inserts.Preparing.{if_failed}
-use Rattle.vbr_list.proofs.walks.Walking.{HasRepeated, call_paid}
+use Rattle.vbr_list.proofs.traversals.Searching.{HasRepeated, call_paid}
 use Rattle.vbr_list.specs.calls.Words.{wide_found}
 
 -- ---- a search
@@ -32,9 +33,9 @@ use Rattle.vbr_list.specs.calls.Words.{wide_found}
 -- an unlinking was lost, and the call searched on
 pub lost_unlinking : {T E : Type 0} {p q : PassView} {r : Trace} {steps key since : ℕ} {pred : Held} (before : ℕ)
     (tried : Result T E) → is_err tried ≡ true → IfErr tried (λ _. LosesPlace p.trace q.trace pred) → GoesIn p q steps →
-    steps ≤ 6 → Quiet q.trace r → WalksAgain 9 q.trace r key (before + steps) since →
+    steps ≤ 6 → Quiet q.trace r → TraversesAgain 9 q.trace r key (before + steps) since →
     SearchesOn p.trace r key before since pred
-lost_unlinking {p = p} {q = q} {steps = steps} {pred = pred} before tried failed lost goes few then walks = record {
+lost_unlinking {p = p} {q = q} {steps = steps} {pred = pred} before tried failed lost goes few then traverses = record {
   ended = q.trace;
   quiet = (goes 0).quiet;
   count = (goes 0).hand.takes_no_slot.count;
@@ -42,14 +43,14 @@ lost_unlinking {p = p} {q = q} {steps = steps} {pred = pred} before tried failed
   used = before + steps;
   few = omega (arith, few);
   then = then;
-  walks = walks;
+  traverses = traverses;
 }
 
 -- whatever it came to
-pub walked : {N : Type 0} {kind : Ghosts N} (c d : PendingCall N kind) (found : Option Found) →
+pub traversed : {N : Type 0} {kind : Ghosts N} (c d : PendingCall N kind) (found : Option Found) →
     IfSome found (λ told. SearchFinds c d (wide_found c told)) → IfNone found (SearchTires c d) →
-    WalksAgain 9 (trace_in c) (trace_in d) c.key c.used d.used
-walked c d found x tired = grind arith
+    TraversesAgain 9 (trace_in c) (trace_in d) c.key c.used d.used
+traversed c d found x tired = grind arith
 
 -- ---- a mark
 
@@ -216,7 +217,7 @@ met_removed p r is ok key {call} made op =
 -- a change that another search followed: for that the pass was disturbed once, and once for each search that was lost
 module _ (p q m r : Trace) (is : IsStart p.start) (ok : IsRun p.start p.passes r.seen) (key : ℕ) (sq : IsSame p q)
     (sm : IsSame q m) {each all used mid now most : ℕ} (x : HasRepeated 9 p q key each all used) (told : Found)
-    (last : LastWalk q m key used mid told) (late : MarksAndSearches most m r key mid now told.pred) where
+    (last : LastTraversal q m key used mid told) (late : MarksAndSearches most m r key mid now told.pred) where
   abbrev pub searched_from : Trace
   searched_from = late.searches.ended
 
@@ -229,7 +230,7 @@ module _ (p q m r : Trace) (is : IsStart p.start) (ok : IsRun p.start p.passes r
       (begins_trans m.seen late.marks.moment late.marked.seen late.marks.before late.marks.after)
       late.searches.quiet.seen
 
-  pub late_rounds : disturbed_after p key p.seen + (x.lost + last.lost + late.searches.walks.lost + 1)
+  pub late_rounds : disturbed_after p key p.seen + (x.lost + last.lost + late.searches.traverses.lost + 1)
       ≤ disturbed_after p key r.seen
   late_rounds =
       let t = last.begun in
@@ -249,7 +250,7 @@ module _ (p q m r : Trace) (is : IsStart p.start) (ok : IsRun p.start p.passes r
       let then_r = disturbed_same p e key r.seen pe in
       let before = x.repeats.few in
       let since_q = last.repeats.few in
-      let since_e = late.searches.walks.repeats.few in
+      let since_e = late.searches.traverses.repeats.few in
       omega (arith, before, since_q, since_e, less, here, mid_there, there, end, then_e, then_r)
 
 late_few : (lost t t2 m1 m2 m3 n d used mid marked ended now more : ℕ) → used ≤ 0 + lost * (9 * m1 + 6) →
@@ -300,15 +301,15 @@ module _ (p q m r : Trace) (is : IsStart p.start) (key : ℕ) (first : Quiet p q
 
   module _ {used mid : ℕ} (x : HasRepeated 9 p q key 6 0 used) where
     -- one that was soon
-    soon_paid : WalksAgain 9 q m key used mid → (now : ℕ) → now ≤ mid + (steps_to_value_of p.start + 7) →
+    soon_paid : TraversesAgain 9 q m key used mid → (now : ℕ) → now ≤ mid + (steps_to_value_of p.start + 7) →
         now ≤ remove_costs_among (listed_for p key) (disturbed p r key) (steps_to_value_of p.start)
     soon_paid w now few =
         let most = call_paid p q m r is ok key 6 first then on (omega arith, omega arith) x w now
         (steps_to_value_of p.start + 7) few in omega (arith, most)
 
-    module _ (op : call.op ≡ Remove) (told : Found) (last : LastWalk q m key used mid told) {now : ℕ}
+    module _ (op : call.op ≡ Remove) (told : Found) (last : LastTraversal q m key used mid told) {now : ℕ}
         (late : MarksAndSearches (steps_to_value_of m.start + 1) m r key mid now told.pred) where
-      rounds : x.lost + last.lost + late.searches.walks.lost + 1 ≤ disturbed p r key
+      rounds : x.lost + last.lost + late.searches.traverses.lost + 1 ≤ disturbed p r key
       rounds = let few = late_rounds p q m r is ok key first.same then.same x told last late in omega (arith, few)
 
       -- and one that was late
@@ -323,13 +324,14 @@ module _ (p q m r : Trace) (is : IsStart p.start) (key : ℕ) (first : Quiet p q
           (begins_trans p.seen m.seen e.seen (begins_trans p.seen q.seen m.seen first.seen then.seen) to_e)
           late.searches.then.seen in
           let all = met_removed p r is ok key made op in
-          late_few x.lost last.lost late.searches.walks.lost (met_since p q key) (met_since q m key) (met_since e r key)
+          late_few x.lost last.lost late.searches.traverses.lost (met_since p q key) (met_since q m key)
+          (met_since e r key)
           (listed_for p key) (disturbed p r key) used mid late.used late.searches.used now (steps_to_value_of p.start)
           x.repeats.paid last.repeats.paid (omega (arith, marked_few, start)) late.searches.few
-          late.searches.walks.repeats.paid met_first met_mid (omega (arith, met_last, all)) rounds
+          late.searches.traverses.repeats.paid met_first met_mid (omega (arith, met_last, all)) rounds
 
-    module _ {P : Type 0} (told : Found) (last : LastWalk q m key used mid told) {now : ℕ}
-        (w : WalksAgain 9 q m key used mid)
+    module _ {P : Type 0} (told : Found) (last : LastTraversal q m key used mid told) {now : ℕ}
+        (w : TraversesAgain 9 q m key used mid)
         (paid : P ⊎ ((call.op ≡ Remove) ×
         MarksAndSearches (steps_to_value_of m.start + 1) m r key mid now told.pred)) where
       -- the one or the other

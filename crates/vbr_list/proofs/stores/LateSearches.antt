@@ -4,16 +4,16 @@ use Rattle.vbr_list.proofs.Names.{Begins, begins_run, bucket_of, Call, disturban
 use Rattle.vbr_list.proofs.Names.{inserts_in-two, IsRun, IsSame, IsStart, MadeTwo, met_bound_made, own_calls, PIECE}
 use Rattle.vbr_list.proofs.Names.{Quiet, quiet_on, Remove, same_on, since, Trace}
 use Rattle.vbr_list.specs.calls.Budgets.{listed_for}
-use Rattle.vbr_list.specs.walks.Disturbed.{disturbed, store_costs_among}
+use Rattle.vbr_list.specs.traversals.Disturbed.{disturbed, store_costs_among}
 use Rattle.vbr_list.specs.updates.Inserting.{SearchedFor}
 use Rattle.vbr_list.specs.updates.Removing.{MarksAndSearches}
 use Rattle.vbr_list.specs.updates.Settling.{AnswersLate}
-use Rattle.vbr_list.specs.walks.Traversing.{LastWalk}
-use Rattle.vbr_list.specs.walks.Walking.{met_since}
+use Rattle.vbr_list.specs.traversals.Traversing.{LastTraversal}
+use Rattle.vbr_list.specs.traversals.Searching.{met_since}
 use Rattle.vbr_list.specs.declared.found.Found.{Found}
-use Rattle.vbr_list.proofs.walks.Disturbing.{disturbed_same, met_before, met_less, met_quiet, run_to, same_between}
+use Rattle.vbr_list.proofs.traversals.Disturbing.{disturbed_same, met_before, met_less, met_quiet, run_to, same_between}
 use Rattle.vbr_list.proofs.removes.Marks.{late_rounds, same_searched, to_searched}
-use Rattle.vbr_list.proofs.walks.Walking.{HasRepeated, disturbed_on, searched_first}
+use Rattle.vbr_list.proofs.traversals.Searching.{HasRepeated, disturbed_on, searched_first}
 
 -- ---- the place before the old node was lost
 
@@ -30,7 +30,7 @@ late_few lost t t2 m1 m2 m m3 m4 before used mid marked ended now x y z e g l k 
 pub late_searched : (p q m r : Trace) → IsStart p.start → IsRun p.start p.passes r.seen → (key : ℕ) → IsSame p q →
     IsSame q m → Begins p.seen q.seen → Begins q.seen m.seen → Quiet p m → Begins m.seen r.seen →
     {before_all used mid : ℕ} → HasRepeated 9 p q key 11 before_all used → (told : Found) →
-    LastWalk q m key used mid told → (now : ℕ) → MarksAndSearches PIECE m r key mid now told.pred →
+    LastTraversal q m key used mid told → (now : ℕ) → MarksAndSearches PIECE m r key mid now told.pred →
     AnswersLate p r key before_all now
 late_searched p q m r is ok key sq sm a b quiet on {before_all} {used} {mid} x told last now late =
     let pm : IsSame p m = same_on sq sm in
@@ -48,11 +48,11 @@ late_searched p q m r is ok key sq sm a b quiet on {before_all} {used} {mid} x t
       quiet = quiet;
       to = on;
       lost = x.lost + last.lost;
-      later = late.searches.walks.lost;
+      later = late.searches.traverses.lost;
       few = omega (arith, rounds);
-      paid = late_few x.lost last.lost late.searches.walks.lost (met_since p q key) (met_since q m key)
+      paid = late_few x.lost last.lost late.searches.traverses.lost (met_since p q key) (met_since q m key)
           (met_since p m key) (met_since e r key) (met_since m r key) before_all used mid late.used late.searches.used
-          now x.repeats.paid last.repeats.paid late.few late.searches.few late.searches.walks.repeats.paid low high
+          now x.repeats.paid last.repeats.paid late.few late.searches.few late.searches.traverses.repeats.paid low high
           met_last;
     }
 

@@ -3,7 +3,7 @@ use Rattle.vbr_list.proofs.Names.{◌≡◌, ℕ, ◌+◌, ◌≤◌, Bool, true
 use Rattle.vbr_list.proofs.Names.{subst}
 use Rattle.vbr_list.proofs.Names.{AddsNone, Call, counts_on, Ghosts, IsStart, Keeps, knows, none_on, PassLaw, PIECE}
 use Rattle.vbr_list.proofs.Names.{Quiet}
-use Rattle.vbr_list.specs.walks.Leaving.{LeavesReplaced}
+use Rattle.vbr_list.specs.traversals.Leaving.{LeavesReplaced}
 use Rattle.vbr_list.specs.calls.Pieces.{GoesOn, pass_in, trace_in}
 use Rattle.vbr_list.specs.updates.Removing.{MarksAndSearches}
 use Rattle.vbr_list.specs.updates.Settling.{MaySettle, SettlesIn, SettlesSoon, StoreAnswers, StoresAndLeaves}
@@ -13,11 +13,11 @@ use Rattle.vbr_list.specs.updates.Wanted.{wants}
 use Rattle.vbr_list.specs.declared.call.PendingCall.{PendingCall}
 use Rattle.vbr_list.specs.declared.found.Found.{Found}
 use Rattle.vbr_list.specs.declared.wanted.Wanted.{Wanted}
-use Rattle.vbr_list.proofs.walks.Disturbing.{run_at}
+use Rattle.vbr_list.proofs.traversals.Disturbing.{run_at}
 use Rattle.vbr_list.proofs.pieces.Going.{call_on}
 use Rattle.vbr_list.proofs.removes.Marks.{marks_later}
 use Rattle.vbr_list.proofs.stores.Stores.{makes_on, replaced_not, replaced_where, stored_where, told_where}
-use Rattle.vbr_list.proofs.walks.Sweeping.{leaves_replaced_since}
+use Rattle.vbr_list.proofs.traversals.Sweeping.{leaves_replaced_since}
 
 -- what stays of the call
 pub settles_after : {N : Type 0} {kind : Ghosts N} {c d e : PendingCall N kind} → GoesOn c d → MaySettle d e →

@@ -5,26 +5,26 @@ use Rattle.vbr_list.proofs.Names.{None, same_on, Some, Trace}
 use Rattle.vbr_at_table.specs.answers.Records.{PublishesSlot}
 use Rattle.vbr_list.specs.updates.Holding.{FindsOtherEntry, StoresByHand, StoresHeld, TiresStoring}
 use Rattle.vbr_list.specs.named_entries.OtherEntries.{WasOther}
-use Rattle.vbr_list.specs.walks.Leaving.{LeavesReplaced}
+use Rattle.vbr_list.specs.traversals.Leaving.{LeavesReplaced}
 use Rattle.vbr_list.specs.calls.Pieces.{GoesOn, IsSameCall, pass_in, trace_in}
 use Rattle.vbr_list.specs.updates.Removing.{MarksAndSearches}
 use Rattle.vbr_list.specs.updates.Settling.{AnswersIn, MaySettle, SearchesWith, SettlesIn, SettlesSoon, StoredIn}
 use Rattle.vbr_list.specs.updates.Settling.{StoredSoon}
 use Rattle.vbr_list.specs.updates.Settling.{had_node}
 use Rattle.vbr_list.specs.updates.Storing.{Makes, storing_calls}
-use Rattle.vbr_list.specs.walks.Traversing.{LastWalk, SearchFinds, SearchTires}
-use Rattle.vbr_list.specs.walks.Walking.{WalksAgain}
+use Rattle.vbr_list.specs.traversals.Traversing.{LastTraversal, SearchFinds, SearchTires}
+use Rattle.vbr_list.specs.traversals.Searching.{TraversesAgain}
 use Rattle.vbr_list.specs.declared.call.PendingCall.{PendingCall}
 use Rattle.vbr_list.specs.declared.found.Found.{Found}
 use Rattle.vbr_list.specs.calls.Told.{given_call, stored_call}
 use Rattle.vbr_list.specs.declared.entries.Entry.{Entry}
-use Rattle.vbr_list.proofs.walks.Disturbing.{run_at}
+use Rattle.vbr_list.proofs.traversals.Disturbing.{run_at}
 use Rattle.vbr_list.proofs.inserts.HeldCosts.{costs_after, lacks_after, stored_costs, stored_leaves}
 use Rattle.vbr_list.proofs.stores.LateSearches.{late_searched}
 use Rattle.vbr_list.proofs.inserts.Linking.{begun, counts_until, IsLinking, quiet_until, TakesOn}
 use Rattle.vbr_list.proofs.named_entries.Publishing.{published_since}
 use Rattle.vbr_list.proofs.stores.Stores.{are_alone, has_made, HasMade, makes_on, searches_with_end}
-use Rattle.vbr_list.proofs.walks.Sweeping.{leaves_replaced_since}
+use Rattle.vbr_list.proofs.traversals.Sweeping.{leaves_replaced_since}
 
 abbrev pub AnswersSoon : {N : Type 0} {kind : Ghosts N} → Bool → PendingCall N kind → PendingCall N kind → Type 0
 AnswersSoon stored c d = StoredSoon stored (trace_in c) (trace_in d) c.key c.used d.used c.budget
@@ -32,14 +32,14 @@ AnswersSoon stored c d = StoredSoon stored (trace_in c) (trace_in d) c.key c.use
 -- one more search, and what came then
 pub searches_with : {N : Type 0} {kind : Ghosts N} {b c d : PendingCall N kind} {hand : HandView} →
     PassLaw (pass_in b) → IsLinking 11 b c hand → GoesOn c d →
-    WalksAgain 9 (trace_in c) (trace_in d) c.key c.used d.used → (now more all : ℕ) → now ≤ d.used + more →
+    TraversesAgain 9 (trace_in c) (trace_in d) c.key c.used d.used → (now more all : ℕ) → now ≤ d.used + more →
     more + 3 ≤ all → SearchesWith (trace_in b) (trace_in d) b.key b.used now all
-searches_with {b = b} {c = c} {d = d} law so went walks =
+searches_with {b = b} {c = c} {d = d} law so went traverses =
     let quiet = quiet_until so went in
-    let P : ℕ → Type 0 = λ key. WalksAgain 9 (trace_in c) (trace_in d) key c.used d.used in
+    let P : ℕ → Type 0 = λ key. TraversesAgain 9 (trace_in c) (trace_in d) key c.used d.used in
     searches_with_end (trace_in b) (trace_in c) (trace_in d) law.start
     (run_at (trace_in b) (trace_in d) quiet.same (quiet.is_run law.is_run)) b.key so.1.same so.1.seen
-    went.goes.quiet.seen so.6 (subst P so.0.key walks)
+    went.goes.quiet.seen so.6 (subst P so.0.key traverses)
 
 module _ {N : Type 0} {kind : Ghosts N} (b c d e : PendingCall N kind) {hand : HandView} (law : PassLaw (pass_in b))
     (so : IsLinking 11 b c hand) (went : GoesOn c d) (found : Found) (finds : SearchFinds c d found)
@@ -54,7 +54,7 @@ module _ {N : Type 0} {kind : Ghosts N} (b c d e : PendingCall N kind) {hand : H
         quiet = quiet;
         to = made.seen;
         used = d.used;
-        searches = searches_with law so went finds.walks d.used 0 3 (omega arith) (omega arith);
+        searches = searches_with law so went finds.traverses d.used 0 3 (omega arith) (omega arith);
         few = let few = soon.few in omega (arith, few);
         leaves = λ yes room.
             let L : ℕ → Type 0 = LeavesReplaced (trace_in d) (trace_in e) in
@@ -71,7 +71,7 @@ module _ {N : Type 0} {kind : Ghosts N} (b c d e : PendingCall N kind) {hand : H
       let quiet = quiet_until so went in
       let p = trace_in b in
       let S : ℕ → Type 0 = λ k. MarksAndSearches PIECE (trace_in d) (trace_in e) k d.used e.used found.pred in
-      let L : ℕ → Type 0 = λ k. LastWalk (trace_in c) (trace_in d) k c.used d.used found in
+      let L : ℕ → Type 0 = λ k. LastTraversal (trace_in c) (trace_in d) k c.used d.used found in
       inr (late_searched p (trace_in c) (trace_in d) (trace_in e) law.start
       (run_at p (trace_in e) (same_on quiet.same made.same) made.is_run) b.key so.1.same went.goes.quiet.same so.1.seen
       went.goes.quiet.seen quiet made.seen so.6 found (subst L so.0.key finds.last) e.used
@@ -152,7 +152,7 @@ held_tires {b = b} {d = d} law so went tired =
     let short : b.budget < d.used + PIECE = rw so.0.budget at tired.tired in
     let quiet = quiet_until so went in
     let searches : SearchesWith (trace_in b) (trace_in d) b.key b.used (b.budget + 1) 11 =
-    searches_with {b = b} law so went tired.walks (b.budget + 1) 8 11 (omega (arith, short)) (omega arith) in
+    searches_with {b = b} law so went tired.traverses (b.budget + 1) 8 11 (omega (arith, short)) (omega arith) in
     record {
       short = record { counts = counts_until so went; short = short };
       searches = searches;
@@ -168,7 +168,7 @@ pub held_finds : {N : Type 0} {kind : Ghosts N} {b c d : PendingCall N kind} {ha
 held_finds {b = b} {d = d} law so went found finds entry was =
     let quiet = quiet_until so went in
     let searches : SearchesWith (trace_in b) (trace_in d) b.key b.used d.used 3 =
-    searches_with {b = b} law so went finds.walks d.used 0 3 (omega arith) (omega arith) in
+    searches_with {b = b} law so went finds.traverses d.used 0 3 (omega arith) (omega arith) in
     record {
       was = was;
       searches = searches;

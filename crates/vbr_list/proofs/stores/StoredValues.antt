@@ -6,10 +6,10 @@ use Rattle.vbr_list.proofs.Names.{KeepsSlots, longer, MadeTwo, needed_before, Pa
 use Rattle.vbr_list.proofs.Names.{Remove, shared_on, shares_more, SharesWhereFull, slots_kept_on, TookWithin, Trace}
 use Rattle.vbr_list.proofs.Names.{in_need_before, TriesOnlyWhere, WinsInNeed}
 use Rattle.vbr_list.specs.calls.Budgets.{enough_to_unlist, listed_for}
-use Rattle.vbr_list.specs.walks.Disturbed.{disturbed, enough_to_store_among, searches_more, steps_to_prepare}
-use Rattle.vbr_list.specs.walks.Disturbed.{store_costs_among}
+use Rattle.vbr_list.specs.traversals.Disturbed.{disturbed, enough_to_store_among, searches_more, steps_to_prepare}
+use Rattle.vbr_list.specs.traversals.Disturbed.{store_costs_among}
 use Rattle.vbr_list.specs.updates.Inserting.{CountsWithin, InsertIsShort, Links, SearchedFor}
-use Rattle.vbr_list.specs.walks.Leaving.{LeavesReplaced}
+use Rattle.vbr_list.specs.traversals.Leaving.{LeavesReplaced}
 use Rattle.vbr_list.specs.calls.Pieces.{pass_in, trace_in}
 use Rattle.vbr_list.specs.updates.Settling.{AnswersIn, AnswersLate, SearchesWith, StoreAnswers, StoresNone}
 use Rattle.vbr_list.specs.updates.Storing.{CallsStore, HasUnstored, Makes, replaced, stored_calls}
@@ -17,7 +17,7 @@ use Rattle.vbr_list.specs.calls.Told.{given_call, stored_call}
 use Rattle.vbr_list.specs.updates.Wanted.{WasWanted, steps_to_compare}
 use Rattle.vbr_list.specs.declared.call.PendingCall.{PendingCall}
 use Rattle.vbr_list.specs.declared.wanted.Wanted.{Wanted}
-use Rattle.vbr_list.proofs.walks.Disturbing.{alone_undisturbed, run_at}
+use Rattle.vbr_list.proofs.traversals.Disturbing.{alone_undisturbed, run_at}
 use Rattle.vbr_list.proofs.pieces.Going.{room_left}
 use Rattle.vbr_list.proofs.stores.LateSearches.{late_disturbs, late_paid}
 use Rattle.vbr_list.proofs.inserts.Preparing.{tries_before, within_all, within_most, within_on}
@@ -25,8 +25,8 @@ use Rattle.vbr_list.proofs.stores.Stores.{are_alone, had_since, has_made, HasMad
 use Rattle.vbr_list.proofs.stores.Stores.{store_lone_costs}
 use Rattle.vbr_list.proofs.stores.Stores.{store_ready, store_refused_second, two_made}
 use Rattle.vbr_list.proofs.inserts.Sufficing.{lacks, lone, never_refused, slot_later}
-use Rattle.vbr_list.proofs.walks.Sweeping.{leaves_replaced_since}
-use Rattle.vbr_list.proofs.walks.Walking.{both_lack, both_paid}
+use Rattle.vbr_list.proofs.traversals.Sweeping.{leaves_replaced_since}
+use Rattle.vbr_list.proofs.traversals.Searching.{both_lack, both_paid}
 use Rattle.vbr_list.proofs.stores.Wants.{was_later}
 use Rattle.vbr_list.proofs.stores.SettledSoon.{AnswersSoon}
 

@@ -7,7 +7,7 @@ use Rattle.vbr_list.proofs.Names.{made_on, most_to_take, NoSlot, OutOfSteps, Pas
 use Rattle.vbr_list.proofs.Names.{Remove, took_all, TookWithin, Trace, two_on}
 use Rattle.vbr_list.specs.calls.LoneReplies.{AreAnsweredAlone}
 use Rattle.vbr_list.specs.calls.Budgets.{IsAnsweredOrSpent, LacksSteps, enough_to_store, listed_for, store_costs}
-use Rattle.vbr_list.specs.walks.Disturbed.{disturbed, enough_to_store_among, steps_to_prepare, store_costs_among}
+use Rattle.vbr_list.specs.traversals.Disturbed.{disturbed, enough_to_store_among, steps_to_prepare, store_costs_among}
 use Rattle.vbr_list.specs.updates.Inserting.{CountsWithin, HasHandAndRoom, InsertIsShort, SearchedFor, SearchesInVain}
 use Rattle.vbr_list.specs.updates.Inserting.{TakesNone}
 use Rattle.vbr_list.specs.calls.Pieces.{KeepsHand}
@@ -15,12 +15,12 @@ use Rattle.vbr_list.specs.updates.Settling.{SearchesWith, had_node}
 use Rattle.vbr_list.specs.updates.Storing.{HasUnlessStored, HasUnstored, IsRefusedStore, Makes, replaced, stored_calls}
 use Rattle.vbr_list.specs.updates.Storing.{storing_calls}
 use Rattle.vbr_list.specs.calls.Told.{given_call, stored_call}
-use Rattle.vbr_list.specs.walks.Walking.{WalksAgain}
+use Rattle.vbr_list.specs.traversals.Searching.{TraversesAgain}
 use Rattle.vbr_list.specs.updates.Wanted.{WasWantedFor, steps_to_compare, wants}
 use Rattle.vbr_list.specs.declared.wanted.Wanted.{Wanted}
 use Rattle.vbr_list.proofs.pieces.LonePasses.{alone_all}
 use Rattle.vbr_list.proofs.inserts.Sufficing.{lacks_more, lone, took_more}
-use Rattle.vbr_list.proofs.walks.Walking.{HasRepeated, once_paid, searches_until, vain_lacks}
+use Rattle.vbr_list.proofs.traversals.Searching.{HasRepeated, once_paid, searches_until, vain_lacks}
 
 -- ---- the calls that it makes
 
@@ -159,7 +159,7 @@ store_refused_second wanted p q r key x (EpochSpent epoch) y = absurd y
 
 pub searches_with_end : (p q m : Trace) → IsStart p.start → IsRun p.start p.passes m.seen → (key : ℕ) → IsSame p q →
     Begins p.seen q.seen → Begins q.seen m.seen → {before_all used mid : ℕ} → HasRepeated 9 p q key 11 before_all used →
-    WalksAgain 9 q m key used mid → (since_then more all : ℕ) → since_then ≤ mid + more → more + 3 ≤ all →
+    TraversesAgain 9 q m key used mid → (since_then more all : ℕ) → since_then ≤ mid + more → more + 3 ≤ all →
     SearchesWith p m key before_all since_then all
 searches_with_end p q m is ok key sq a b x w = searches_until p q m is ok key sq a b (omega arith, omega arith) x w
 

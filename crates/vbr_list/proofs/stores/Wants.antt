@@ -5,26 +5,31 @@ use Rattle.vbr_list.proofs.Names.{At, Begins, EpochSpent, Ghosts, Held, held_kep
 use Rattle.vbr_list.proofs.Names.{Know, knows, moment_before, NoSlot, OutOfSteps, Quiet, Refusal, stood_before, Trace}
 use Rattle.vbr_list.proofs.Names.{ValueAt, was_entry, WasEntry, WasSo}
 use Rattle.vbr_list.specs.calls.Budgets.{LacksSteps, steps_where}
-use Rattle.vbr_list.specs.walks.Found.{CurStood, IsFound}
+use Rattle.vbr_list.specs.traversals.Found.{CurStood, IsFound}
 use Rattle.vbr_list.specs.updates.Inserting.{SearchesFor, SearchesInVain}
-use Rattle.vbr_list.specs.walks.Walking.{SearchesIn}
+use Rattle.vbr_list.specs.traversals.Searching.{SearchesIn}
 use Rattle.vbr_list.specs.calls.Pieces.{GoesOn, trace_in}
-use Rattle.vbr_list.specs.walks.Places.{IsCur, IsEnd}
-use Rattle.vbr_list.specs.updates.Settling.{AsksMet, IsMet, Meeting, MeetsOther, MeetsWanted, ReadsWanted, TellsOther}
-use Rattle.vbr_list.specs.updates.Settling.{has_wanted}
+use Rattle.vbr_list.specs.traversals.Places.{IsCur, IsEnd}
+use Rattle.vbr_list.specs.updates.Preparing.{AsksMet, IsMet, Meeting, MeetsOther, MeetsWanted, ReadsWanted, TellsOther}
+use Rattle.vbr_list.specs.updates.Preparing.{has_wanted}
 use Rattle.vbr_list.specs.look_ups.Telling.{IsFoundValue, IsThere}
 use Rattle.vbr_list.specs.updates.Wanted.{WasWanted, WasWantedFor, steps_to_compare, wants}
 use Rattle.vbr_list.specs.declared.call.PendingCall.{PendingCall}
 use Rattle.vbr_list.specs.declared.found.Found.{Found}
-use Rattle.vbr_list.specs.declared.storing.Met.{Met}
-use Rattle.vbr_list.specs.declared.storing.Met.TheVariants.{AsWanted, Otherwise}
+use Rattle.vbr_list.specs.declared.preparing.Met.{Met}
+use Rattle.vbr_list.specs.declared.preparing.Met.TheVariants.{AsWanted, Otherwise}
 use Rattle.vbr_list.specs.declared.wanted.Wanted.{Wanted}
 use Rattle.vbr_list.specs.declared.wanted.Wanted.TheVariants.{Absent, Present, Anything, Value}
 use Rattle.vbr_list.proofs.look_ups.FoundValues.{few_where}
-use Rattle.vbr_list.proofs.walks.Moments.{key_known, later_moment, so_before, so_later}
-use Rattle.vbr_list.proofs.walks.Reaching.{key_kept}
+use Rattle.vbr_list.proofs.traversals.Moments.{key_known, later_moment, so_before, so_later}
+use Rattle.vbr_list.proofs.traversals.Reaching.{key_kept}
 
 -- ---- as it is wanted
+
+-- what isn't absent is there
+pub is_there : (present : Bool) → not present ≡ false → present ≡ true
+is_there true other = refl
+is_there false other = absurd (cc)
 
 -- by its presence alone
 pub was_plain : (p q : Trace) (key : ℕ) (wanted : Wanted) (present : Bool) → has_wanted wanted present ≡ true →
@@ -145,9 +150,10 @@ store_in_vain key budget steps all x NoSlot short le = tt
 store_in_vain key budget steps all x (EpochSpent epoch) short le = tt
 
 -- what was asked tells how it was met
-pub met_as : {N : Type 0} {kind : Ghosts N} (c m d : PendingCall N kind) (wanted : Wanted) (found : Found) (met : Met) →
-    ((there : Option ℕ) → ReadsWanted wanted m d found there → MeetsWanted wanted c d) →
-    ((there : Option ℕ) → TellsOther wanted m d there → MeetsOther wanted c d there) → AsksMet wanted m d found met →
-    IsMet wanted c d met
-met_as c m d wanted found AsWanted f g x = f x.0 x.1
-met_as c m d wanted found (Otherwise there) f g x = g there x
+pub met_as : {N : Type 0} {kind : Ghosts N} (gives : Bool) (c m d : PendingCall N kind) (wanted : Wanted)
+    (found : Found)
+    (met : Met) → ((there : Option ℕ) → ReadsWanted wanted m d found there → MeetsWanted wanted c d) →
+    ((there : Option ℕ) → TellsOther gives wanted m d there → MeetsOther gives wanted c d there) →
+    AsksMet gives wanted m d found met → IsMet gives wanted c d met
+met_as gives c m d wanted found AsWanted f g x = f x.0 x.1
+met_as gives c m d wanted found (Otherwise there) f g x = g there x

@@ -15,8 +15,8 @@ use Rattle.vbr_at_table.specs.costs.WithinBudget.{TookWithin}
 use Rattle.vbr_at_table.specs.answers.Values.{steps_to_value}
 use Rattle.vbr_list.specs.calls.LoneReplies.{AnswersAlone}
 use Rattle.vbr_list.specs.calls.Budgets.{IsAnsweredOrSpent, LacksSteps, enough_to_insert, enough_to_look_up, enough_with_a_slot, insert_costs, listed_for, look_up_costs}
-use Rattle.vbr_list.specs.walks.Disturbed.{costs_among, disturbed, enough_among, enough_to_insert_among, insert_costs_among, steps_for_slot}
-use Rattle.vbr_list.specs.walks.Leaving.{BoundsOfRemove}
+use Rattle.vbr_list.specs.traversals.Disturbed.{costs_among, disturbed, enough_among, enough_to_insert_among, insert_costs_among, steps_for_slot}
+use Rattle.vbr_list.specs.traversals.Leaving.{BoundsOfRemove}
 use Rattle.vbr_list.specs.calls.Refusals.{IsRefusedInsert, IsTired}
 use Rattle.vbr_list.specs.calls.Told.{given_call, stored_call}
 use Rattle.vbr_at_table.specs.declared.refusal.Refusal.{Refusal}

@@ -12,7 +12,7 @@ use Rattle.vbr_at_table.specs.reads.Moments.{WasEntry, WasSo}
 use Rattle.vbr_at_table.specs.costs.WithinBudget.{TookWithin}
 use Rattle.vbr_at_table.specs.declared.budget.TheConstants.{PIECE}
 use Rattle.vbr_list.specs.calls.Budgets.{nodes_listed_in, steps_to_value_of}
-use Rattle.vbr_list.specs.walks.Disturbed.{advances_since, changes_since, disturbed_in, enough_among, seek_costs_among}
+use Rattle.vbr_list.specs.traversals.Disturbed.{advances_since, changes_since, disturbed_in, enough_among, seek_costs_among}
 use Rattle.vbr_list.specs.named_entries.Entries.{WasFullEntry, WasThere}
 use Rattle.vbr_list.specs.look_ups.Next.{enough_to_seek, seek_costs}
 use Rattle.vbr_list.specs.calls.Refusals.{IsTired}

@@ -11,9 +11,9 @@ use Rattle.vbr_at_table.specs.declared.held.Held.{Held}
 use Rattle.vbr_at_table.specs.declared.rollback.Rollback.{Rollback}
 use Rattle.vbr_list.specs.calls.Budgets.{steps_where}
 use Rattle.vbr_list.specs.calls.Pieces.{MadeGiving, trace_in}
-use Rattle.vbr_list.specs.walks.Places.{IsSight, sighted}
+use Rattle.vbr_list.specs.traversals.Places.{IsSight, sighted}
 use Rattle.vbr_list.specs.calls.Told.{given_in, look_up_op}
-use Rattle.vbr_list.specs.walks.Walking.{IsDisturbed, LooksTo, LosesHeld, StoodOpen, WalksAgain, WalksOnce}
+use Rattle.vbr_list.specs.traversals.Searching.{IsDisturbed, LooksTo, LosesHeld, StoodOpen, TraversesAgain, TraversesOnce}
 use Rattle.vbr_list.specs.declared.call.PendingCall.{PendingCall}
 use Rattle.vbr_list.specs.declared.looking.Sight.{Sight}
 use Rattle.vbr_list.specs.declared.traversal.Stop.{Stop}
@@ -23,17 +23,17 @@ use Rattle.vbr_list.specs.declared.traversal.Stop.TheVariants.{Again, Tired}
 abbrev pub IsSightFor : {N : Type 0} {kind : Ghosts N} → PendingCall N kind → Sight → Type 0
 IsSightFor c sight = IsSight (trace_in c).start (knows (trace_in c)) c.key sight
 
--- one walk came to the key, or to where it is absent
-pub record WalksTo {N : Type 0} {kind : Ghosts N} (c d : PendingCall N kind) (sight : Sight) : Type 0 where
+-- one traversal came to the key, or to where it is absent
+pub record TraversesTo {N : Type 0} {kind : Ghosts N} (c d : PendingCall N kind) (sight : Sight) : Type 0 where
   pub sees : IsSight (trace_in d).start (knows (trace_in d)) c.key sight
   pub fresh : IsFresh (trace_in d)
   pub stood : StoodOpen (trace_in c) (trace_in d) c.bucket (sighted sight)
-  pub paid : WalksOnce 5 3 (trace_in c) (trace_in d) c.bucket c.used d.used
+  pub paid : TraversesOnce 5 3 (trace_in c) (trace_in d) c.bucket c.used d.used
 
 -- it stopped before that: it rolled back, disturbed by another; or the budget has no room for one more piece
-abbrev pub WalkStops : {N : Type 0} {kind : Ghosts N} → PendingCall N kind → PendingCall N kind → Stop → Type 0
-WalkStops c d Again = (c.used < d.used) × WalksOnce 5 3 (trace_in c) (trace_in d) c.bucket c.used d.used × IsDisturbed (trace_in c) (trace_in d) c.bucket
-WalkStops c d Tired = (c.budget < d.used + PIECE) × WalksOnce 5 3 (trace_in c) (trace_in d) c.bucket c.used d.used
+abbrev pub TraversalStops : {N : Type 0} {kind : Ghosts N} → PendingCall N kind → PendingCall N kind → Stop → Type 0
+TraversalStops c d Again = (c.used < d.used) × TraversesOnce 5 3 (trace_in c) (trace_in d) c.bucket c.used d.used × IsDisturbed (trace_in c) (trace_in d) c.bucket
+TraversalStops c d Tired = (c.budget < d.used + PIECE) × TraversesOnce 5 3 (trace_in c) (trace_in d) c.bucket c.used d.used
 
 -- a look came to the key, or to where it is absent
 pub record Sees {N : Type 0} {kind : Ghosts N} (c d : PendingCall N kind) (sight : Sight) : Type 0 where
@@ -44,7 +44,7 @@ pub record Sees {N : Type 0} {kind : Ghosts N} (c d : PendingCall N kind) (sight
 -- the budget has no room for one more piece
 pub record LookTires {N : Type 0} {kind : Ghosts N} (c d : PendingCall N kind) : Type 0 where
   pub tired : c.budget < d.used + PIECE
-  pub looks : WalksAgain 5 (trace_in c) (trace_in d) c.key c.used d.used
+  pub looks : TraversesAgain 5 (trace_in c) (trace_in d) c.key c.used d.used
 
 -- the steps of an answer: one, and two for the value where it is given
 abbrev pub steps_to_answer : Bool → ℕ

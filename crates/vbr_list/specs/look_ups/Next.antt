@@ -8,7 +8,7 @@ use Rattle.vbr_at_table.specs.hands.KeptSlots.{TakesNoSlot}
 use Rattle.vbr_at_table.specs.reads.Moments.{WasEntry, WasSo}
 use Rattle.vbr_at_table.specs.costs.WithinBudget.{TookWithin}
 use Rattle.vbr_list.specs.calls.Budgets.{nodes_listed_in, steps_to_value_of}
-use Rattle.vbr_list.specs.walks.Disturbed.{disturbed_in, enough_among, seek_costs_among}
+use Rattle.vbr_list.specs.traversals.Disturbed.{disturbed_in, enough_among, seek_costs_among}
 use Rattle.vbr_list.specs.named_entries.Entries.{WasFullEntry, WasThere}
 use Rattle.vbr_list.specs.calls.Refusals.{IsTired}
 use Rattle.vbr_list.specs.declared.entries.Entry.{Entry}

@@ -9,7 +9,7 @@ use Rattle.vbr_list.specs.look_ups.Cursors.{GivesNextWhere, Iterates}
 use Rattle.vbr_list.specs.named_entries.Entries.{WasFullEntry, WasThere}
 use Rattle.vbr_list.specs.look_ups.Next.{HasNoNext, IsNextKey}
 use Rattle.vbr_list.specs.calls.Pieces.{Peeks}
-use Rattle.vbr_list.specs.walks.Walking.{IsDisturbed, SearchesIn, WalksOnce}
+use Rattle.vbr_list.specs.traversals.Searching.{IsDisturbed, SearchesIn, TraversesOnce}
 use Rattle.vbr_list.specs.declared.cursor.Cursor.{Cursor}
 use Rattle.vbr_list.specs.declared.seeking.NextNode.{NextNode}
 use Rattle.vbr_list.specs.declared.traversal.Stop.{Stop}
@@ -37,21 +37,21 @@ GivesNextNode p q c d (Some next) = GivesNextWhere p q c d (Some (next.key, next
 abbrev pub IteratesNodes : PassView → PassView → Cursor → Cursor → ℕ → Result (Option NextNode) Refusal → Type 0
 IteratesNodes p q c d budget answer = Iterates (GivesNextNode p.trace q.trace c d) p q c d budget answer
 
--- the steps of a walk besides those for its nodes: three to start, and those of reading the value
+-- the steps of a traversal besides those for its nodes: three to start, and those of reading the value
 abbrev pub steps_besides : Trace → ℕ
 steps_besides p = 3 + steps_to_value_of p.start
 
--- one walk tells what is next
-pub record WalksToNext (p q : Trace) (bucket from before since : ℕ) (told : Option NextNode) : Type 0 where
+-- one traversal tells what is next
+pub record TraversesToNext (p q : Trace) (bucket from before since : ℕ) (told : Option NextNode) : Type 0 where
   pub tells : TellsNode p q bucket from told
-  pub paid : WalksOnce 5 (steps_besides p) p q bucket before since
+  pub paid : TraversesOnce 5 (steps_besides p) p q bucket before since
 
 -- it stopped before that: it rolled back, disturbed by another; or the budget has no room for one more piece
 abbrev pub SeekStops : Trace → Trace → ℕ → ℕ → ℕ → ℕ → Stop → Type 0
-SeekStops p q bucket before since budget Again = (before < since) × WalksOnce 5 (steps_besides p) p q bucket before since × IsDisturbed p q bucket
-SeekStops p q bucket before since budget Tired = (budget < since + PIECE) × WalksOnce 5 3 p q bucket before since
+SeekStops p q bucket before since budget Again = (before < since) × TraversesOnce 5 (steps_besides p) p q bucket before since × IsDisturbed p q bucket
+SeekStops p q bucket before since budget Tired = (budget < since + PIECE) × TraversesOnce 5 3 p q bucket before since
 
--- a seek tells what is next: each walk but the last was disturbed
+-- a seek tells what is next: each traversal but the last was disturbed
 pub record FindsNext (p q : Trace) (bucket from before since : ℕ) (told : Option NextNode) : Type 0 where
   pub tells : TellsNode p q bucket from told
   pub searches : SearchesIn 5 (steps_besides p) p q bucket before since (steps_besides p)

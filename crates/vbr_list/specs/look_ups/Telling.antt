@@ -10,8 +10,8 @@ use Rattle.vbr_at_table.specs.answers.Values.{ValueAt}
 use Rattle.vbr_at_table.specs.declared.held.Held.{Held}
 use Rattle.vbr_list.specs.calls.Pieces.{trace_in}
 use Rattle.vbr_list.specs.calls.Told.{given_call}
-use Rattle.vbr_list.specs.walks.Traversing.{LocatesFor}
-use Rattle.vbr_list.specs.walks.Walking.{LosesFound}
+use Rattle.vbr_list.specs.traversals.Traversing.{LocatesFor}
+use Rattle.vbr_list.specs.traversals.Searching.{LosesFound}
 use Rattle.vbr_list.specs.declared.call.PendingCall.{PendingCall}
 use Rattle.vbr_list.specs.declared.found.Found.{Found}
 

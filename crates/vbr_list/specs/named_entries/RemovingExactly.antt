@@ -10,7 +10,7 @@ use Rattle.vbr_at_table.specs.answers.Records.{MarksSlot}
 use Rattle.vbr_at_table.specs.costs.WithinBudget.{TookWithin}
 use Rattle.vbr_at_table.specs.declared.refusal.Refusal.{Refusal}
 use Rattle.vbr_list.specs.calls.CallBounds.{GivesAlone}
-use Rattle.vbr_list.specs.walks.Leaving.{BoundsOfRemove}
+use Rattle.vbr_list.specs.traversals.Leaving.{BoundsOfRemove}
 use Rattle.vbr_list.specs.calls.LoneReplies.{AnswersAlone}
 use Rattle.vbr_list.specs.named_entries.OtherEntries.{WasOther}
 use Rattle.vbr_list.specs.calls.Told.{given_call, given_in}

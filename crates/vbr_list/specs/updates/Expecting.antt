@@ -4,7 +4,7 @@ use Rattle.vbr_machine.specs.declared.history.Call.{Call}
 use Rattle.vbr_machine.specs.declared.history.Op.{Op}
 use Rattle.vbr_machine.specs.declared.history.Op.TheVariants.{Get, Remove}
 use Rattle.vbr_slots.specs.views.Views.{PassView, Trace}
-use Rattle.vbr_list.specs.walks.Leaving.{BoundsOfRemove}
+use Rattle.vbr_list.specs.traversals.Leaving.{BoundsOfRemove}
 use Rattle.vbr_list.specs.calls.CallBounds.{CallsEntry}
 use Rattle.vbr_list.specs.calls.Told.{given_call, given_in}
 use Rattle.vbr_list.specs.updates.Wanted.{wants}

@@ -12,17 +12,17 @@ use Rattle.vbr_at_table.specs.pools.Taking.{IsTaken}
 use Rattle.vbr_at_table.specs.answers.Values.{steps_to_update}
 use Rattle.vbr_at_table.specs.costs.WithinBudget.{TookWithin}
 use Rattle.vbr_list.specs.calls.Budgets.{enough_to_search, find_costs, listed_for}
-use Rattle.vbr_list.specs.walks.Disturbed.{costs_in_hand_among, disturbed, enough_in_hand_among}
+use Rattle.vbr_list.specs.traversals.Disturbed.{costs_in_hand_among, disturbed, enough_in_hand_among}
 use Rattle.vbr_list.specs.named_entries.OtherEntries.{ReplacedEntry, WasOther}
 use Rattle.vbr_list.specs.updates.Inserting.{HasHandAndRoom, RunsShort, SearchedFor, SearchesFor}
 use Rattle.vbr_list.specs.calls.LoneReplies.{AreAnsweredAlone}
 use Rattle.vbr_list.specs.calls.Pieces.{pass_in, trace_in}
-use Rattle.vbr_list.specs.walks.Leaving.{LeavesReplaced}
+use Rattle.vbr_list.specs.traversals.Leaving.{LeavesReplaced}
 use Rattle.vbr_list.specs.updates.Replacing.{ReplacesFoundEntry}
 use Rattle.vbr_list.specs.updates.Settling.{SearchesWith, SettlesIn, SettlesNone, StoredIn, StoresAndLeaves, had_node}
 use Rattle.vbr_list.specs.updates.Storing.{Makes, storing_calls}
 use Rattle.vbr_list.specs.calls.Told.{stored_in}
-use Rattle.vbr_list.specs.walks.Traversing.{LocatesFor}
+use Rattle.vbr_list.specs.traversals.Traversing.{LocatesFor}
 use Rattle.vbr_list.specs.declared.found.Found.{Found}
 use Rattle.vbr_list.specs.declared.call.PendingCall.{PendingCall}
 use Rattle.vbr_at_table.specs.declared.budget.TheConstants.{PIECE}

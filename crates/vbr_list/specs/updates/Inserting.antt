@@ -1,5 +1,5 @@
 -- An insert, piece by piece: it takes a slot once it has found the key absent, and then links it. A store takes one by the same piece. Only contracts of private functions cite this, and those of calls with a slot in hand.
-use Rattle.std.specs.Prelude.{◌≡◌, ℕ, ◌+◌, ◌<◌, ◌≤◌, Bool, true, false, length, Option, Some, None}
+use Rattle.std.specs.Prelude.{◌≡◌, ℕ, ◌+◌, ◌<◌, ◌≤◌, Bool, true, false, length, None}
 use Rattle.vbr_words.specs.Buckets.{bucket_of}
 use Rattle.vbr_words.specs.declared.nodes.Nodes.{Ghosts}
 use Rattle.vbr_machine.specs.Runs.{Begins}
@@ -17,12 +17,10 @@ use Rattle.vbr_at_table.specs.pools.Refusals.{HasNoSlot, IsSpent}
 use Rattle.vbr_at_table.specs.costs.WithinBudget.{CountsSteps}
 use Rattle.vbr_at_table.specs.declared.budget.TheConstants.{PIECE}
 use Rattle.vbr_list.specs.calls.Budgets.{LacksSteps}
-use Rattle.vbr_list.specs.walks.Disturbed.{steps_for_slot}
-use Rattle.vbr_list.specs.walks.Walking.{LosesFound, SearchesIn}
-use Rattle.vbr_list.specs.updates.Wanted.{WasWanted, WasWantedFor}
+use Rattle.vbr_list.specs.traversals.Searching.{LosesFound, SearchesIn}
+use Rattle.vbr_list.specs.updates.Wanted.{WasWanted}
 use Rattle.vbr_list.specs.declared.wanted.Wanted.{Wanted}
-use Rattle.vbr_list.specs.declared.wanted.Wanted.TheVariants.{Absent}
-use Rattle.vbr_list.specs.calls.Pieces.{IsSameCall, Replies, pass_in, trace_in}
+use Rattle.vbr_list.specs.calls.Pieces.{IsSameCall, pass_in, trace_in}
 use Rattle.vbr_list.specs.declared.call.PendingCall.{PendingCall}
 use Rattle.vbr_list.specs.declared.found.Found.{Found}
 use Rattle.vbr_at_table.specs.declared.refusal.Refusal.{Refusal}
@@ -70,11 +68,6 @@ InsertIsShort p q before budget (EpochSpent epoch) = ⊥
 abbrev pub denied : Bool → Op
 denied true = Insert
 denied false = Remove
-
--- the pass has answered an insert with no, and its hand is empty
-pub record AnswersNo {N : Type 0} {kind : Ghosts N} (c d : PendingCall N kind) : Type 0 where
-  pub made : Replies Insert c d false
-  pub spent : (pass_in d).hand ≡ None
 
 -- nothing was answered, and no call was made, as what was found is lost
 pub record AnswersNone {N : Type 0} {kind : Ghosts N} (c d : PendingCall N kind) (found : Found) : Type 0 where
@@ -128,24 +121,6 @@ SearchesInVain p q key before budget more (EpochSpent epoch) = Unit {0}
 -- it looked for a slot in the shared pool only where its own pool was empty, and the key had been there as it is wanted
 abbrev pub TriesFor : {N : Type 0} {kind : Ghosts N} → Wanted → PendingCall N kind → PendingCall N kind → Type 0
 TriesFor wanted c d = TriesOnlyWhere (WasWanted wanted (trace_in c) (trace_in d) c.key) (pass_in c) (pass_in d)
-
--- the pass has answered no, as the key was found present; or it has made no call, and has a slot in hand
-abbrev pub IsPrepared : {N : Type 0} {kind : Ghosts N} → PendingCall N kind → PendingCall N kind → Option HandView → Type 0
-IsPrepared c d None = AnswersNo c d
-IsPrepared c d (Some hand) = Quiet (trace_in c) (trace_in d) × HasHandAndRoom (pass_in d) hand
-
--- so it is, once it has come to the key and then taken a slot
-pub record PreparesHand {N : Type 0} {kind : Ghosts N} (c d : PendingCall N kind) (hand : Option HandView) : Type 0 where
-  pub is : IsPrepared c d hand
-  pub searched : SearchedFor (trace_in c) (trace_in d) c.key c.used d.used (steps_for_slot (pass_in c) (trace_in d) + 3)
-
--- it isn't; a budget with seven steps more has enough
-pub record PreparesNone {N : Type 0} {kind : Ghosts N} (c d : PendingCall N kind) (refusal : Refusal) : Type 0 where
-  pub quiet : Quiet (trace_in c) (trace_in d)
-  pub hand : (pass_in d).hand ≡ None
-  pub says : TakesNone (pass_in c) (pass_in d) c.used c.budget refusal
-  pub so : WasWantedFor Absent (trace_in c) (trace_in d) c.key refusal
-  pub searches : SearchesInVain (trace_in c) (trace_in d) c.key c.used c.budget (steps_for_slot (pass_in c) (trace_in d) + 10) refusal
 
 -- ---- the slot is linked
 

@@ -7,7 +7,7 @@ use Rattle.vbr_words.specs.declared.place.At.TheVariants.{Slot}
 use Rattle.vbr_words.specs.Buckets.{bucket_of}
 use Rattle.vbr_machine.specs.Disturbances.{IsOpenIn}
 use Rattle.vbr_machine.specs.Images.{link_shown_at}
-use Rattle.vbr_machine.specs.Membership.{HeldIn, KeyAt, StandsBehind}
+use Rattle.vbr_machine.specs.Membership.{KeyAt, StandsBehind}
 use Rattle.vbr_machine.specs.Removals.{IsTakenOut}
 use Rattle.vbr_machine.specs.Runs.{Begins}
 use Rattle.vbr_machine.specs.declared.event.Event.{Event}
@@ -20,22 +20,28 @@ use Rattle.vbr_at_table.specs.declared.held.Marked.{Marked}
 use Rattle.vbr_at_table.specs.declared.rollback.Rollback.{Rollback}
 use Rattle.vbr_list.specs.calls.Budgets.{steps_to_value_of}
 use Rattle.vbr_list.specs.updates.Expecting.{op_to_remove, takes_out}
-use Rattle.vbr_list.specs.walks.Helping.{MayHelp}
-use Rattle.vbr_list.specs.walks.Leaving.{Leaves, WasClear}
+use Rattle.vbr_list.specs.traversals.Helping.{MayHelp}
+use Rattle.vbr_list.specs.traversals.Leaving.{Leaves, LeavesAt, WasClear}
 use Rattle.vbr_list.specs.calls.Pieces.{MadeGiving, HasRoomForPiece, trace_in}
-use Rattle.vbr_list.specs.walks.Disturbed.{changed_after}
+use Rattle.vbr_list.specs.traversals.Disturbed.{changed_after}
 use Rattle.vbr_list.specs.named_entries.RemovingExactly.{MarkedSlot}
-use Rattle.vbr_list.specs.walks.Walking.{LosesFound, LosesPlace, WalksAgain, nodes_after}
+use Rattle.vbr_list.specs.traversals.Searching.{LosesFound, LosesPlace, TraversesAgain, nodes_after}
 use Rattle.vbr_list.specs.declared.call.PendingCall.{PendingCall}
 use Rattle.vbr_list.specs.declared.found.Found.{Found}
 
--- the node of the call's key is held by its marked link, taken out, behind a place before the key
+-- a node of the call's key is held by its marked link, behind a place before the key
 pub record IsMarkedFor {N : Type 0} {kind : Ghosts N} (c : PendingCall N kind) (pred : Held) (gone : Marked) : Type 0 where
   pub may : MayHelp (trace_in c) pred gone
   pub key : KeyAt (knows (trace_in c)) (Slot gone.slot) c.key
-  pub inside : HeldIn (knows (trace_in c)) pred.at (bucket_of (trace_in c).start.shape c.key)
   pub behind : StandsBehind (trace_in c).start (knows (trace_in c)) pred.at c.key
-  pub out : IsTakenOut (nodes (trace_in c)) (knows (trace_in c)).epoch gone.slot
+
+-- the node at this slot was taken out, and not replaced
+abbrev pub IsOut : {N : Type 0} {kind : Ghosts N} → PendingCall N kind → ℕ → Type 0
+IsOut c slot = IsTakenOut (nodes (trace_in c)) (knows (trace_in c)).epoch slot
+
+-- a removed node has left its list, if the budget has room for a piece more
+abbrev pub LeavesWithRoom : {N : Type 0} {kind : Ghosts N} → PendingCall N kind → PendingCall N kind → ℕ → Type 0
+LeavesWithRoom c d slot = HasRoomForPiece d → LeavesAt (trace_in c) (trace_in d) slot
 
 -- at a moment no marked node of the key was in a list, unless the budget has no room for one more piece
 abbrev pub Clears : {N : Type 0} {kind : Ghosts N} → PendingCall N kind → PendingCall N kind → Type 0
@@ -71,16 +77,17 @@ pub record SearchesOn (p q : Trace) (key before since : ℕ) (pred : Held) : Typ
   pub used : ℕ
   pub few : used ≤ before + 6
   pub then : Quiet ended q
-  pub walks : WalksAgain 9 ended q key used since
+  pub traverses : TraversesAgain 9 ended q key used since
 
--- the marked node is unlinked in as many, and so the key is clear
-pub record UnlinksSoon {N : Type 0} {kind : Ghosts N} (c d : PendingCall N kind) : Type 0 where
+-- the marked node is unlinked in as many, and so the key is clear, if it was taken out
+pub record UnlinksSoon {N : Type 0} {kind : Ghosts N} (c d : PendingCall N kind) (slot : ℕ) : Type 0 where
   pub few : d.used ≤ c.used + 6
-  pub clear : WasClear (trace_in c) (trace_in d) c.key
+  pub leaves : LeavesAt (trace_in c) (trace_in d) slot
+  pub clear : IsOut c slot → WasClear (trace_in c) (trace_in d) c.key
 
 -- so it is, or it is not unlinked, as the place before it is lost
-abbrev pub UnlinksOrSearches : {N : Type 0} {kind : Ghosts N} → PendingCall N kind → PendingCall N kind → Held → Type 0
-UnlinksOrSearches c d pred = UnlinksSoon c d ⊎ SearchesOn (trace_in c) (trace_in d) c.key c.used d.used pred
+abbrev pub UnlinksOrSearches : {N : Type 0} {kind : Ghosts N} → PendingCall N kind → PendingCall N kind → Held → ℕ → Type 0
+UnlinksOrSearches c d pred slot = UnlinksSoon c d slot ⊎ SearchesOn (trace_in c) (trace_in d) c.key c.used d.used pred
 
 -- a node was marked in so many steps at most, and not unlinked, as the place before it was lost since
 pub record MarksAndSearches (most : ℕ) (p q : Trace) (key before since : ℕ) (pred : Held) : Type 0 where

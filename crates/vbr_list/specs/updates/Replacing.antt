@@ -2,7 +2,6 @@
 use Rattle.std.specs.Prelude.{◌≡◌, ◌⊎◌, ℕ, ◌+◌, ◌<◌, ◌≤◌, true, Some, Result, Ok, Err}
 use Rattle.vbr_words.specs.declared.nodes.Nodes.{Ghosts}
 use Rattle.vbr_words.specs.declared.place.At.TheVariants.{Slot}
-use Rattle.vbr_machine.specs.Membership.{KeyAt, StandsBehind}
 use Rattle.vbr_machine.specs.Removals.{ReplacedAt}
 use Rattle.vbr_slots.specs.views.Views.{PassView, knows}
 use Rattle.vbr_at_table.specs.hands.Hands.{HandView}
@@ -12,10 +11,9 @@ use Rattle.vbr_at_table.specs.costs.WithinBudget.{CountsSteps}
 use Rattle.vbr_at_table.specs.declared.held.Held.{Held}
 use Rattle.vbr_at_table.specs.declared.held.Marked.{Marked}
 use Rattle.vbr_list.specs.named_entries.OtherEntries.{ReplacedEntry}
-use Rattle.vbr_list.specs.walks.Helping.{MayHelp}
-use Rattle.vbr_list.specs.walks.Leaving.{LeavesAt}
+use Rattle.vbr_list.specs.traversals.Leaving.{LeavesAt}
 use Rattle.vbr_list.specs.calls.Pieces.{HasRoomForPiece, IsSameCall, pass_in, trace_in}
-use Rattle.vbr_list.specs.updates.Removing.{MarksBehind, SearchesOn}
+use Rattle.vbr_list.specs.updates.Removing.{IsMarkedFor, MarksBehind, SearchesOn}
 use Rattle.vbr_list.specs.updates.Settling.{SettlesIn, Stores, StoresAndLeaves}
 use Rattle.vbr_list.specs.look_ups.Telling.{KnowsThere}
 use Rattle.vbr_list.specs.declared.call.PendingCall.{PendingCall}
@@ -33,12 +31,6 @@ pub record MayStoreNode {N : Type 0} {kind : Ghosts N} (c d : PendingCall N kind
   pub few : d.used ≤ c.used + 6
   pub takes_no_slot : TakesNoSlot (pass_in c) (pass_in d)
 
--- the old node is held by its marked link, behind a place before the key
-pub record IsOldNode {N : Type 0} {kind : Ghosts N} (c : PendingCall N kind) (pred : Held) (gone : Marked) : Type 0 where
-  pub may : MayHelp (trace_in c) pred gone
-  pub key : KeyAt (knows (trace_in c)) (Slot gone.slot) c.key
-  pub behind : StandsBehind (trace_in c).start (knows (trace_in c)) pred.at c.key
-
 -- the node that was found was an entry with this value right before it was replaced
 abbrev pub ReplacesFoundEntry : {N : Type 0} {kind : Ghosts N} → PendingCall N kind → PendingCall N kind → Found → ℕ → Type 0
 ReplacesFoundEntry c d found old = (node : Held) → found.cur ≡ Some node → (s : ℕ) → node.at ≡ Slot s →
@@ -47,7 +39,7 @@ ReplacesFoundEntry c d found old = (node : Held) → found.cur ≡ Some node →
 -- the key had the value that was read, and has this one; the old node is the one that was found and replaced, and the place before it shows what it showed before
 pub record ReplacesFound {N : Type 0} {kind : Ghosts N} (value : ℕ) (c d : PendingCall N kind) (found : Found) (gone : Marked) : Type 0 where
   pub stores : (old : ℕ) → KnowsThere c found (Some old) → Stores value c d (Some old)
-  pub old : IsOldNode d found.pred gone
+  pub old : IsMarkedFor d found.pred gone
   pub replaced : ReplacedAt (trace_in c).start (trace_in c).seen (trace_in d).seen (trace_in c).who (knows (trace_in d)).epoch gone.slot
   pub marks : MarksBehind (trace_in c) (trace_in d) c.key found.pred
   pub entry : (old : ℕ) → KnowsThere c found (Some old) → ReplacesFoundEntry c d found old
@@ -64,10 +56,6 @@ ReplacesAndLeaves value c d found = (old : ℕ) → KnowsThere c found (Some old
 -- and it is paid as a change of a node that was there
 abbrev pub ReplacesPaid : {N : Type 0} {kind : Ghosts N} → PendingCall N kind → PendingCall N kind → Found → Type 0
 ReplacesPaid c d found = SettlesIn 6 true c d found
-
--- a removed node has left its list, if the budget has room for a piece more
-abbrev pub LeavesWithRoom : {N : Type 0} {kind : Ghosts N} → PendingCall N kind → PendingCall N kind → ℕ → Type 0
-LeavesWithRoom c d slot = HasRoomForPiece d → LeavesAt (trace_in c) (trace_in d) slot
 
 -- the old node is unlinked in six steps at most, if the budget has room for a piece
 pub record UnlinksAtOnce {N : Type 0} {kind : Ghosts N} (c d : PendingCall N kind) (slot : ℕ) : Type 0 where

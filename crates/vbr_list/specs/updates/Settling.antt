@@ -1,5 +1,5 @@
--- The pieces of a store: it finds the key as it is wanted, takes a slot, and stores the value; or it answers a get. Only contracts of private functions cite this, and those of calls with a slot in hand.
-use Rattle.std.specs.Prelude.{◌≡◌, ◌⊎◌, ℕ, ◌+◌, ◌*◌, ◌<◌, ◌≤◌, Bool, true, false, not, Option, Some, None}
+-- The pieces of a store that has a slot in hand: it stores the value, or answers a get. Only contracts of private functions cite this, and those of calls with a slot in hand.
+use Rattle.std.specs.Prelude.{◌≡◌, ◌⊎◌, ℕ, ◌+◌, ◌*◌, ◌<◌, ◌≤◌, Bool, true, false, Option, Some, None}
 use Rattle.vbr_words.specs.declared.nodes.Nodes.{Ghosts}
 use Rattle.vbr_machine.specs.Runs.{Begins}
 use Rattle.vbr_slots.specs.steps.Calls.{Quiet}
@@ -8,119 +8,17 @@ use Rattle.vbr_at_table.specs.hands.Hands.{HandView}
 use Rattle.vbr_at_table.specs.hands.KeptSlots.{TakesNoSlot}
 use Rattle.vbr_at_table.specs.costs.WithinBudget.{CountsSteps}
 use Rattle.vbr_at_table.specs.declared.budget.TheConstants.{PIECE}
-use Rattle.vbr_list.specs.walks.Disturbed.{disturbed_after, steps_to_prepare}
-use Rattle.vbr_list.specs.updates.Inserting.{CountsWithin, GivesHandBack, HasHandAndRoom, InsertIsShort, SearchedFor, Searches, SearchesFor, SearchesInVain, TakesNone}
-use Rattle.vbr_list.specs.walks.Leaving.{LeavesReplaced}
-use Rattle.vbr_list.specs.calls.Pieces.{HasRoomForPiece, IsSameCall, KeepsHand, pass_in, trace_in}
+use Rattle.vbr_list.specs.traversals.Disturbed.{disturbed_after}
+use Rattle.vbr_list.specs.updates.Inserting.{GivesHandBack, HasHandAndRoom, InsertIsShort, Searches}
+use Rattle.vbr_list.specs.traversals.Leaving.{LeavesReplaced}
+use Rattle.vbr_list.specs.calls.Pieces.{HasRoomForPiece, IsSameCall, pass_in, trace_in}
 use Rattle.vbr_list.specs.updates.Removing.{MarksAndSearches}
 use Rattle.vbr_list.specs.updates.Storing.{Makes, replaced, stored_calls, storing_calls}
-use Rattle.vbr_list.specs.look_ups.Telling.{ReadsFound, TellsThere}
-use Rattle.vbr_list.specs.walks.Walking.{LosesFound, met_since}
-use Rattle.vbr_list.specs.updates.Wanted.{WasWanted, WasWantedFor, steps_to_compare, wants}
+use Rattle.vbr_list.specs.traversals.Searching.{met_since}
 use Rattle.vbr_list.specs.declared.call.PendingCall.{PendingCall}
 use Rattle.vbr_list.specs.declared.found.Found.{Found}
-use Rattle.vbr_list.specs.declared.storing.Met.{Met}
-use Rattle.vbr_list.specs.declared.storing.Met.TheVariants.{AsWanted, Otherwise}
-use Rattle.vbr_list.specs.declared.storing.Prepared.{Prepared}
-use Rattle.vbr_list.specs.declared.storing.Prepared.TheVariants.{Ready, Answered}
 use Rattle.vbr_list.specs.declared.wanted.Wanted.{Wanted}
-use Rattle.vbr_list.specs.declared.wanted.Wanted.TheVariants.{Absent, Present, Anything, Value}
 use Rattle.vbr_at_table.specs.declared.refusal.Refusal.{Refusal}
-
--- ---- without a slot in hand
-
--- whether a key is as it is wanted that is there, or isn't, whatever value it has
-abbrev pub has_wanted : Wanted → Bool → Bool
-has_wanted Absent present = not present
-has_wanted Present present = present
-has_wanted Anything present = true
-has_wanted (Value value) present = false
-
--- a piece that may answer a get: its steps are counted, three at most, and the slot in hand stays
-pub record Asks {N : Type 0} {kind : Ghosts N} (c d : PendingCall N kind) : Type 0 where
-  pub call : IsSameCall c d
-  pub counts : CountsSteps (trace_in c) (trace_in d) c.used d.used
-  pub hand : KeepsHand (pass_in c) (pass_in d)
-  pub more : c.used ≤ d.used
-  pub few : d.used ≤ c.used + 3
-
--- what was read is as it is wanted, and no call was made
-pub record ReadsWanted {N : Type 0} {kind : Ghosts N} (wanted : Wanted) (c d : PendingCall N kind) (found : Found) (there : Option ℕ) : Type 0 where
-  pub quiet : Quiet (trace_in c) (trace_in d)
-  pub reads : ReadsFound c d found there
-  pub is : wants wanted there ≡ true
-  pub few : d.used ≤ c.used + steps_to_compare wanted
-
--- a get was answered with what was there, which isn't as wanted
-pub record TellsOther {N : Type 0} {kind : Ghosts N} (wanted : Wanted) (c d : PendingCall N kind) (there : Option ℕ) : Type 0 where
-  pub told : TellsThere c d there
-  pub is_not : wants wanted there ≡ false
-
--- the one or the other
-abbrev pub AsksMet : {N : Type 0} {kind : Ghosts N} → Wanted → PendingCall N kind → PendingCall N kind → Found → Met → Type 0
-AsksMet wanted c d found AsWanted = (there : Option ℕ) × ReadsWanted wanted c d found there
-AsksMet wanted c d found (Otherwise there) = TellsOther wanted c d there
-
--- neither, in one step or more, as what was found is lost
-pub record AskLoses {N : Type 0} {kind : Ghosts N} (c d : PendingCall N kind) (found : Found) : Type 0 where
-  pub quiet : Quiet (trace_in c) (trace_in d)
-  pub loses : LosesFound (trace_in c) (trace_in d) found
-  pub more : c.used < d.used
-
--- searches that may answer a get: their steps are within the budget, and the slot in hand stays
-pub record Meeting {N : Type 0} {kind : Ghosts N} (c d : PendingCall N kind) : Type 0 where
-  pub call : IsSameCall c d
-  pub counts : CountsWithin (trace_in c) (trace_in d) c.used d.used c.budget
-  pub hand : KeepsHand (pass_in c) (pass_in d)
-
--- no call was made, and the key was found as it is wanted
-pub record MeetsWanted {N : Type 0} {kind : Ghosts N} (wanted : Wanted) (c d : PendingCall N kind) : Type 0 where
-  pub quiet : Quiet (trace_in c) (trace_in d)
-  pub was : WasWanted wanted (trace_in c) (trace_in d) c.key
-  pub searches : SearchesFor (trace_in c) (trace_in d) c.key c.used d.used (steps_to_compare wanted + 3)
-
--- a get was answered, as it was found otherwise
-pub record MeetsOther {N : Type 0} {kind : Ghosts N} (wanted : Wanted) (c d : PendingCall N kind) (there : Option ℕ) : Type 0 where
-  pub tells : TellsOther wanted c d there
-  pub searched : SearchedFor (trace_in c) (trace_in d) c.key c.used d.used 6
-
--- the one or the other
-abbrev pub IsMet : {N : Type 0} {kind : Ghosts N} → Wanted → PendingCall N kind → PendingCall N kind → Met → Type 0
-IsMet wanted c d AsWanted = MeetsWanted wanted c d
-IsMet wanted c d (Otherwise there) = MeetsOther wanted c d there
-
--- neither: the budget has no room for one more piece
-pub record MeetTires {N : Type 0} {kind : Ghosts N} (c d : PendingCall N kind) : Type 0 where
-  pub quiet : Quiet (trace_in c) (trace_in d)
-  pub short : c.budget < d.used + PIECE
-  pub searches : SearchesFor (trace_in c) (trace_in d) c.key c.used (c.budget + 1) 11
-
--- ---- a slot is taken
-
--- the pass has a slot in hand, and has made no call
-pub record HasPrepared {N : Type 0} {kind : Ghosts N} (wanted : Wanted) (c d : PendingCall N kind) (given : HandView) : Type 0 where
-  pub quiet : Quiet (trace_in c) (trace_in d)
-  pub hand : HasHandAndRoom (pass_in d) given
-  pub searched : SearchedFor (trace_in c) (trace_in d) c.key c.used d.used (steps_to_prepare wanted (pass_in c) (trace_in d) + 3)
-
--- it was answered without one
-pub record HasAnswered {N : Type 0} {kind : Ghosts N} (wanted : Wanted) (c d : PendingCall N kind) (there : Option ℕ) : Type 0 where
-  pub tells : TellsOther wanted c d there
-  pub spent : (pass_in d).hand ≡ None
-  pub searched : SearchedFor (trace_in c) (trace_in d) c.key c.used d.used (steps_to_prepare wanted (pass_in c) (trace_in d) + 3)
-
--- the one or the other
-abbrev pub IsPreparedStore : {N : Type 0} {kind : Ghosts N} → Wanted → PendingCall N kind → PendingCall N kind → Prepared → Type 0
-IsPreparedStore wanted c d (Ready hand) = HasPrepared wanted c d hand
-IsPreparedStore wanted c d (Answered there) = HasAnswered wanted c d there
-
--- neither; a budget with seven steps more has enough
-pub record PreparesNoStore {N : Type 0} {kind : Ghosts N} (wanted : Wanted) (c d : PendingCall N kind) (refusal : Refusal) : Type 0 where
-  pub quiet : Quiet (trace_in c) (trace_in d)
-  pub hand : (pass_in d).hand ≡ None
-  pub says : TakesNone (pass_in c) (pass_in d) c.used c.budget refusal
-  pub so : WasWantedFor wanted (trace_in c) (trace_in d) c.key refusal
-  pub searches : SearchesInVain (trace_in c) (trace_in d) c.key c.used c.budget (steps_to_prepare wanted (pass_in c) (trace_in d) + 10) refusal
 
 -- ---- the value is stored
 

@@ -12,8 +12,8 @@ use Rattle.vbr_at_table.specs.answers.Replacing.{MadeTwo}
 use Rattle.vbr_at_table.specs.costs.WithinBudget.{TookWithin}
 use Rattle.vbr_list.specs.calls.LoneReplies.{AreAnsweredAlone}
 use Rattle.vbr_list.specs.calls.Budgets.{IsAnsweredOrSpent, LacksSteps, enough_to_store, enough_to_store_with_a_slot, enough_to_unlist, listed_for, store_costs}
-use Rattle.vbr_list.specs.walks.Disturbed.{disturbed, enough_to_store_among, steps_to_prepare, store_costs_among}
-use Rattle.vbr_list.specs.walks.Leaving.{LeavesReplaced}
+use Rattle.vbr_list.specs.traversals.Disturbed.{disturbed, enough_to_store_among, steps_to_prepare, store_costs_among}
+use Rattle.vbr_list.specs.traversals.Leaving.{LeavesReplaced}
 use Rattle.vbr_list.specs.calls.Told.{given_call, stored_call}
 use Rattle.vbr_list.specs.updates.Wanted.{WasWanted, wants}
 use Rattle.vbr_list.specs.declared.wanted.Wanted.{Wanted}

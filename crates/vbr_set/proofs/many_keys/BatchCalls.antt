@@ -16,7 +16,7 @@ use Rattle.vbr_set.specs.calls.MapCalls.{GetsEntry}
 use Rattle.vbr_set.specs.calls.Members.{Called, MemberView}
 use Rattle.vbr_set.specs.progress.Progressing.{SeesRun, most_unanswered}
 use Rattle.vbr_list.specs.calls.Budgets.{listed_for}
-use Rattle.vbr_list.specs.walks.Disturbed.{enough_among}
+use Rattle.vbr_list.specs.traversals.Disturbed.{enough_among}
 use Rattle.vbr_machine.specs.declared.history.Op.TheVariants.{Has}
 use Rattle.vbr_set.proofs.progress.EnoughByShape.{shapes_tell}
 use Rattle.vbr_set.proofs.members.MembersCalls.{members_calls}

@@ -21,7 +21,7 @@ use Rattle.vbr_at_table.proofs.Lemmas.{none_on, none_refl}
 use Rattle.vbr_list.specs.look_ups.Cursors.{HasGiven, HasGivenAll, HasStayedOrMoved, IsAtEnd, IsPastKey, IsToCome}
 use Rattle.vbr_list.specs.look_ups.Cursors.{SeesMore}
 use Rattle.vbr_list.specs.look_ups.Cursors.{StopsShort, costs_over_among, first_cursor}
-use Rattle.vbr_list.specs.walks.Disturbed.{disturbed_in, enough_among}
+use Rattle.vbr_list.specs.traversals.Disturbed.{disturbed_in, enough_among}
 use Rattle.vbr_list.specs.calls.Budgets.{nodes_listed_in}
 use Rattle.vbr_list.specs.look_ups.Next.{enough_to_seek}
 use Rattle.vbr_list.specs.declared.cursor.Cursor.{Cursor}

@@ -23,9 +23,9 @@ use Rattle.vbr_at_table.specs.costs.StepKinds.{advances, is_advance}
 use Rattle.vbr_at_table.proofs.Lemmas.{did_none, stays_in_need}
 use Rattle.vbr_list.specs.look_ups.Cursors.{SeesMore}
 use Rattle.vbr_list.specs.calls.Budgets.{listed_for}
-use Rattle.vbr_list.specs.walks.Disturbed.{disturbed, disturbed_in, enough_among, enough_to_insert_among}
-use Rattle.vbr_list.specs.walks.Disturbed.{enough_to_search_among, enough_to_store_among, steps_for_slot}
-use Rattle.vbr_list.specs.walks.Disturbed.{steps_to_prepare}
+use Rattle.vbr_list.specs.traversals.Disturbed.{disturbed, disturbed_in, enough_among, enough_to_insert_among}
+use Rattle.vbr_list.specs.traversals.Disturbed.{enough_to_search_among, enough_to_store_among, steps_for_slot}
+use Rattle.vbr_list.specs.traversals.Disturbed.{steps_to_prepare}
 use Rattle.vbr_list.specs.declared.wanted.Wanted.{Wanted}
 use Rattle.vbr_at_table.specs.declared.refusal.Refusal.TheVariants.{OutOfSteps}
 use Rattle.vbr_at_table.specs.declared.refusal.Refusal.{Refusal}

@@ -10,7 +10,7 @@ use Rattle.vbr_slots.specs.views.Views.{PassView, Trace}
 use Rattle.vbr_list.specs.calls.Budgets.{nodes_listed_in, steps_to_value_of}
 use Rattle.vbr_list.specs.look_ups.Cursors.{IteratesEntries, IteratesKeys, StopsShort, costs_over_among}
 use Rattle.vbr_list.specs.look_ups.Cursors.{enough_to_come_among}
-use Rattle.vbr_list.specs.walks.Disturbed.{disturbed_in, most_disturbed}
+use Rattle.vbr_list.specs.traversals.Disturbed.{disturbed_in, most_disturbed}
 use Rattle.vbr_list.specs.declared.cursor.Cursor.{Cursor}
 use Rattle.vbr_list.proofs.Lemmas.{disturbed_most_in, enough_among_more, enough_to_come_more, few_to_value}
 use Rattle.vbr_at_table.specs.declared.refusal.Refusal.{Refusal}

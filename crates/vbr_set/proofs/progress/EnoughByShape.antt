@@ -11,7 +11,8 @@ use Rattle.vbr_slots.specs.declared.pass.TheConstants.{POOL}
 use Rattle.vbr_slots.specs.views.Views.{PassView}
 use Rattle.vbr_at_table.specs.costs.Budgets.{most_to_take_among}
 use Rattle.vbr_list.specs.calls.Budgets.{listed_for, nodes_listed_in}
-use Rattle.vbr_list.specs.walks.Disturbed.{enough_among, enough_to_insert_among, enough_to_search_among, steps_for_slot}
+use Rattle.vbr_list.specs.traversals.Disturbed.{enough_among, enough_to_insert_among, enough_to_search_among}
+use Rattle.vbr_list.specs.traversals.Disturbed.{steps_for_slot}
 use Rattle.vbr_set.specs.progress.Progressing.{FewUnanswered, ShapesTellEnough, most_unanswered}
 use Rattle.vbr_set.specs.progress.WalkProgress.{ShapesTellEnoughToWalk}
 

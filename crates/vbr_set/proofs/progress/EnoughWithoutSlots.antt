@@ -5,7 +5,7 @@ use Rattle.vbr_machine.specs.Start.{Start}
 use Rattle.vbr_slots.specs.views.Views.{PassView}
 use Rattle.vbr_at_table.specs.costs.Budgets.{most_to_take_among}
 use Rattle.vbr_list.specs.calls.Budgets.{listed_for}
-use Rattle.vbr_list.specs.walks.Disturbed.{enough_to_store_among}
+use Rattle.vbr_list.specs.traversals.Disturbed.{enough_to_store_among}
 use Rattle.vbr_list.specs.updates.Wanted.{steps_to_compare}
 use Rattle.vbr_set.specs.progress.Progressing.{most_unanswered}
 use Rattle.vbr_set.specs.progress.Winning.{ShapesTellWithoutSlots, known_steps_for_slot, known_steps_to_prepare}

@@ -15,8 +15,8 @@ use Rattle.vbr_at_table.specs.costs.Gained.{gained}
 use Rattle.vbr_at_table.proofs.Lemmas.{more_lost}
 use Rattle.vbr_list.specs.calls.Budgets.{listed_for}
 use Rattle.vbr_list.specs.look_ups.Cursors.{SeesMore}
-use Rattle.vbr_list.specs.walks.Disturbed.{enough_to_insert_among, enough_to_store_among, steps_for_slot}
-use Rattle.vbr_list.specs.walks.Disturbed.{steps_to_prepare}
+use Rattle.vbr_list.specs.traversals.Disturbed.{enough_to_insert_among, enough_to_store_among, steps_for_slot}
+use Rattle.vbr_list.specs.traversals.Disturbed.{steps_to_prepare}
 use Rattle.vbr_list.specs.declared.wanted.Wanted.{Wanted}
 use Rattle.vbr_set.specs.histories.Histories.{calls_of}
 use Rattle.vbr_set.specs.progress.Progressing.{AnotherIsAnswered, SeesRun, most_unanswered}

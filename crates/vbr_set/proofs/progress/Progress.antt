@@ -6,8 +6,8 @@ use Rattle.vbr_slots.specs.steps.PassLaw.{PassLaw}
 use Rattle.vbr_slots.specs.views.Views.{PassView}
 use Rattle.vbr_at_table.specs.declared.refusal.Refusal.{Refusal}
 use Rattle.vbr_list.specs.calls.Budgets.{LacksSteps}
-use Rattle.vbr_list.specs.walks.Disturbed.{disturbed, enough_among, enough_to_insert_among, enough_to_search_among}
-use Rattle.vbr_list.specs.walks.Disturbed.{enough_to_store_among, most_disturbed}
+use Rattle.vbr_list.specs.traversals.Disturbed.{disturbed, enough_among, enough_to_insert_among, enough_to_search_among}
+use Rattle.vbr_list.specs.traversals.Disturbed.{enough_to_store_among, most_disturbed}
 use Rattle.vbr_list.proofs.Lemmas.{disturbed_most, enough_among_more, enough_to_insert_more, enough_to_search_more}
 use Rattle.vbr_list.proofs.Lemmas.{enough_to_store_more, lacks_more}
 use Rattle.vbr_set.specs.Laws.{InsertsMakeProgress, LookUpsMakeProgress, MapsMakeProgress, RemovesMakeProgress}

@@ -25,7 +25,7 @@ use Rattle.vbr_at_table.specs.costs.Advances.{AdvancesWhereNeeded}
 use Rattle.vbr_at_table.specs.costs.StepKinds.{advances, is_advance}
 use Rattle.vbr_at_table.proofs.Lemmas.{did_none}
 use Rattle.vbr_list.specs.look_ups.Cursors.{SeesMore}
-use Rattle.vbr_list.specs.walks.Disturbed.{disturbed, disturbed_in}
+use Rattle.vbr_list.specs.traversals.Disturbed.{disturbed, disturbed_in}
 use Rattle.vbr_at_table.specs.declared.refusal.Refusal.{Refusal}
 use Rattle.vbr_list.proofs.Lemmas.{sees_on}
 use Rattle.vbr_set.specs.histories.Answers.{AnswersAll}

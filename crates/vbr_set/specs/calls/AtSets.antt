@@ -12,10 +12,11 @@ member_at c = as_member c.set.now c.pass.now
 abbrev pub caller_at : {N : Type 0} {kind : Ghosts N} → AtSet N kind → CallerView
 caller_at c = as_caller c.set.now c.pass.now
 
--- the pass as a call left it, as a member of the set, and as who makes a call
+-- the pass as a call left it, as a member of the set
 abbrev pub member_after : {N : Type 0} {kind : Ghosts N} → AtSet N kind → AtSet N kind → MemberView
 member_after c d = as_member c.set.now d.pass.now
 
+-- the pass as a call left it, as who makes the next call
 abbrev pub caller_after : {N : Type 0} {kind : Ghosts N} → AtSet N kind → AtSet N kind → CallerView
 caller_after c d = as_caller c.set.now d.pass.now
 

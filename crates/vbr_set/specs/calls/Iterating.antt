@@ -9,7 +9,7 @@ use Rattle.vbr_at_table.specs.Soundness.{HasSafeRun}
 use Rattle.vbr_at_table.specs.costs.WithinBudget.{TookWithin}
 use Rattle.vbr_list.specs.look_ups.Cursors.{HasGiven, HasGivenAll, IteratesEntries, IteratesKeys, IteratesNamedEntries, IteratesNamedKeys, IteratesWhere, SeesMore, StopsShort}
 use Rattle.vbr_list.specs.calls.Budgets.{nodes_listed_in}
-use Rattle.vbr_list.specs.walks.Disturbed.{disturbed_in, enough_among}
+use Rattle.vbr_list.specs.traversals.Disturbed.{disturbed_in, enough_among}
 use Rattle.vbr_list.specs.look_ups.Next.{enough_to_seek}
 use Rattle.vbr_list.specs.declared.cursor.Cursor.{Cursor}
 use Rattle.vbr_list.specs.declared.entries.Entry.{Entry}

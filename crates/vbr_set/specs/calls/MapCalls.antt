@@ -12,7 +12,7 @@ use Rattle.vbr_at_table.specs.hands.KeptSlots.{KeepsSlots}
 use Rattle.vbr_list.specs.updates.Expecting.{removal_call}
 use Rattle.vbr_list.specs.calls.CallBounds.{BoundsOfInsert, BoundsOfLookUp}
 use Rattle.vbr_list.specs.updates.Storing.{BoundsOfStore, stored_calls}
-use Rattle.vbr_list.specs.walks.Leaving.{BoundsOfRemove}
+use Rattle.vbr_list.specs.traversals.Leaving.{BoundsOfRemove}
 use Rattle.vbr_list.specs.calls.Told.{given_call, stored_call}
 use Rattle.vbr_list.specs.updates.Wanted.{wants}
 use Rattle.vbr_list.specs.declared.wanted.Wanted.{Wanted}

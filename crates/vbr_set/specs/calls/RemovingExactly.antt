@@ -5,7 +5,7 @@ use Rattle.vbr_machine.specs.declared.history.Call.{Call}
 use Rattle.vbr_machine.specs.declared.history.Op.TheVariants.{Remove}
 use Rattle.vbr_slots.specs.views.Views.{Trace}
 use Rattle.vbr_at_table.specs.declared.refusal.Refusal.{Refusal}
-use Rattle.vbr_list.specs.walks.Leaving.{BoundsOfRemove}
+use Rattle.vbr_list.specs.traversals.Leaving.{BoundsOfRemove}
 use Rattle.vbr_list.specs.named_entries.RemovingExactly.{TellsKeyTaken, TellsTaken}
 use Rattle.vbr_list.specs.calls.Told.{given_call}
 use Rattle.vbr_list.specs.declared.entries.Entry.{Entry}

@@ -8,7 +8,7 @@ use Rattle.vbr_slots.specs.steps.Calls.{IsSame}
 use Rattle.vbr_slots.specs.steps.PassLaw.{PassLaw}
 use Rattle.vbr_slots.specs.views.Views.{PassView, Trace, steps_in, steps_of}
 use Rattle.vbr_list.specs.calls.Budgets.{listed_for}
-use Rattle.vbr_list.specs.walks.Disturbed.{enough_among, enough_to_insert_among, enough_to_search_among, enough_to_store_among, steps_for_slot, steps_to_prepare}
+use Rattle.vbr_list.specs.traversals.Disturbed.{enough_among, enough_to_insert_among, enough_to_search_among, enough_to_store_among, steps_for_slot, steps_to_prepare}
 use Rattle.vbr_list.specs.updates.Expecting.{CallsRemoveIf}
 use Rattle.vbr_list.specs.calls.CallBounds.{Calls, CallsGet, CallsInsert, CallsRemove}
 use Rattle.vbr_list.specs.updates.Storing.{CallsStore}

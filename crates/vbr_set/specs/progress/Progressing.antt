@@ -21,7 +21,7 @@ use Rattle.vbr_at_table.specs.hands.KeptSlots.{TakesNoSlot}
 use Rattle.vbr_at_table.specs.pools.Reserving.{TakesFlags}
 use Rattle.vbr_list.specs.calls.Budgets.{listed_for}
 use Rattle.vbr_list.specs.look_ups.Cursors.{SeesMore}
-use Rattle.vbr_list.specs.walks.Disturbed.{disturbed, enough_among, enough_to_insert_among, enough_to_search_among, enough_to_store_among, steps_for_slot, steps_to_prepare}
+use Rattle.vbr_list.specs.traversals.Disturbed.{disturbed, enough_among, enough_to_insert_among, enough_to_search_among, enough_to_store_among, steps_for_slot, steps_to_prepare}
 use Rattle.vbr_list.specs.updates.Expecting.{CallsRemoveIf}
 use Rattle.vbr_list.specs.calls.CallBounds.{Calls, CallsGet, CallsInsert, CallsRemove}
 use Rattle.vbr_list.specs.updates.Storing.{CallsStore}

@@ -6,7 +6,7 @@ use Rattle.vbr_slots.specs.steps.PassLaw.{PassLaw}
 use Rattle.vbr_slots.specs.views.Views.{PassView, Trace}
 use Rattle.vbr_list.specs.calls.Budgets.{nodes_listed_in}
 use Rattle.vbr_list.specs.look_ups.Cursors.{IteratesKeys, enough_to_come_among}
-use Rattle.vbr_list.specs.walks.Disturbed.{enough_among, most_disturbed}
+use Rattle.vbr_list.specs.traversals.Disturbed.{enough_among, most_disturbed}
 use Rattle.vbr_list.specs.declared.cursor.Cursor.{Cursor}
 use Rattle.vbr_at_table.specs.declared.refusal.Refusal.{Refusal}
 use Rattle.vbr_set.specs.progress.Callers.{CallsOn, CallsOrRests, CallsThrough, MakesFew, SomebodyIsAnswered}

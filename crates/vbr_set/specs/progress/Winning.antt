@@ -19,7 +19,7 @@ use Rattle.vbr_at_table.specs.pools.Reserving.{TakesFlags}
 use Rattle.vbr_list.specs.calls.Budgets.{listed_for}
 use Rattle.vbr_list.specs.calls.CallBounds.{Calls, CallsInsert}
 use Rattle.vbr_list.specs.look_ups.Cursors.{SeesMore}
-use Rattle.vbr_list.specs.walks.Disturbed.{enough_to_insert_among, enough_to_store_among}
+use Rattle.vbr_list.specs.traversals.Disturbed.{enough_to_insert_among, enough_to_store_among}
 use Rattle.vbr_list.specs.updates.Storing.{CallsStore}
 use Rattle.vbr_list.specs.updates.Wanted.{steps_to_compare}
 use Rattle.vbr_list.specs.declared.wanted.Wanted.{Wanted}

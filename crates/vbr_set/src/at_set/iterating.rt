@@ -47,8 +47,8 @@ pub(crate) trait Gathered: Drop {
 
     // Takes in one more, and says whether there was memory for it.
     fn add(&mut self, key: u64, value: u64) -> bool
-        ensures added { (entries : List (ℕ × ℕ)) → of entries self.old → result ≡ true →
-            of (entries ++ (key, value) ∷ []) self.new }
+        ensures added { (entries : List (ℕ × ℕ)) → of entries self.old →
+            result ≡ true → of (entries ++ (key, value) ∷ []) self.new }
         ensures lacks { result ≡ false → MayLack };
 }
 

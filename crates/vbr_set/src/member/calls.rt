@@ -1,15 +1,12 @@
 //! The calls of a member.
 ghost use Rattle.std.specs.Prelude.{◌≡◌};
 ghost use Rattle.vbr_machine.specs.declared.history.Op.TheVariants.{Insert, Remove, Has};
-ghost use Rattle.vbr_set.specs.members.MemberView.{IsMember};
-ghost use Rattle.vbr_set.specs.members.Sharing.{CanComeBack, set_shared};
 ghost use Rattle.vbr_set.specs.calls.Members.{Called};
 ghost use Rattle.vbr_slots.specs.views.Views.{IsOf};
 
 use crate::at_set::at_set;
 use crate::member::Member;
 use crate::member::counting::one_if_yes;
-use crate::member::share::Share;
 use vbr_list::Refusal;
 use vbr_slots::Pass;
 use vbr_words::{Nodes, Shape};

@@ -4,7 +4,6 @@ ghost use Rattle.std.specs.List.Sorted.{IsStrictlyIncreasing};
 ghost use Rattle.vbr_slots.specs.steps.Calls.{made_by};
 ghost use Rattle.vbr_slots.specs.views.Views.{TableView, new_passes};
 ghost use Rattle.vbr_slots.specs.declared.opening.TheConstants.{MAX_MANY_PASSES};
-ghost use Rattle.vbr_set.specs.members.MemberView.{IsMember};
 ghost use Rattle.vbr_set.specs.members.Balances.{balance_of};
 ghost use Rattle.vbr_set.specs.calls.Members.{AreNew, as_member};
 ghost use Rattle.vbr_set.specs.members.Seats.{AreSeats};

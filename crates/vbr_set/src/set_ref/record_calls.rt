@@ -1,5 +1,4 @@
 //! The calls of a pass with a reference to its set or map, for a program that keeps a record beside each slot.
-ghost use Rattle.std.specs.Prelude.{◌≡◌};
 ghost use Rattle.vbr_set.specs.calls.RecordCalls.{AsksStill, FindsEntry, FindsKey};
 ghost use Rattle.vbr_set.specs.calls.RemovingExactly.{TakesExactly, TakesKeyExactly};
 

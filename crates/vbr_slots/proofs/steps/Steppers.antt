@@ -4,8 +4,6 @@ use Rattle.std.proofs.Common.{subst}
 use mathlib.Core.Logic.{dite}
 use native.Mathlib.Decide.{ℕ_discrete}
 use Rattle.vbr_words.specs.declared.link.Link.{Link}
-use Rattle.vbr_words.specs.declared.place.At.{At}
-use Rattle.vbr_words.specs.declared.place.At.TheVariants.{Head, Slot}
 use Rattle.vbr_machine.specs.Start.{Start, IsStart}
 use Rattle.vbr_machine.specs.Acceptance.{MayBear, IsInHand}
 use Rattle.vbr_machine.specs.Knowledge.{Know}
@@ -20,11 +18,10 @@ use Rattle.vbr_machine.specs.declared.knowledge.Holding.{Holding}
 use Rattle.vbr_machine.specs.declared.knowledge.Holding.TheVariants.{Unlinked, InHand}
 use Rattle.vbr_machine.proofs.Lemmas.{put_here, put_other}
 use Rattle.vbr_slots.specs.declared.stepper.Stepper.TheInside.{Inside}
-use Rattle.vbr_slots.specs.steps.LookUpStep.{look_up}
 use Rattle.vbr_slots.specs.pools.Pools.{OwnPool, HandFits}
-use Rattle.vbr_slots.specs.views.StepperView.{IsWell}
+use Rattle.vbr_slots.specs.views.StepperView.{IsWell, view_of}
 use Rattle.vbr_slots.specs.pools.Tried.{last_tried, tried_by}
-use Rattle.vbr_slots.specs.views.Views.{Trace, Did, knows}
+use Rattle.vbr_slots.specs.views.Views.{PassView, Trace, Did, knows}
 use Rattle.vbr_slots.proofs.pools.Passes.{pool_after}
 use Rattle.vbr_slots.proofs.steps.Tried.{keeps_tried}
 
@@ -152,10 +149,9 @@ load_leaves know (Replace s expected t) is = absurd (cc)
 load_leaves know (Unlink pred expected s) is = absurd (cc)
 load_leaves know _ is = tt
 
--- and so is the answer of a look-up
-pub look_up_leaves : (present : Bool) (key : ℕ) (place : At) (expected : ℕ) →
-    LeavesPools (look_up present key place expected)
-look_up_leaves true key (Head bucket) expected = tt
-look_up_leaves false key (Head bucket) expected = tt
-look_up_leaves true key (Slot slot) expected = tt
-look_up_leaves false key (Slot slot) expected = tt
+-- so a stepper that loads stays well
+pub load_well : {step : Step} {q : Trace} {r : ℕ} {v : PassView} (p : Inside) → view_of p ≡ v →
+    access_of (knows v.trace) step ≡ Load → Did step v.trace q r → IsWell p → IsWell (record p { runner = q })
+load_well {step} {q} {r} {v} p is load did well =
+    stays_well p (subst (λ (u : PassView). Did step u.trace q r) (sym is) did)
+    (load_leaves (knows v.trace) step load) well

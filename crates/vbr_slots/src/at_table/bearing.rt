@@ -11,6 +11,7 @@ ghost use Rattle.vbr_slots.specs.views.Views.{Did, KeepsPool, knows};
 ghost use Rattle.vbr_slots.specs.words.WideWords.{wide_at};
 
 use crate::at_table::AtTable;
+use std::marker::Brand;
 use vbr_machine::Step;
 use vbr_words::{At, Nodes, Place, decode};
 
@@ -32,7 +33,7 @@ impl<N: Nodes> AtTable<'_, N> {
         let birth = self.epoch();
         let (slots, stepper) = (self.slots, &mut *self.stepper);
         let step = Step::StoreBirth { slot, birth };
-        slots.store(&mut stepper.runner, step, Place::Birth(slot), birth);
+        slots.store::<Brand>(&mut stepper.runner, step, Place::Birth(slot), birth);
         stepper.hand = Some(slot);
     }
 
@@ -46,7 +47,7 @@ impl<N: Nodes> AtTable<'_, N> {
     {
         let (slots, stepper) = (self.slots, &mut *self.stepper);
         let step = Step::StoreKey { slot, key };
-        slots.store(&mut stepper.runner, step, Place::Key(slot), key);
+        slots.store::<Brand>(&mut stepper.runner, step, Place::Key(slot), key);
     }
 
     /// Stores the value of the incarnation in hand, in one step, where nodes have values.
@@ -60,7 +61,7 @@ impl<N: Nodes> AtTable<'_, N> {
     {
         let (slots, stepper) = (self.slots, &mut *self.stepper);
         let step = Step::StoreValue { slot, value };
-        slots.store(&mut stepper.runner, step, Place::Value(slot), value);
+        slots.store::<Brand>(&mut stepper.runner, step, Place::Value(slot), value);
     }
 
     /// Stores the link word of the incarnation in hand, in one step: unmarked, to none or to a held
@@ -82,6 +83,6 @@ impl<N: Nodes> AtTable<'_, N> {
         let (slots, stepper) = (self.slots, &mut *self.stepper);
         let next = decode(word, slots.layout()).slot;
         let step = Step::StoreLink { slot, next };
-        slots.store_at(&mut stepper.runner, step, At::Slot(slot), word);
+        slots.store_at::<Brand>(&mut stepper.runner, step, At::Slot(slot), word);
     }
 }

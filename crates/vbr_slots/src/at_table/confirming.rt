@@ -38,7 +38,7 @@ impl<N: Nodes> AtTable<'_, N> {
             slot,
             expected: wide(expected, slots.layout()),
         };
-        match slots.load_at(stepper, step, At::Slot(slot)) {
+        match slots.load_at::<Brand>(stepper, step, At::Slot(slot)) {
             found if found == expected => Ok(()),
             found => Err(found),
         }
@@ -69,7 +69,7 @@ impl<N: Nodes> AtTable<'_, N> {
             at: holder,
             expected: wide(expected, slots.layout()),
         };
-        match slots.load_at(stepper, step, holder) {
+        match slots.load_at::<Brand>(stepper, step, holder) {
             found if found == expected => Ok(()),
             found => Err(found),
         }
@@ -99,7 +99,7 @@ impl<N: Nodes> AtTable<'_, N> {
     {
         let (slots, stepper) = (self.slots, &mut *self.stepper);
         let step = step_of_look_up(present, key, holder, wide(expected, slots.layout()));
-        match slots.load_at_as::<Brand>(&mut stepper.runner, step, holder) {
+        match slots.load_at::<Brand>(stepper, step, holder) {
             found if found == expected => Ok(()),
             found => Err(found),
         }

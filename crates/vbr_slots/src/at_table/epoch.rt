@@ -6,6 +6,7 @@ ghost use Rattle.vbr_slots.specs.steps.Expected.{Finds, FindsOther};
 ghost use Rattle.vbr_slots.specs.views.Views.{Did, KeepsPool};
 
 use crate::at_table::AtTable;
+use std::marker::Brand;
 use vbr_machine::Step;
 use vbr_words::{Nodes, Place};
 
@@ -19,7 +20,7 @@ impl<N: Nodes> AtTable<'_, N> {
         ensures pool { KeepsPool (pass_of self.old) (pass_of self.new) }
     {
         let (slots, stepper) = (self.slots, &mut *self.stepper);
-        slots.load(stepper, Step::ReadEpoch, Place::Epoch)
+        slots.load::<Brand>(stepper, Step::ReadEpoch, Place::Epoch)
     }
 
     /// Advances the epoch by 1, if it is `from`, in one step, and says whether it was.
@@ -35,6 +36,6 @@ impl<N: Nodes> AtTable<'_, N> {
     {
         let (slots, stepper) = (self.slots, &mut *self.stepper);
         let step = Step::Advance { from };
-        slots.exchange(&mut stepper.runner, step, Place::Epoch, from, from + 1) == from
+        slots.exchange::<Brand>(&mut stepper.runner, step, Place::Epoch, from, from + 1) == from
     }
 }

@@ -9,6 +9,7 @@ ghost use Rattle.vbr_slots.specs.steps.Expected.{Finds, FindsOther, Publishes, R
 ghost use Rattle.vbr_slots.specs.words.WideWords.{wide_at};
 
 use crate::at_table::AtTable;
+use std::marker::Brand;
 use vbr_machine::Step;
 use vbr_words::{At, Nodes, wide, with_mark};
 
@@ -39,7 +40,7 @@ impl<N: Nodes> AtTable<'_, N> {
             slot,
         };
         let hand = stepper.hand.take();
-        let found = slots.exchange_at(&mut stepper.runner, step, pred, expected, new);
+        let found = slots.exchange_at::<Brand>(&mut stepper.runner, step, pred, expected, new);
         if found == expected {
             return Ok(());
         }
@@ -69,7 +70,7 @@ impl<N: Nodes> AtTable<'_, N> {
         };
         let holder = At::Slot(slot);
         let marked = with_mark(expected, slots.layout());
-        match slots.exchange_at(&mut stepper.runner, step, holder, expected, marked) {
+        match slots.exchange_at::<Brand>(&mut stepper.runner, step, holder, expected, marked) {
             found if found == expected => Ok(()),
             found => Err(found),
         }
@@ -103,7 +104,7 @@ impl<N: Nodes> AtTable<'_, N> {
         };
         let holder = At::Slot(slot);
         let kept = stepper.hand.take();
-        let found = slots.exchange_at(&mut stepper.runner, step, holder, expected, word);
+        let found = slots.exchange_at::<Brand>(&mut stepper.runner, step, holder, expected, word);
         if found == expected {
             return Ok(());
         }
@@ -136,7 +137,7 @@ impl<N: Nodes> AtTable<'_, N> {
             expected: wide(expected, slots.layout()),
             slot,
         };
-        match slots.exchange_at(&mut stepper.runner, step, pred, expected, new) {
+        match slots.exchange_at::<Brand>(&mut stepper.runner, step, pred, expected, new) {
             found if found == expected => Ok(()),
             found => Err(found),
         }

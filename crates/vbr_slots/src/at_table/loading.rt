@@ -9,6 +9,7 @@ ghost use Rattle.vbr_slots.specs.views.Views.{Did, KeepsPool, knows};
 ghost use Rattle.vbr_slots.specs.words.WideWords.{wide_at};
 
 use crate::at_table::AtTable;
+use std::marker::Brand;
 use vbr_machine::Step;
 use vbr_words::{At, Nodes, Place};
 
@@ -24,7 +25,7 @@ impl<N: Nodes> AtTable<'_, N> {
         ensures pool { KeepsPool (pass_of self.old) (pass_of self.new) }
     {
         let (slots, stepper) = (self.slots, &mut *self.stepper);
-        slots.load_at(stepper, Step::LoadLink { at: holder }, holder)
+        slots.load_at::<Brand>(stepper, Step::LoadLink { at: holder }, holder)
     }
 
     /// Loads the birth of a held slot, an epoch, in one step.
@@ -37,7 +38,7 @@ impl<N: Nodes> AtTable<'_, N> {
         ensures pool { KeepsPool (pass_of self.old) (pass_of self.new) }
     {
         let (slots, stepper) = (self.slots, &mut *self.stepper);
-        slots.load(stepper, Step::LoadBirth { slot }, Place::Birth(slot))
+        slots.load::<Brand>(stepper, Step::LoadBirth { slot }, Place::Birth(slot))
     }
 
     /// Loads the birth of a slot, whoever has it, in one step. The pass learns nothing by it: it tells which
@@ -50,7 +51,7 @@ impl<N: Nodes> AtTable<'_, N> {
         ensures pool { KeepsPool (pass_of self.old) (pass_of self.new) }
     {
         let (slots, stepper) = (self.slots, &mut *self.stepper);
-        slots.load(stepper, Step::PeekBirth { slot }, Place::Birth(slot))
+        slots.load::<Brand>(stepper, Step::PeekBirth { slot }, Place::Birth(slot))
     }
 
     /// Loads the key of a held slot, in one step.
@@ -63,7 +64,7 @@ impl<N: Nodes> AtTable<'_, N> {
         ensures pool { KeepsPool (pass_of self.old) (pass_of self.new) }
     {
         let (slots, stepper) = (self.slots, &mut *self.stepper);
-        slots.load(stepper, Step::LoadKey { slot }, Place::Key(slot))
+        slots.load::<Brand>(stepper, Step::LoadKey { slot }, Place::Key(slot))
     }
 
     /// Loads the value of a held slot, in one step, where nodes have values.
@@ -77,6 +78,6 @@ impl<N: Nodes> AtTable<'_, N> {
         ensures pool { KeepsPool (pass_of self.old) (pass_of self.new) }
     {
         let (slots, stepper) = (self.slots, &mut *self.stepper);
-        slots.load(stepper, Step::LoadValue { slot }, Place::Value(slot))
+        slots.load::<Brand>(stepper, Step::LoadValue { slot }, Place::Value(slot))
     }
 }

@@ -26,7 +26,7 @@ impl<N: Nodes> AtTable<'_, N> {
     {
         self.law();
         let (slots, stepper) = (self.slots, &mut *self.stepper);
-        slots.load(stepper, Step::LoadStamp { slot }, Place::Stamp(slot))
+        slots.load::<Brand>(stepper, Step::LoadStamp { slot }, Place::Stamp(slot))
     }
 
     /// Stamps a slot that the pass unlinked, in one step, with the last epoch that it read, which
@@ -43,7 +43,7 @@ impl<N: Nodes> AtTable<'_, N> {
         let stamp = self.epoch();
         let (slots, stepper) = (self.slots, &mut *self.stepper);
         let step = Step::StoreStamp { slot, stamp };
-        slots.store(&mut stepper.runner, step, Place::Stamp(slot), stamp);
+        slots.store::<Brand>(&mut stepper.runner, step, Place::Stamp(slot), stamp);
     }
 
     /// Puts a slot of the pass, free or in hand, into the shared pool, and takes it out of the pass's
@@ -93,7 +93,7 @@ impl<N: Nodes> AtTable<'_, N> {
     {
         let (slots, stepper) = (self.slots, &mut *self.stepper);
         let place = Place::Flags(word_of_flag(slot));
-        slots.fetch_or_as::<Brand>(
+        slots.fetch_or::<Brand>(
             &mut stepper.runner,
             Step::Raise { slot },
             place,
@@ -114,7 +114,7 @@ impl<N: Nodes> AtTable<'_, N> {
         let (slots, stepper) = (self.slots, &mut *self.stepper);
         let place = Place::Flags(word_of_flag(slot));
         let step = Step::TakeFlag { slot };
-        let found = slots.fetch_and_as::<Brand>(&mut stepper.runner, step, place, all_but(slot));
+        let found = slots.fetch_and::<Brand>(&mut stepper.runner, step, place, all_but(slot));
         stepper.tried = slot;
         if has_flag(found, slot) {
             return Ok(());

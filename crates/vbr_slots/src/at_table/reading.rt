@@ -10,6 +10,7 @@ ghost use Rattle.vbr_slots.specs.views.Views.{KeepsPool, knows};
 ghost use Rattle.vbr_slots.specs.words.WideWords.{wide_at};
 
 use crate::at_table::AtTable;
+use std::marker::Brand;
 use vbr_machine::Step;
 use vbr_words::{At, Nodes, Place};
 
@@ -82,7 +83,7 @@ impl<N: Nodes> AtTable<'_, N> {
     {
         let before = self.epoch();
         let (slots, stepper) = (self.slots, &mut *self.stepper);
-        let birth = slots.load(stepper, Step::LoadBirth { slot }, Place::Birth(slot));
+        let birth = slots.load::<Brand>(stepper, Step::LoadBirth { slot }, Place::Birth(slot));
         let holder = At::Slot(slot);
         let step = Step::LoadLink { at: holder };
         let (word, epoch) = slots.load_at_and_epoch(stepper, before, step, holder);

@@ -1,5 +1,5 @@
 // What a world starts with: its shape, and the keys that it opens with, with their values.
-ghost use Rattle.std.specs.Prelude.{◌≡◌, ◌<◌, ◌≤◌, ◌%◌, length, IfOk, if◌then◌else◌};
+ghost use Rattle.std.specs.Prelude.{◌≡◌, ◌<◌, ◌≤◌, length, IfOk};
 ghost use Rattle.std.specs.List.Sorted.{IsStrictlyIncreasing};
 ghost use Rattle.vbr_words.specs.Buckets.{bucket_of};
 ghost use Rattle.vbr_machine.specs.Machine.{shape_word};

@@ -1,7 +1,7 @@
 use Rattle.vbr_list.proofs.Names.{◌≡◌, ◌+◌, ◌-◌}
 use Rattle.vbr_list.specs.calls.Pieces.{IsSameCall, Peeks}
 use Rattle.vbr_list.specs.look_ups.LookUpPieces.{steps_to_answer}
-use Rattle.vbr_list.proofs.walks.Walking.{HasRepeated}
+use Rattle.vbr_list.proofs.traversals.Searching.{HasRepeated}
 use Rattle.vbr_list.proofs.entries.get_entry_by.Given as goal
 
 abbrev pub invariant-loop-sight : goal.invariant-loop-sight

@@ -3,12 +3,12 @@ use Rattle.vbr_list.proofs.Names.{At, behind_kept, counts_on, is_kept, IsUnlinke
 use Rattle.vbr_list.proofs.Names.{quiet_on, StandsBehind, Start, unchanged_by_none}
 use Rattle.vbr_at_table.specs.reads.Held.{said, said_marked, said_rollback}
 use Rattle.vbr_list.specs.calls.Pieces.{Goes}
-use Rattle.vbr_list.proofs.walks.Clearing.{clear_before, clear_skipped, out_kept}
-use Rattle.vbr_list.proofs.walks.Disturbing.{loses_place, moved_late, opened, run_at}
+use Rattle.vbr_list.proofs.traversals.Clearing.{clear_before, clear_skipped, out_kept}
+use Rattle.vbr_list.proofs.traversals.Disturbing.{loses_place, moved_late, opened, run_at}
 use Rattle.vbr_list.proofs.pieces.Going.{counts_step, took_same}
 use Rattle.vbr_list.proofs.pieces.KeptHands.{helped_hand, retired_hand}
-use Rattle.vbr_list.proofs.walks.Reaching.{helped, retired_keeps}
-use Rattle.vbr_list.proofs.walks.Sweeping.{left_skipped}
+use Rattle.vbr_list.proofs.traversals.Reaching.{helped, retired_keeps}
+use Rattle.vbr_list.proofs.traversals.Sweeping.{left_skipped}
 use Rattle.vbr_list.proofs.helping.unlink_and_retire.Goals as goal
 
 pub returns-in-Ok-clause-goes : goal.returns-in-Ok-clause-goes

@@ -3,21 +3,27 @@ use Rattle.vbr_list.proofs.Names.{arith}
 use Rattle.vbr_list.proofs.Names.{counts_on, had_back, had_on, Insert, none_back, none_on}
 use Rattle.vbr_list.proofs.Names.{steps_to_value, took_all, TookWithin, Trace}
 use Rattle.vbr_list.specs.calls.Budgets.{listed_for}
-use Rattle.vbr_list.specs.walks.Disturbed.{disturbed, insert_costs_among, steps_for_slot}
-use Rattle.vbr_list.proofs.walks.Disturbing.{run_at}
+use Rattle.vbr_list.specs.traversals.Disturbed.{disturbed, enough_to_insert_among, insert_costs_among, steps_for_slot}
+use Rattle.vbr_list.specs.traversals.Disturbed.{steps_to_prepare}
+use Rattle.vbr_list.proofs.traversals.Disturbing.{run_at}
 use Rattle.vbr_list.proofs.pieces.Going.{call_on}
 use Rattle.vbr_list.proofs.inserts.Inserts.{insert_linked, insert_unlinked, later, same_later}
 use Rattle.vbr_list.proofs.inserts.Preparing.{refused_first, within_all, within_most, within_same}
-use Rattle.vbr_list.proofs.inserts.Sufficing.{had_no_slot}
+use Rattle.vbr_list.proofs.inserts.Sufficing.{had_no_slot, lacks_more}
 use Rattle.vbr_list.proofs.pieces.Told.{call_answered, told_as, told_bare}
-use Rattle.vbr_list.proofs.walks.Walking.{once_paid, vain_lacks}
+use Rattle.vbr_list.proofs.traversals.Searching.{once_paid, vain_lacks}
 use Rattle.vbr_list.specs.updates.Inserting.{Links}
+use Rattle.vbr_list.specs.updates.Preparing.{HasAnswered, HasPrepared}
+use Rattle.vbr_list.specs.declared.wanted.Wanted.TheVariants.{Absent}
 use Rattle.vbr_list.specs.calls.Pieces.{pass_in}
 use Rattle.vbr_list.proofs.inserts.HeldInserts.{had_answered, held_answered}
 use Rattle.vbr_list.specs.updates.Holding.{answer_unpublished}
 use Rattle.vbr_list.proofs.inserting.insert_by.Goals as goal
 
 -- ---- before a slot is taken
+
+pub prepare-requires-clause-asked : goal.prepare-requires-clause-asked
+prepare-requires-clause-asked g c = record { values = λ gives. absurd (cc); absent = λ gives. refl }
 
 pub returns-in-Err-clause-calls : goal.returns-in-Err-clause-calls
 returns-in-Err-clause-calls g c =
@@ -26,9 +32,11 @@ returns-in-Err-clause-calls g c =
     let q = c.prepare.new.self.at.stepper.now in
     let refused = c.in-Err.ensures.refused in
     let within =
-    vain_lacks p.trace q.trace c.law.ensures.start
+    lacks_more _ (enough_to_insert_among (listed_for p.trace c.args.key) (disturbed p.trace q.trace c.args.key)
+    (steps_for_slot p q.trace)) c.args.budget c.in-Err.refusal (omega arith)
+    (vain_lacks p.trace q.trace c.law.ensures.start
     (run_at p.trace q.trace refused.quiet.same (refused.quiet.is_run c.law.ensures.is_run)) c.args.key c.args.budget
-    (steps_for_slot p q.trace) refused.quiet c.in-Err.refusal refused.searches in
+    (steps_to_prepare Absent p q.trace) refused.quiet c.in-Err.refusal refused.searches) in
     rw same (record {
       same = search rules;
       made = tt;
@@ -42,22 +50,24 @@ returns-in-Err-clause-calls g c =
           (had_no_slot p q 0 c.args.budget c.in-Err.refusal refused.says) tt;
     })
 
-pub returns-in-Ok-None-clause-calls : goal.returns-in-Ok-None-clause-calls
-returns-in-Ok-None-clause-calls g c =
+pub returns-in-Ok-Answered-clause-calls : goal.returns-in-Ok-Answered-clause-calls
+returns-in-Ok-Answered-clause-calls g c =
     let same : c.stepper-1.given.0 ≡ c.prepare.new.self.at.stepper.now = search rules in
     let p = c.args.stepper.now in
     let q = c.prepare.new.self.at.stepper.now in
-    let is = rw c.in-Ok-None.field-0-is at c.in-Ok-None.ensures.prepared.is in
-    let answers = is.made in
+    let there = c.in-Ok-Answered.field-0-0 in
+    let x : HasAnswered false Absent _ c.prepare.new.self there =
+    rw c.in-Ok-Answered.field-0-is at c.in-Ok-Answered.ensures.prepared in
+    let answers = x.tells.told in
     let paid = once_paid p.trace q.trace c.law.ensures.start (run_at p.trace q.trace answers.same answers.is_run)
-    c.args.key c.in-Ok-None.ensures.prepared.searched in
+    c.args.key x.searched in
     let costs : TookWithin p.trace q.trace
     (insert_costs_among (listed_for p.trace c.args.key) (disturbed p.trace q.trace c.args.key)
     (steps_for_slot p q.trace) (steps_to_value p.trace.start.shape.values)) =
     within_most c.prepare.ensures.prepares.counts (omega (arith, paid)) in
     let counts = c.prepare.ensures.prepares.counts in
     rw same (call_answered false c.law.ensures
-    (told_as (told_bare p.trace.start p.trace.who Insert c.args.key false) answers) is.spent counts.counts
+    (told_as (told_bare p.trace.start p.trace.who Insert c.args.key false) answers) x.spent counts.counts
     counts.within.1
     (insert_unlinked (Ok false) c.prepare.ensures.prepares c.prepare.ensures.tries c.prepare.ensures.prepares.had tt tt
     tt costs))
@@ -74,11 +84,12 @@ returns-in-Ok-clause-calls g c =
     let same : c.stepper-in-Ok-1.given.0 ≡ c.link_held.new.self.at.stepper.now = search rules in
     let x = c.link_held.ensures in
     let done = c.in-Ok.ensures.linked in
+    let ready : HasPrepared Absent _ c.prepare.new.self c.in-Ok-Ready.hand =
+    rw c.in-Ok-Ready.field-0-is at c.in-Ok-Ready.ensures.prepared in
     let links : Links c.prepare.new.self c.link_held.new.self =
     record { call = x.call; counts = x.counts; takes_no_slot = x.takes_no_slot; spent = done.spent } in
     rw same (insert_linked c.args.value (Ok true) c.law.ensures refl c.prepare.ensures.prepares c.prepare.ensures.tries
-    (rw c.in-Ok-Some.field-0-is at c.in-Ok-Some.ensures.prepared.is).0 c.in-Ok-Some.ensures.prepared.searched
-    links (rw c.in-Ok.is at x.had)
+    ready.quiet ready.searched links (rw c.in-Ok.is at x.had)
     (record { made = done.answers.made; searched = done.answers.searched }) tt)
 
 pub give_back-requires-clause-hand : goal.give_back-requires-clause-hand
@@ -113,7 +124,8 @@ returns-in-Err-link_held-clause-calls g c =
     let had = had_on b.at.stepper.now q (pass_in e) (rw c.in-Err-link_held.is at x.had)
     (had_back q (pass_in e) slot kept.has.is.slot back.pool) in
     let answered = held_answered b d e c.args.value (c.in-Err-link_held.back, why) kept back.trace refl in
-    let ready = rw c.in-Ok-Some.field-0-is at c.in-Ok-Some.ensures.prepared.is in
+    let ready : HasPrepared Absent _ c.prepare.new.self c.in-Ok-Ready.hand =
+    rw c.in-Ok-Ready.field-0-is at c.in-Ok-Ready.ensures.prepared in
     rw (same, c.answer.ensures) (insert_linked c.args.value (answer_unpublished why) c.law.ensures refl
-    c.prepare.ensures.prepares c.prepare.ensures.tries ready.0 c.in-Ok-Some.ensures.prepared.searched links
+    c.prepare.ensures.prepares c.prepare.ensures.tries ready.quiet ready.searched links
     (had_answered b.at.stepper.now (pass_in e) why had) answered.0 answered.1)

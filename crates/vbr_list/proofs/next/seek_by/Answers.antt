@@ -2,16 +2,16 @@ use Rattle.vbr_list.proofs.Names.{ℕ, ◌+◌, ◌*◌, ◌<◌, ◌≤◌, Res
 use Rattle.vbr_list.proofs.Names.{subst, arith, mul-le}
 use Rattle.vbr_list.proofs.Names.{begins_refl, IsAlone, OutOfSteps, PassLaw, PassView, Refusal, took_all, TookWithin}
 use Rattle.vbr_list.specs.calls.Budgets.{nodes_listed_in, steps_to_value_of}
-use Rattle.vbr_list.specs.walks.Disturbed.{disturbed_in, enough_among, seek_costs_among}
+use Rattle.vbr_list.specs.traversals.Disturbed.{disturbed_in, enough_among, seek_costs_among}
 use Rattle.vbr_list.specs.look_ups.Next.{Seeks, enough_to_seek, seek_costs}
 use Rattle.vbr_list.specs.calls.Refusals.{IsTired}
 use Rattle.vbr_list.specs.look_ups.Seeking.{Sought, steps_besides}
-use Rattle.vbr_list.specs.walks.Walking.{SearchesIn}
+use Rattle.vbr_list.specs.traversals.Searching.{SearchesIn}
 use Rattle.vbr_list.specs.declared.seeking.NextNode.{NextNode}
-use Rattle.vbr_list.proofs.walks.Disturbing.{run_at, undisturbed_in}
+use Rattle.vbr_list.proofs.traversals.Disturbing.{run_at, undisturbed_in}
 use Rattle.vbr_list.proofs.pieces.Going.{within_of}
 use Rattle.vbr_list.proofs.look_ups.ValueReads.{few_to_value}
-use Rattle.vbr_list.proofs.walks.Walking.{searched_in}
+use Rattle.vbr_list.proofs.traversals.Searching.{searched_in}
 use Rattle.vbr_list.proofs.next.seek_by.Goals as goal
 
 module _ {p q : PassView} (law : PassLaw p) {bucket from since budget : ℕ} where

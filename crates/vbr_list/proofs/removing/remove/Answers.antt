@@ -1,6 +1,6 @@
 use Rattle.vbr_list.proofs.Names.{ap, rules, sym, ◌∙◌, Bool, Result, subst, is_some}
 use Rattle.vbr_list.proofs.Names.{Refusal, Remove, Start}
-use Rattle.vbr_list.specs.walks.Leaving.{BoundsOfRemove}
+use Rattle.vbr_list.specs.traversals.Leaving.{BoundsOfRemove}
 use Rattle.vbr_list.specs.calls.CallBounds.{Calls, CallsAs}
 use Rattle.vbr_list.specs.calls.Told.{given_in}
 use Rattle.vbr_list.proofs.pieces.Told.{calls_yes, given_bare, remove_yes}

@@ -1,8 +1,8 @@
 use Rattle.vbr_list.proofs.Names.{rules, ◌∙◌, arith, ap, ◌≡◌}
 use Rattle.vbr_list.proofs.Names.{counts_on, quiet_on, Start, took_all}
 use Rattle.vbr_list.proofs.pieces.Going.{call_on, goes_on, tries_on, within_call}
-use Rattle.vbr_list.proofs.walks.Disturbing.{run_at}
-use Rattle.vbr_list.proofs.walks.Walking.{search_round_on}
+use Rattle.vbr_list.proofs.traversals.Disturbing.{run_at}
+use Rattle.vbr_list.proofs.traversals.Searching.{search_round_on}
 use Rattle.vbr_list.proofs.pieces.Tiring.{remove_tires}
 use Rattle.vbr_list.proofs.removes.AnsweredRemoves.{removed}
 use Rattle.vbr_list.specs.calls.Words.{wide_found}
@@ -65,7 +65,7 @@ returns-in_default-clause-calls g c =
     rw c.loop-found.invariant.2 at (within_call (call_on c.loop-found.invariant.0 c.reach.ensures.goes.call)) in
     rw same (remove_tires c.law.ensures c.args.key c.loop-found.invariant.3 c.reach.ensures.goes.goes within
     (rw (c.loop-found.invariant.0.budget ∙ c.loop-found.invariant.2) at tired.tired) (search rules)
-    c.loop-found.invariant.4 (rw key at tired.walks))
+    c.loop-found.invariant.4 (rw key at tired.traverses))
 
 pub returns-in-Ok-clause-calls : goal.returns-in-Ok-clause-calls
 returns-in-Ok-clause-calls g c =

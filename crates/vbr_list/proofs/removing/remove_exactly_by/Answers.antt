@@ -1,11 +1,11 @@
 use Rattle.vbr_list.proofs.Names.{rules, ◌∙◌, arith, ◌≡◌, sym, subst, None}
 use Rattle.vbr_list.proofs.Names.{counts_on, IsStart, quiet_on, took_all}
 use Rattle.vbr_list.proofs.pieces.Going.{call_on, goes_on, tries_on, within_call, within_of}
-use Rattle.vbr_list.proofs.walks.Disturbing.{run_at}
+use Rattle.vbr_list.proofs.traversals.Disturbing.{run_at}
 use Rattle.vbr_list.proofs.removes.AnsweredRemoves.{removed, removed_none}
 use Rattle.vbr_list.proofs.named_entries.RemovedEntries.{lacked_entry, lacked_since, marked_node, takes_exactly}
 use Rattle.vbr_list.proofs.named_entries.RemovedEntries.{tires_exactly}
-use Rattle.vbr_list.proofs.walks.Walking.{search_round_on}
+use Rattle.vbr_list.proofs.traversals.Searching.{search_round_on}
 use Rattle.vbr_list.proofs.pieces.Tiring.{remove_tires}
 use Rattle.vbr_list.proofs.pieces.WideWords.{node_bare, node_wide}
 use Rattle.vbr_list.specs.calls.Words.{wide_found}
@@ -64,7 +64,7 @@ returns-in_default-clause-removes g c =
     rw same (tires_exactly c.args.entry.now
     (remove_tires c.law.ensures c.args.key c.loop-found.invariant.3 c.reach.ensures.goes.goes within
     (rw (c.loop-found.invariant.0.budget ∙ c.loop-found.invariant.2) at tired.tired) (search rules)
-    c.loop-found.invariant.4 (rw key at tired.walks)))
+    c.loop-found.invariant.4 (rw key at tired.traverses)))
 
 pub returns-then-not-is_node_of-clause-removes : goal.returns-then-not-is_node_of-clause-removes
 returns-then-not-is_node_of-clause-removes g c =

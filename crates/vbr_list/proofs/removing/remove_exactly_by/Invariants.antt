@@ -1,6 +1,6 @@
 use Rattle.vbr_list.proofs.Names.{◌≡◌, ◌-◌}
 use Rattle.vbr_list.specs.calls.Pieces.{IsSameCall, Tries}
-use Rattle.vbr_list.proofs.walks.Walking.{HasRepeated}
+use Rattle.vbr_list.proofs.traversals.Searching.{HasRepeated}
 use Rattle.vbr_list.proofs.removing.remove_exactly_by.Given as goal
 
 abbrev pub invariant-loop-found : goal.invariant-loop-found

@@ -1,7 +1,7 @@
 use Rattle.vbr_list.proofs.Names.{ap, rules, ◌∙◌, Some}
 use Rattle.vbr_list.proofs.Names.{Start}
 use Rattle.vbr_list.specs.updates.Expecting.{op_to_remove, removal_in, takes_out}
-use Rattle.vbr_list.specs.walks.Leaving.{BoundsOfRemove}
+use Rattle.vbr_list.specs.traversals.Leaving.{BoundsOfRemove}
 use Rattle.vbr_list.specs.calls.CallBounds.{CallsAs}
 use Rattle.vbr_list.proofs.pieces.Told.{calls_as, calls_entry, given_kept}
 use Rattle.vbr_list.proofs.removing.remove_if.Goals as goal

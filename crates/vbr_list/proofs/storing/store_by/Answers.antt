@@ -1,11 +1,11 @@
-use Rattle.vbr_list.proofs.Names.{◌≡◌, List, Option, Err, ℕ, rules, sym, subst}
+use Rattle.vbr_list.proofs.Names.{◌≡◌, true, List, Option, Err, ℕ, rules, sym, subst}
 use Rattle.vbr_list.proofs.Names.{Call, took_all}
 use Rattle.vbr_list.specs.calls.Budgets.{listed_for}
-use Rattle.vbr_list.specs.walks.Disturbed.{steps_to_prepare}
-use Rattle.vbr_list.specs.updates.Settling.{HasAnswered, HasPrepared}
+use Rattle.vbr_list.specs.traversals.Disturbed.{steps_to_prepare}
+use Rattle.vbr_list.specs.updates.Preparing.{HasAnswered, HasPrepared}
 use Rattle.vbr_list.specs.updates.Storing.{Makes}
 use Rattle.vbr_list.specs.updates.Wanted.{steps_to_compare}
-use Rattle.vbr_list.proofs.walks.Disturbing.{run_at}
+use Rattle.vbr_list.proofs.traversals.Disturbing.{run_at}
 use Rattle.vbr_list.proofs.inserts.Preparing.{within_all, within_most, within_on}
 use Rattle.vbr_list.proofs.stores.Stores.{are_alone, replaced_not, store_lone, store_lone_costs, store_ready}
 use Rattle.vbr_list.proofs.stores.Stores.{store_refused_first, store_vain, told_had, told_paid, told_where}
@@ -13,19 +13,22 @@ use Rattle.vbr_list.proofs.stores.StoredValues.{calls_with}
 use Rattle.vbr_list.proofs.inserts.Sufficing.{had_no_slot}
 use Rattle.vbr_list.proofs.storing.store_by.Goals as goal
 
+pub prepare-requires-clause-asked : goal.prepare-requires-clause-asked
+prepare-requires-clause-asked c = record { values = λ gives. search rules; absent = λ gives. absurd (cc) }
+
 pub returns-in-Ok-Ready-clause-took : goal.returns-in-Ok-Ready-clause-took
 returns-in-Ok-Ready-clause-took c =
     let same : c.stepper-in-Ok-Ready-1.given.0 ≡ c.store_with.new.self.at.stepper.now = search rules in
-    let counts = rw c.prepare_store.ensures.prepares.call.budget at c.store_with.ensures.links.counts in
+    let counts = rw c.prepare.ensures.prepares.call.budget at c.store_with.ensures.links.counts in
     rw same (took_all
-    (within_on c.prepare_store.ensures.prepares.counts counts.counts counts.within.0 counts.within.1).counts)
+    (within_on c.prepare.ensures.prepares.counts counts.counts counts.within.0 counts.within.1).counts)
 
 pub returns-in-Err-clause-calls : goal.returns-in-Err-clause-calls
 returns-in-Err-clause-calls c =
-    let same : c.stepper-1.given.0 ≡ c.prepare_store.new.self.at.stepper.now = search rules in
+    let same : c.stepper-1.given.0 ≡ c.prepare.new.self.at.stepper.now = search rules in
     let p = c.args.stepper.now in
-    let q = c.prepare_store.new.self.at.stepper.now in
-    let prepares = c.prepare_store.ensures.prepares in
+    let q = c.prepare.new.self.at.stepper.now in
+    let prepares = c.prepare.ensures.prepares in
     let none = c.in-Err.ensures.refused in
     let refusal = c.in-Err.refusal in
     let wanted = c.args.wanted in
@@ -46,7 +49,7 @@ returns-in-Err-clause-calls c =
         advances = prepares.advances;
         had = prepares.had;
         shared = prepares.shared;
-        tries = c.prepare_store.ensures.tries;
+        tries = c.prepare.ensures.tries;
         wins = prepares.wins;
         refused = store_refused_first wanted p q c.args.key c.args.budget refusal none.says none.so;
         within = alone;
@@ -63,13 +66,13 @@ returns-in-Err-clause-calls c =
 
 pub returns-in-Ok-Answered-clause-calls : goal.returns-in-Ok-Answered-clause-calls
 returns-in-Ok-Answered-clause-calls c =
-    let same : c.stepper-in-Ok-Answered-1.given.0 ≡ c.prepare_store.new.self.at.stepper.now = search rules in
-    let prepares = c.prepare_store.ensures.prepares in
+    let same : c.stepper-in-Ok-Answered-1.given.0 ≡ c.prepare.new.self.at.stepper.now = search rules in
+    let prepares = c.prepare.ensures.prepares in
     let there = c.in-Ok-Answered.there in
-    let x : HasAnswered c.args.wanted _ c.prepare_store.new.self there =
+    let x : HasAnswered true c.args.wanted _ c.prepare.new.self there =
     rw c.in-Ok-Answered.field-0-is at c.in-Ok-Answered.ensures.prepared in
     let p = c.args.stepper.now in
-    let q = c.prepare_store.new.self.at.stepper.now in
+    let q = c.prepare.new.self.at.stepper.now in
     let wanted = c.args.wanted in
     let told = x.tells.told in
     let calls = told_where p.trace.who c.args.key c.args.value wanted there x.tells.is_not in
@@ -91,7 +94,7 @@ returns-in-Ok-Answered-clause-calls c =
         advances = prepares.advances;
         had = told_had wanted there p q x.tells.is_not prepares.had;
         shared = prepares.shared;
-        tries = c.prepare_store.ensures.tries;
+        tries = c.prepare.ensures.tries;
         wins = prepares.wins;
         refused = tt;
         within = tt;
@@ -107,12 +110,12 @@ returns-in-Ok-Answered-clause-calls c =
 pub returns-in-Ok-Ready-clause-calls : goal.returns-in-Ok-Ready-clause-calls
 returns-in-Ok-Ready-clause-calls c =
     let same : c.stepper-in-Ok-Ready-1.given.0 ≡ c.store_with.new.self.at.stepper.now = search rules in
-    let prepares = c.prepare_store.ensures.prepares in
-    let x : HasPrepared c.args.wanted _ c.prepare_store.new.self c.in-Ok-Ready.hand =
+    let prepares = c.prepare.ensures.prepares in
+    let x : HasPrepared c.args.wanted _ c.prepare.new.self c.in-Ok-Ready.hand =
     rw c.in-Ok-Ready.field-0-is at c.in-Ok-Ready.ensures.prepared in
-    rw same (calls_with c.args.stepper.now c.prepare_store.new.self c.store_with.new.self c.args.key c.args.value
+    rw same (calls_with c.args.stepper.now c.prepare.new.self c.store_with.new.self c.args.key c.args.value
     c.args.wanted c.args.budget c.law.ensures.start c.law.ensures.low c.law.ensures.is_run x.quiet prepares.advances
-    prepares.kept prepares.had prepares.shared c.prepare_store.ensures.tries prepares.wins prepares.counts
+    prepares.kept prepares.had prepares.shared c.prepare.ensures.tries prepares.wins prepares.counts
     prepares.call.key prepares.call.budget
     c.store_with.ensures.links x.searched c.store_with.result c.store_with.ensures.had c.store_with.ensures.answers
     c.store_with.ensures.refused c.store_with.ensures.paid)

@@ -2,9 +2,9 @@ use Rattle.vbr_list.proofs.Names.{ℕ, Ok, Err, IfOk, IfErr, Result}
 use Rattle.vbr_list.proofs.Names.{Held, IsFresh, IsHeadRead, PassView, reads_on, ReadsIn, Rollback, RollsBack}
 use Rattle.vbr_slots.specs.views.Views.{TableView}
 use Rattle.vbr_at_table.specs.reads.Held.{said}
-use Rattle.vbr_list.specs.walks.Visiting.{StartsAt, StartsNone}
-use Rattle.vbr_list.specs.walks.Walking.{Checks}
-use Rattle.vbr_list.proofs.walks.Disturbing.{moves_epoch}
+use Rattle.vbr_list.specs.traversals.Visiting.{StartsAt, StartsNone}
+use Rattle.vbr_list.specs.traversals.Searching.{Checks}
+use Rattle.vbr_list.proofs.traversals.Disturbing.{moves_epoch}
 use Rattle.vbr_list.proofs.visiting.start_at.Goals as goal
 
 module _ {p q r : PassView} {m n : ℕ} (x : ReadsIn p q m) (y : ReadsIn q r n) (fresh : IsFresh q.trace) where

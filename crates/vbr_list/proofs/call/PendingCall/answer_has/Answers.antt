@@ -1,8 +1,8 @@
 use Rattle.vbr_list.proofs.Names.{rules, refl, Bool, sym, subst, false}
 use Rattle.vbr_list.proofs.Names.{DecidesKey, Has, Held, IsUnmarked, knows, set_call}
 use Rattle.vbr_at_table.specs.answers.Answering.{IsAnswered}
-use Rattle.vbr_list.specs.walks.Walking.{LosesHeld}
-use Rattle.vbr_list.proofs.walks.Disturbing.{loses_link}
+use Rattle.vbr_list.specs.traversals.Searching.{LosesHeld}
+use Rattle.vbr_list.proofs.traversals.Disturbing.{loses_link}
 use Rattle.vbr_list.proofs.pieces.Going.{settles_step}
 use Rattle.vbr_list.proofs.look_ups.Sights.{answers_bare, sight_answers, sight_held, sight_unmarked}
 use Rattle.vbr_at_table.specs.reads.Held.{said_rollback}

@@ -1,8 +1,8 @@
 use Rattle.vbr_list.proofs.Names.{rules, false, Bool, subst, sym, IfOk}
 use Rattle.vbr_list.proofs.Names.{FindsAnother, knows, Made, set_call}
 use Rattle.vbr_list.specs.updates.Inserting.{denied}
-use Rattle.vbr_list.proofs.walks.LostAnswers.{unanswered_by_cur, unanswered_by_pred}
-use Rattle.vbr_list.proofs.walks.Moments.{key_found}
+use Rattle.vbr_list.proofs.traversals.LostAnswers.{unanswered_by_cur, unanswered_by_pred}
+use Rattle.vbr_list.proofs.traversals.Moments.{key_found}
 use Rattle.vbr_list.proofs.look_ups.Passing.{before_named}
 use Rattle.vbr_list.proofs.inserts.Sufficing.{each_error, on_ok}
 use Rattle.vbr_at_table.specs.reads.Held.{said_rollback}

@@ -2,7 +2,7 @@ use Rattle.vbr_list.proofs.Names.{rules, refl, subst, sym, false, None}
 use Rattle.vbr_list.proofs.Names.{Insert, Op, set_call}
 use Rattle.vbr_at_table.specs.answers.Answering.{IsAnswered}
 use Rattle.vbr_at_table.specs.answers.Values.{IsOtherIn}
-use Rattle.vbr_list.proofs.walks.Disturbing.{loses_link}
+use Rattle.vbr_list.proofs.traversals.Disturbing.{loses_link}
 use Rattle.vbr_list.proofs.pieces.Going.{settles_step}
 use Rattle.vbr_list.proofs.look_ups.Sights.{answers_bare, none_given, op_gets, op_other}
 use Rattle.vbr_at_table.specs.reads.Held.{said_rollback}

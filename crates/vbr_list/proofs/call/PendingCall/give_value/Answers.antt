@@ -4,8 +4,8 @@ use Rattle.vbr_list.proofs.Names.{Start}
 use Rattle.vbr_list.specs.calls.Told.{given_call, given_in}
 use Rattle.vbr_list.specs.calls.Budgets.{steps_to_value_of, steps_where}
 use Rattle.vbr_list.proofs.pieces.Going.{goes_counted}
-use Rattle.vbr_list.proofs.walks.Disturbing.{loses_later, loses_link, loses_value}
-use Rattle.vbr_list.proofs.walks.Reaching.{key_kept}
+use Rattle.vbr_list.proofs.traversals.Disturbing.{loses_later, loses_link, loses_value}
+use Rattle.vbr_list.proofs.traversals.Reaching.{key_kept}
 use Rattle.vbr_list.proofs.look_ups.Sights.{keyed_slot}
 use Rattle.vbr_list.proofs.inserts.Sufficing.{any_error}
 use Rattle.vbr_list.proofs.pieces.Told.{given_kept, told_since}

@@ -4,14 +4,14 @@ use Rattle.vbr_list.proofs.Names.{begins_refl, CountsSteps, Ghosts, had_spent, H
 use Rattle.vbr_list.proofs.Names.{steps_to_value}
 use Rattle.vbr_at_table.specs.answers.Exchanges.{StoresIn}
 use Rattle.vbr_list.specs.calls.Pieces.{IsSameCall, pass_in, trace_in}
-use Rattle.vbr_list.specs.walks.Places.{IsEnd}
+use Rattle.vbr_list.specs.traversals.Places.{IsEnd}
 use Rattle.vbr_list.specs.updates.Settling.{MaySettle}
 use Rattle.vbr_list.specs.declared.call.PendingCall.{PendingCall}
-use Rattle.vbr_list.proofs.walks.Disturbing.{lost_place}
+use Rattle.vbr_list.proofs.traversals.Disturbing.{lost_place}
 use Rattle.vbr_list.proofs.look_ups.FoundValues.{insert_told}
 use Rattle.vbr_list.proofs.pieces.Going.{counts_step, took_same}
 use Rattle.vbr_list.proofs.inserts.Linking.{succ_found}
-use Rattle.vbr_list.proofs.walks.Moments.{stands_before}
+use Rattle.vbr_list.proofs.traversals.Moments.{stands_before}
 use Rattle.vbr_list.proofs.stores.Stores.{had_same}
 use Rattle.vbr_at_table.specs.reads.Held.{said_succ}
 use Rattle.vbr_list.proofs.pieces.WideWords.{wide_lent}

@@ -3,7 +3,7 @@ use Rattle.vbr_list.proofs.Names.{inl}
 use Rattle.vbr_list.proofs.Names.{had_grown, had_on, had_spent, HandView, Insert, knows, Made, set_call, Start}
 use Rattle.vbr_list.proofs.Names.{steps_to_update}
 use Rattle.vbr_list.specs.updates.Inserting.{denied}
-use Rattle.vbr_list.proofs.walks.Disturbing.{lost_place}
+use Rattle.vbr_list.proofs.traversals.Disturbing.{lost_place}
 use Rattle.vbr_list.proofs.inserts.HeldInserts.{held_counts, held_denied, held_linked, held_none, held_tired}
 use Rattle.vbr_list.proofs.inserts.Inserts.{later, same_later}
 use Rattle.vbr_list.proofs.inserts.Linking.{counts_until, denied_then, gap_found, had_until, has_denied, has_until}

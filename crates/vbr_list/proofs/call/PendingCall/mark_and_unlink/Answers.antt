@@ -7,17 +7,17 @@ use Rattle.vbr_list.specs.calls.Pieces.{Goes}
 use Rattle.vbr_list.specs.calls.Told.{given_call}
 use Rattle.vbr_list.specs.updates.Removing.{RemovesLate, RemovesSoon}
 use Rattle.vbr_list.specs.calls.Budgets.{steps_to_value_of, steps_where}
-use Rattle.vbr_list.proofs.walks.Clearing.{leaves_clear}
-use Rattle.vbr_list.proofs.walks.Disturbing.{moves_epoch, moves_on, run_at}
+use Rattle.vbr_list.proofs.traversals.Clearing.{leaves_clear}
+use Rattle.vbr_list.proofs.traversals.Disturbing.{moves_epoch, moves_on, run_at}
 use Rattle.vbr_list.proofs.removes.Expected.{kept_expected, kept_gets, taken_removes, told_op}
 use Rattle.vbr_list.proofs.pieces.Going.{by_either, call_on, goes_counted}
 use Rattle.vbr_list.proofs.pieces.KeptHands.{hand_on}
 use Rattle.vbr_list.proofs.removes.Marks.{apart, marks_behind}
-use Rattle.vbr_list.proofs.walks.Moments.{cur_is, key_found, key_found_since}
+use Rattle.vbr_list.proofs.traversals.Moments.{cur_is, key_found, key_found_since}
 use Rattle.vbr_list.proofs.look_ups.FoundValues.{located_on, value_found}
 use Rattle.vbr_list.proofs.removes.Marking.{mark_made, mark_told, marked_found, pred_marked}
 use Rattle.vbr_list.proofs.look_ups.ReadFirst.{cur_lost_since, found_lost_since}
-use Rattle.vbr_list.proofs.walks.Reaching.{key_kept, slot_same}
+use Rattle.vbr_list.proofs.traversals.Reaching.{key_kept, slot_same}
 use Rattle.vbr_list.proofs.inserts.Sufficing.{any_error}
 use Rattle.vbr_list.proofs.pieces.Told.{given_kept, told_as, told_since}
 use Rattle.vbr_list.proofs.look_ups.ValueReads.{few_read, read_then_step, settles_read, slot_at, steps_read}
@@ -72,9 +72,7 @@ unlink_marked-requires-clause-marked g c = simp
         names = subst Q (slot_same c.in_ok-marked.marked.slot y.slot (removed.place ∙ y.place)) y.named;
       };
       key = subst P (sym removed.place) (key_kept c.in-Some.cur.at c.args.self.now.key mark.keeps there);
-      inside = pred.inside;
       behind = pred.behind;
-      out = removed.out;
     })
 
 pub returns-in_err-value-clause-settles : goal.returns-in_err-value-clause-settles
@@ -237,7 +235,7 @@ returns-then-affords-clause-answers g c =
           (λ soon. inl
           (record {
             few = let few = soon.few in omega (arith, few, steps);
-            leaves = λ yes room. leaves_clear c.law.ensures.start told then.same soon.clear;
+            leaves = λ yes room. leaves_clear c.law.ensures.start told then.same (soon.clear removed.out);
           }))
           (λ on. inr (record {
             taken = sym c.takes_out.ensures ∙ c.if-not-takes_out.false;
@@ -255,7 +253,8 @@ returns-then-affords-clause-answers g c =
               searches = on;
             };
           }));
-      unlists = λ yes room. leaves_clear c.law.ensures.start told then.same (c.unlink_marked.ensures.clear room);
+      unlists = λ yes room. leaves_clear c.law.ensures.start told then.same
+          (c.unlink_marked.ensures.clear removed.out room);
     }
 
 pub returns-else-affords-clause-settles : goal.returns-else-affords-clause-settles

@@ -1,27 +1,30 @@
 use Rattle.vbr_list.proofs.Names.{◌≡◌, ◌+◌, true, sym, ap, ◌∙◌, subst, arith, ◌<◌}
 use Rattle.vbr_list.proofs.Names.{counts_none, Ghosts, PassLaw, PIECE, quiet_on, quiet_refl, Start}
 use Rattle.vbr_list.specs.calls.Pieces.{GoesOn, pass_in, trace_in}
-use Rattle.vbr_list.specs.updates.Settling.{MeetTires, Meeting, has_wanted}
-use Rattle.vbr_list.specs.walks.Walking.{WalksAgain}
+use Rattle.vbr_list.specs.updates.Preparing.{MeetTires, Meeting, has_wanted}
+use Rattle.vbr_list.specs.traversals.Searching.{TraversesAgain}
 use Rattle.vbr_list.specs.updates.Wanted.{WasWanted, steps_to_compare}
 use Rattle.vbr_list.specs.declared.call.PendingCall.{PendingCall}
 use Rattle.vbr_list.specs.declared.wanted.Wanted.{Wanted}
-use Rattle.vbr_list.proofs.look_ups.FoundValues.{tells_since}
+use Rattle.vbr_list.proofs.look_ups.FoundValues.{otherwise_since}
 use Rattle.vbr_list.proofs.pieces.Going.{call_on, call_refl, within_call}
 use Rattle.vbr_list.proofs.pieces.KeptHands.{hand_on, hand_refl}
 use Rattle.vbr_list.proofs.inserts.Linking.{located}
-use Rattle.vbr_list.proofs.walks.LostWalks.{found_in, HasSearched, searched_for, searched_more, searched_on}
-use Rattle.vbr_list.proofs.walks.LostWalks.{searched_until}
-use Rattle.vbr_list.proofs.walks.LostWalks.{short_of, so_in}
+use Rattle.vbr_list.proofs.traversals.LostTraversals.{found_in, HasSearched, searched_for, searched_more, searched_on}
+use Rattle.vbr_list.proofs.traversals.LostTraversals.{searched_until}
+use Rattle.vbr_list.proofs.traversals.LostTraversals.{short_of, so_in}
 use Rattle.vbr_list.proofs.inserts.Preparing.{steps_gone, within_on}
 use Rattle.vbr_list.proofs.stores.Wants.{met_as, was_compared, was_plain}
 use Rattle.vbr_list.specs.calls.Words.{wide_found}
 use Rattle.vbr_list.proofs.call.PendingCall.meet.Goals as goal
 
-pub ask-requires-clause-values : goal.ask-requires-clause-values
-ask-requires-clause-values g c =
-    ap (λ (d : Start). d.shape.values)
-    (quiet_on c.loop-found.invariant.1.goes.quiet c.search.ensures.goes.goes.quiet).same.start ∙ c.requires.values
+pub ask-requires-clause-asked : goal.ask-requires-clause-asked
+ask-requires-clause-asked g c =
+    let same = quiet_on c.loop-found.invariant.1.goes.quiet c.search.ensures.goes.goes.quiet in
+    record {
+      values = λ gives. ap (λ (d : Start). d.shape.values) same.same.start ∙ c.requires.asked.values gives;
+      absent = c.requires.asked.absent;
+    }
 
 pub ask-requires-clause-locates : goal.ask-requires-clause-locates
 ask-requires-clause-locates g c = simp c.search.ensures.goes.call.at.slots
@@ -101,24 +104,25 @@ returns-in-Ok-clause-meets g c =
 
 -- the budget had no room for one more piece
 meets_short : {N : Type 0} {kind : Ghosts N} {b c d : PendingCall N kind} → PassLaw (pass_in b) → HasSearched b c →
-    GoesOn c d → WalksAgain 9 (trace_in c) (trace_in d) c.key c.used d.used → b.budget < d.used + PIECE → MeetTires b d
-meets_short {b = b} law so went walks short =
+    GoesOn c d → TraversesAgain 9 (trace_in c) (trace_in d) c.key c.used d.used → b.budget < d.used + PIECE →
+    MeetTires b d
+meets_short {b = b} law so went traverses short =
     record {
       quiet = (searched_on law so went).goes.quiet;
       short = short;
-      searches = searched_for law so went walks (b.budget + 1) 8 11 (omega (arith, short)) (omega arith);
+      searches = searched_for law so went traverses (b.budget + 1) 8 11 (omega (arith, short)) (omega arith);
     }
 
 pub returns-in_default-search-clause-tired : goal.returns-in_default-search-clause-tired
 returns-in_default-search-clause-tired g c =
     let tired = c.in_default-search.ensures.tired in
-    meets_short c.law.ensures c.loop-found.invariant c.search.ensures.goes tired.walks
+    meets_short c.law.ensures c.loop-found.invariant c.search.ensures.goes tired.traverses
     (rw c.loop-found.invariant.0.budget at tired.tired)
 
 pub returns-then-not-affords-clause-tired : goal.returns-then-not-affords-clause-tired
 returns-then-not-affords-clause-tired g c =
     let gone = searched_on c.law.ensures c.loop-found.invariant c.search.ensures.goes in
-    meets_short c.law.ensures c.loop-found.invariant c.search.ensures.goes c.in-Some.ensures.found.walks
+    meets_short c.law.ensures c.loop-found.invariant c.search.ensures.goes c.in-Some.ensures.found.traverses
     (short_of gone.call c.affords.result c.if-not-affords.true c.affords.ensures.1)
 
 pub returns-then-has_wanted-clause-met : goal.returns-then-has_wanted-clause-met
@@ -133,7 +137,8 @@ returns-then-has_wanted-clause-met g c =
     record {
       quiet = gone.goes.quiet;
       was = was_plain p m c.args.self.now.key c.args.wanted c.in-Some.found.present is so;
-      searches = searched_for c.law.ensures c.loop-found.invariant c.search.ensures.goes c.in-Some.ensures.found.walks
+      searches = searched_for c.law.ensures c.loop-found.invariant c.search.ensures.goes
+          c.in-Some.ensures.found.traverses
           c.search.new.self.used 0 (steps_to_compare c.args.wanted + 3) (omega arith) (omega arith);
     }
 
@@ -150,26 +155,31 @@ returns-in-Ok-clause-met g c =
     let found = wide_found c.loop-found.self c.in-Some.found in
     let few = c.ask.ensures.asks.few in
     let there = found_in c.law.ensures c.loop-found.invariant c.search.ensures.goes found c.in-Some.ensures.found in
-    met_as b d e wanted found c.in-Ok.met
+    met_as c.args.gives b d e wanted found c.in-Ok.met
     (λ value x.
     let whole = quiet_on gone.goes.quiet x.quiet in
     let compared = x.few in
+    let values = ap (λ (d : Start). d.shape.values) (sym whole.same.start) ∙ x.reads.known.values in
     record {
       quiet = whole;
-      was = was_compared b.key found wanted value c.law.ensures.start whole.same x.quiet x.reads.keeps c.requires.values
+      was = was_compared b.key found wanted value c.law.ensures.start whole.same x.quiet x.reads.keeps values
           there (sym c.has_wanted.ensures ∙ c.if-has_wanted.false) x.is x.reads.known.is;
       searches = searched_until c.law.ensures gone x.quiet (steps_to_compare wanted + 3) (omega arith)
-          (searched_for c.law.ensures c.loop-found.invariant c.search.ensures.goes c.in-Some.ensures.found.walks e.used
+          (searched_for c.law.ensures c.loop-found.invariant c.search.ensures.goes c.in-Some.ensures.found.traverses
+          e.used
           (steps_to_compare wanted) (steps_to_compare wanted + 3) compared (omega arith));
     })
     (λ value x. record {
-      tells = record { told = tells_since b d e value gone.call.key gone.goes.quiet x.told; is_not = x.is_not };
+      tells = record {
+        told = otherwise_since c.args.gives b d e value gone.call.key gone.goes.quiet x.told;
+        is_not = x.is_not;
+      };
       searched = record {
         ended = m;
         quiet = gone.goes.quiet;
         to = x.told.seen;
         searches = searched_for c.law.ensures c.loop-found.invariant c.search.ensures.goes
-            c.in-Some.ensures.found.walks e.used 3 6 few (omega arith);
+            c.in-Some.ensures.found.traverses e.used 3 6 few (omega arith);
       };
     })
     (simp c.search.ensures.goes.call.at.slots at c.in-Ok.ensures.met)

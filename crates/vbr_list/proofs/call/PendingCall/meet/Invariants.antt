@@ -1,5 +1,5 @@
 use Rattle.vbr_list.proofs.Names.{◌-◌}
-use Rattle.vbr_list.proofs.walks.LostWalks.{HasSearched}
+use Rattle.vbr_list.proofs.traversals.LostTraversals.{HasSearched}
 use Rattle.vbr_list.proofs.call.PendingCall.meet.Given as goal
 
 abbrev pub invariant-loop-found : goal.invariant-loop-found

@@ -10,5 +10,5 @@ returns-then-not-affords-clause-tired g c =
     c.affords.ensures.1 in
     record {
       tired = omega (arith, short, budget);
-      walks = found.walks;
+      traverses = found.traverses;
     }

@@ -1,6 +1,6 @@
 use Rattle.vbr_list.proofs.Names.{ap, ◌∙◌, inl}
 use Rattle.vbr_list.proofs.Names.{Start}
-use Rattle.vbr_list.proofs.walks.Disturbing.{moves_epoch, moves_on}
+use Rattle.vbr_list.proofs.traversals.Disturbing.{moves_epoch, moves_on}
 use Rattle.vbr_list.proofs.look_ups.FoundValues.{located_on, value_found}
 use Rattle.vbr_list.proofs.pieces.WideWords.{wide_is}
 use Rattle.vbr_list.specs.calls.Words.{wide_found, wide_held}

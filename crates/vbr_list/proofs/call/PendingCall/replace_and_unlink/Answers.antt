@@ -4,7 +4,7 @@ use Rattle.vbr_list.specs.updates.Removing.{SearchesOn}
 use Rattle.vbr_list.specs.updates.Replacing.{UnlinksAtOnce}
 use Rattle.vbr_list.proofs.pieces.Going.{call_on}
 use Rattle.vbr_list.proofs.stores.Stores.{all_but_then}
-use Rattle.vbr_list.proofs.walks.Sweeping.{leaves_replaced}
+use Rattle.vbr_list.proofs.traversals.Sweeping.{leaves_replaced}
 use Rattle.vbr_list.specs.calls.Words.{wide_held}
 use Rattle.vbr_list.proofs.call.PendingCall.replace_and_unlink.Goals as goal
 

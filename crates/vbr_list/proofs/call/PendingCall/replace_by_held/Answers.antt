@@ -6,7 +6,7 @@ use Rattle.vbr_list.proofs.Names.{Quiet, quiet_on, Remove, Slot, Start, two_befo
 use Rattle.vbr_at_table.specs.answers.Records.{PublishesSlot}
 use Rattle.vbr_at_table.specs.declared.held.Marked.{Marked}
 use Rattle.vbr_list.specs.named_entries.OtherEntries.{ReplacedEntry}
-use Rattle.vbr_list.specs.walks.Leaving.{LeavesReplaced}
+use Rattle.vbr_list.specs.traversals.Leaving.{LeavesReplaced}
 use Rattle.vbr_list.specs.calls.Pieces.{trace_in}
 use Rattle.vbr_list.specs.updates.Removing.{SearchesOn}
 use Rattle.vbr_list.specs.updates.Replacing.{MayStoreNode, ReplacesFound, UnlinksAtOnce, UnlinksReplaced}
@@ -22,7 +22,7 @@ use Rattle.vbr_list.proofs.look_ups.ReadFirst.{found_lost_since}
 use Rattle.vbr_list.proofs.named_entries.ReplacedEntries.{entry_since}
 use Rattle.vbr_list.proofs.stores.Settled.{settles_after, settles_since}
 use Rattle.vbr_list.proofs.stores.Stores.{all_but_then, two_since, unless_since}
-use Rattle.vbr_list.proofs.walks.Sweeping.{leaves_replaced, leaves_replaced_since}
+use Rattle.vbr_list.proofs.traversals.Sweeping.{leaves_replaced, leaves_replaced_since}
 use Rattle.vbr_list.specs.calls.Words.{wide_found, wide_marked}
 use Rattle.vbr_list.proofs.call.PendingCall.replace_by_held.Goals as goal
 

@@ -12,11 +12,11 @@ use Rattle.vbr_at_table.specs.declared.held.Held.{Held}
 use Rattle.vbr_list.specs.calls.Pieces.{IsSameCall, pass_in, trace_in}
 use Rattle.vbr_list.specs.updates.Replacing.{MayStoreNode}
 use Rattle.vbr_list.specs.declared.call.PendingCall.{PendingCall}
-use Rattle.vbr_list.proofs.walks.Disturbing.{moves_epoch, moves_on, run_at}
+use Rattle.vbr_list.proofs.traversals.Disturbing.{moves_epoch, moves_on, run_at}
 use Rattle.vbr_list.proofs.look_ups.FoundValues.{some_birth, two_told}
 use Rattle.vbr_list.proofs.removes.Marks.{apart, marks_behind}
-use Rattle.vbr_list.proofs.walks.Moments.{cur_is, key_found}
-use Rattle.vbr_list.proofs.walks.Reaching.{key_kept, pred_on, slot_same}
+use Rattle.vbr_list.proofs.traversals.Moments.{cur_is, key_found}
+use Rattle.vbr_list.proofs.traversals.Reaching.{key_kept, pred_on, slot_same}
 use Rattle.vbr_list.proofs.look_ups.ReadFirst.{cur_lost_since}
 use Rattle.vbr_list.proofs.stores.Stores.{had_same, hand_kept, two_since}
 use Rattle.vbr_list.proofs.named_entries.Publishing.{published_since}

@@ -1,11 +1,11 @@
 use Rattle.vbr_list.proofs.Names.{ap, ◌∙◌, arith}
 use Rattle.vbr_list.proofs.Names.{bucket_of}
-use Rattle.vbr_list.specs.walks.Disturbed.{disturbed_at}
+use Rattle.vbr_list.specs.traversals.Disturbed.{disturbed_at}
 use Rattle.vbr_list.specs.calls.Words.{wide_found}
 use Rattle.vbr_list.proofs.pieces.Going.{call_on, goes_further, tries_on, within_call}
-use Rattle.vbr_list.proofs.walks.LostWalks.{searched_none}
-use Rattle.vbr_list.proofs.walks.Moments.{found_since}
-use Rattle.vbr_list.proofs.walks.Walking.{last_walk, lost_on, walks_again}
+use Rattle.vbr_list.proofs.traversals.LostTraversals.{searched_none}
+use Rattle.vbr_list.proofs.traversals.Moments.{found_since}
+use Rattle.vbr_list.proofs.traversals.Searching.{last_traversal, lost_on, traverses_again}
 use Rattle.vbr_list.proofs.call.PendingCall.search.Goals as goal
 
 pub loop-found-init : goal.loop-found-init
@@ -41,7 +41,7 @@ returns-in-Ok-clause-found g c =
     let paid = rw c.loop-found.invariant.0.bucket at x.paid in
     let there = c.loop-found.self.of_key ∙ ap (bucket_of q.start.shape) c.loop-found.invariant.0.key in
     let repeats =
-    last_walk c.law.ensures first t.quiet lost paid (disturbed_at p c.args.self.now.bucket q.seen) (omega arith) in
+    last_traversal c.law.ensures first t.quiet lost paid (disturbed_at p c.args.self.now.bucket q.seen) (omega arith) in
     record {
       found = found_since c.args.self.now.key (wide_found c.args.self.now c.in-Ok.found) first
           (rw c.loop-found.invariant.0.key at x.found);
@@ -58,12 +58,12 @@ returns-in-Ok-clause-found g c =
         lost = lost.lost;
         repeats = rw c.args.self.now.of_key at repeats;
       };
-      walks = rw c.args.self.now.of_key at (walks_again c.law.ensures first t.quiet lost paid);
+      traverses = rw c.args.self.now.of_key at (traverses_again c.law.ensures first t.quiet lost paid);
     }
 
 pub returns-in-Err-Tired-clause-tired : goal.returns-in-Err-Tired-clause-tired
 returns-in-Err-Tired-clause-tired g c =
     let x = rw c.loop-found.invariant.0.bucket at (rw c.in-Err-Tired.field-0-is at c.in-Err-Tired.ensures.stopped) in
-    let again = walks_again c.law.ensures c.loop-found.invariant.1.goes.quiet c.traverse.ensures.goes.goes.quiet
+    let again = traverses_again c.law.ensures c.loop-found.invariant.1.goes.quiet c.traverse.ensures.goes.goes.quiet
     c.loop-found.invariant.2 x.1 in
-    record { tired = rw c.loop-found.invariant.0.budget at x.0; walks = rw c.args.self.now.of_key at again }
+    record { tired = rw c.loop-found.invariant.0.budget at x.0; traverses = rw c.args.self.now.of_key at again }

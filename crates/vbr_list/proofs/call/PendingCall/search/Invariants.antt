@@ -1,5 +1,5 @@
 use Rattle.vbr_list.proofs.Names.{◌-◌}
-use Rattle.vbr_list.proofs.walks.LostWalks.{HasSearchedIn}
+use Rattle.vbr_list.proofs.traversals.LostTraversals.{HasSearchedIn}
 use Rattle.vbr_list.proofs.call.PendingCall.search.Given as goal
 
 abbrev pub invariant-loop-found : goal.invariant-loop-found

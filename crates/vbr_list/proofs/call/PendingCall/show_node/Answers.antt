@@ -1,5 +1,5 @@
 use Rattle.vbr_list.proofs.Names.{rules, refl, false, Some}
-use Rattle.vbr_list.proofs.walks.Disturbing.{loses_link}
+use Rattle.vbr_list.proofs.traversals.Disturbing.{loses_link}
 use Rattle.vbr_list.proofs.pieces.Going.{settles_step}
 use Rattle.vbr_list.proofs.look_ups.Sights.{answers_bare}
 use Rattle.vbr_at_table.specs.reads.Held.{said_rollback}

@@ -84,7 +84,7 @@ returns-in_default-clause-refused g c =
         short = rw c.loop-found.invariant.0.budget at tired.tired;
       };
       searches = subst S (sym back)
-          (searches_with {b = c.args.self.now} c.law.ensures c.loop-found.invariant c.reach.ensures.goes tired.walks
+          (searches_with {b = c.args.self.now} c.law.ensures c.loop-found.invariant c.reach.ensures.goes tired.traverses
           (c.args.self.now.budget + 1) 8 11
           (let t = rw c.loop-found.invariant.0.budget at tired.tired in omega (arith, t)) (omega arith));
     }

@@ -1,8 +1,8 @@
 use Rattle.vbr_list.proofs.Names.{ℕ, Option, IfOk, subst}
 use Rattle.vbr_list.proofs.Names.{FindsAnother, Get, knows, Made}
 use Rattle.vbr_list.specs.calls.Told.{given_call}
-use Rattle.vbr_list.proofs.walks.LostAnswers.{unanswered_by_cur, unanswered_by_pred}
-use Rattle.vbr_list.proofs.walks.Moments.{key_found}
+use Rattle.vbr_list.proofs.traversals.LostAnswers.{unanswered_by_cur, unanswered_by_pred}
+use Rattle.vbr_list.proofs.traversals.Moments.{key_found}
 use Rattle.vbr_list.proofs.look_ups.Passing.{before_named}
 use Rattle.vbr_list.proofs.inserts.Sufficing.{each_error, on_ok}
 use Rattle.vbr_list.proofs.look_ups.FoundValues.{none_there, there_absent, there_value}

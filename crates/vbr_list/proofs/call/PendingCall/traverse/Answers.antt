@@ -1,13 +1,16 @@
 use Rattle.vbr_list.proofs.Names.{rules, ◌≡◌, ◌+◌, ◌≤◌, true, false, sym, ap, ◌∙◌, refl, subst, arith, ◌==◌, is_some}
 use Rattle.vbr_list.proofs.Names.{bucket_of, held_of, HeldIn, knows, Link, link_of, PIECE, quiet_on, Start}
 use Rattle.vbr_list.specs.calls.Words.{wide_held, wide_marked}
-use Rattle.vbr_list.proofs.walks.Disturbing.{loses_place_disturb, moves_on, moves_on_disturb, run_at}
+use Rattle.vbr_list.proofs.traversals.Disturbing.{loses_place_disturb, moves_on, moves_on_disturb, run_at}
 use Rattle.vbr_list.proofs.pieces.Going.{call_on, goes_further, goes_on, tries_on, within_call}
-use Rattle.vbr_list.proofs.walks.Moments.{cur_found}
-use Rattle.vbr_list.proofs.walks.Reaching.{node_found, node_reached, pred_inside, pred_on, stood_since, traverses_on}
-use Rattle.vbr_list.proofs.walks.Visits.{Walks, knows_now, met_knows, met_open, met_paid, met_past, met_to, paid_so_far}
-use Rattle.vbr_list.proofs.walks.Visits.{stands_still_on, start_stops, starts_walk, visit_changes_none, visit_paid}
-use Rattle.vbr_list.proofs.walks.Visits.{visited_run, walk_helped}
+use Rattle.vbr_list.proofs.traversals.Moments.{cur_found}
+use Rattle.vbr_list.proofs.traversals.Reaching.{node_found, node_reached, pred_inside, pred_on, stood_since}
+use Rattle.vbr_list.proofs.traversals.Reaching.{traverses_on}
+use Rattle.vbr_list.proofs.traversals.Visits.{GoesAlong, knows_now, met_knows, met_open, met_paid, met_past, met_to}
+use Rattle.vbr_list.proofs.traversals.Visits.{paid_so_far}
+use Rattle.vbr_list.proofs.traversals.Visits.{stands_still_on, start_stops, starts_traversal, visit_changes_none}
+use Rattle.vbr_list.proofs.traversals.Visits.{visit_paid}
+use Rattle.vbr_list.proofs.traversals.Visits.{visited_run, traversal_helped}
 use Rattle.vbr_list.proofs.pieces.WideWords.{layout_at}
 use Rattle.vbr_list.proofs.call.PendingCall.traverse.Goals as goal
 
@@ -32,7 +35,7 @@ loop-pred-init g c =
         tries = record { goes = c.start.ensures.goes.goes; within = (omega (arith, used), omega (arith, fits, used)) };
         some = omega (arith, used);
         reached = c.in-Ok.ensures.come;
-        walks = starts_walk c.law.ensures c.args.self.now.bucket c.start.ensures.goes.goes.quiet
+        traverses = starts_traversal c.law.ensures c.args.self.now.bucket c.start.ensures.goes.goes.quiet
             c.start.ensures.observes 9 c.args.self.now.used c.start.new.self.used
             (wide_held c.args.self.now c.in-Ok.pred) used
             c.in-Ok.ensures.head;
@@ -55,7 +58,8 @@ loop-pred-preserved g c =
       call_on c.loop-pred.invariant.0 v.call,
       traverses_on i v.goes (omega (arith, count)) (omega (arith, count, y, b)) come
           (met_to c.law.ensures c.args.self.now.bucket c.loop-pred.invariant.1.tries.goes.quiet
-          c.visit.ensures.goes.goes.quiet c.visit.ensures.observes i.walks met (omega (arith, count)) come.is.unmarked),
+          c.visit.ensures.goes.goes.quiet c.visit.ensures.observes i.traverses met (omega (arith, count))
+          come.is.unmarked),
     )
 
 pub loop-pred-preserved-in-Ok-help : goal.loop-pred-preserved-in-Ok-help
@@ -90,15 +94,15 @@ loop-pred-preserved-in-Ok-help g c =
     (ap (λ (start : Start). bucket_of start.shape c.args.self.now.key) whole.same.start ∙ sym c.args.self.now.of_key)
     before.inside in
     let count = met.count in
-    let past : Walks 9 p r bucket c.args.self.now.used c.help.new.self.used
+    let past : GoesAlong 9 p r bucket c.args.self.now.used c.help.new.self.used
     (wide_held c.args.self.now c.loop-pred.pred)
     (held_of (wide_marked c.args.self.now c.in-Ok-Marked.marked)) =
     met_past c.law.ensures c.args.self.now.bucket c.loop-pred.invariant.1.tries.goes.quiet
-    c.visit.ensures.goes.goes.quiet c.visit.ensures.observes i.walks met (omega (arith, count, few)) in (
+    c.visit.ensures.goes.goes.quiet c.visit.ensures.observes i.traverses met (omega (arith, count, few)) in (
       call_on c.loop-pred.invariant.0 (call_on v.call h.call),
       traverses_on i (goes_on v.goes h.goes) (omega (arith, x, y)) (omega (arith, few, z, b, d))
           (record { is = s.is; stood = stood_since v.goes.quiet s.stood })
-          (walk_helped c.law.ensures bucket whole h.goes.quiet past inside helped.epoch helped.opens),
+          (traversal_helped c.law.ensures bucket whole h.goes.quiet past inside helped.epoch helped.opens),
     )
 
 pub returns-in-Err-clause-goes : goal.returns-in-Err-clause-goes
@@ -138,14 +142,14 @@ returns-in-Ok-Beyond-clause-found g c =
           (c.visit.new.self.key == c.in-Ok-Beyond.key) i.reached i.tries.goes.quiet v met.keeps cur met.reads.stood;
       used = refl;
       knew = met_knows c.law.ensures c.args.self.now.bucket c.loop-pred.invariant.1.tries.goes.quiet
-          c.visit.ensures.goes.goes.quiet c.visit.ensures.observes i.walks met;
+          c.visit.ensures.goes.goes.quiet c.visit.ensures.observes i.traverses met;
       pred = stands_still_on v.seen
           (visit_changes_none c.law.ensures c.args.self.now.bucket c.loop-pred.invariant.1.tries.goes.quiet
-          c.visit.ensures.goes.goes.quiet c.visit.ensures.observes) i.walks.stands;
+          c.visit.ensures.goes.goes.quiet c.visit.ensures.observes) i.traverses.stands;
       cur = met_open c.law.ensures c.args.self.now.bucket c.loop-pred.invariant.1.tries.goes.quiet
-          c.visit.ensures.goes.goes.quiet c.visit.ensures.observes i.walks met cur.unmarked;
+          c.visit.ensures.goes.goes.quiet c.visit.ensures.observes i.traverses met cur.unmarked;
       paid = met_paid c.law.ensures c.args.self.now.bucket c.loop-pred.invariant.1.tries.goes.quiet
-          c.visit.ensures.goes.goes.quiet c.visit.ensures.observes i.walks met (omega (arith, count));
+          c.visit.ensures.goes.goes.quiet c.visit.ensures.observes i.traverses met (omega (arith, count));
     }
 
 pub returns-clause-found : goal.returns-clause-found
@@ -154,10 +158,10 @@ returns-clause-found g c =
     record {
       found = search rules;
       used = refl;
-      knew = i.walks.knew;
-      pred = i.walks.stands;
+      knew = i.traverses.knew;
+      pred = i.traverses.stands;
       cur = tt;
-      paid = paid_so_far c.law.ensures i.tries.goes.quiet i.walks;
+      paid = paid_so_far c.law.ensures i.tries.goes.quiet i.traverses;
     }
 
 pub returns-in_default-clause-stopped : goal.returns-in_default-clause-stopped
@@ -167,7 +171,7 @@ returns-in_default-clause-stopped g c =
 
 pub returns-then-not-affords-2-clause-stopped : goal.returns-then-not-affords-2-clause-stopped
 returns-then-not-affords-2-clause-stopped g c =
-    (search rules, paid_so_far c.law.ensures c.loop-pred.invariant.1.tries.goes.quiet c.loop-pred.invariant.1.walks)
+    (search rules, paid_so_far c.law.ensures c.loop-pred.invariant.1.tries.goes.quiet c.loop-pred.invariant.1.traverses)
 
 pub returns-in-Err-clause-stopped : goal.returns-in-Err-clause-stopped
 returns-in-Err-clause-stopped g c =
@@ -185,9 +189,9 @@ returns-in-Err-clause-stopped g c =
     let steps = c.visit.ensures.goes.goes.hand.takes_no_slot.count ∙ i.tries.goes.hand.takes_no_slot.count in (
       omega arith,
       visit_paid c.law.ensures c.args.self.now.bucket c.loop-pred.invariant.1.tries.goes.quiet
-          c.visit.ensures.goes.goes.quiet i.walks (omega (arith, few)) some,
+          c.visit.ensures.goes.goes.quiet i.traverses (omega (arith, few)) some,
       moves_on_disturb p r c.law.ensures.start (visited_run c.law.ensures c.args.self.now.bucket first v)
-          c.args.self.now.bucket (quiet_on first v).same steps q first.same v.seen i.walks.knew
+          c.args.self.now.bucket (quiet_on first v).same steps q first.same v.seen i.traverses.knew
           (moves_on q r v.same v.seen c.in-Err.ensures.moved),
     )
 
@@ -203,7 +207,7 @@ returns-then-not-affords-3-clause-stopped g c =
     let count = met.count in (
       omega (arith, short, b),
       met_paid c.law.ensures c.args.self.now.bucket c.loop-pred.invariant.1.tries.goes.quiet
-          c.visit.ensures.goes.goes.quiet c.visit.ensures.observes c.loop-pred.invariant.1.walks met
+          c.visit.ensures.goes.goes.quiet c.visit.ensures.observes c.loop-pred.invariant.1.traverses met
           (omega (arith, count)),
     )
 
@@ -229,10 +233,10 @@ returns-in-Err-help-clause-stopped g c =
     let none = visit_changes_none c.law.ensures c.args.self.now.bucket c.loop-pred.invariant.1.tries.goes.quiet
     c.visit.ensures.goes.goes.quiet c.visit.ensures.observes in (
       omega arith,
-      visit_paid c.law.ensures bucket first later i.walks (let count = met.count in omega (arith, count, few))
+      visit_paid c.law.ensures bucket first later i.traverses (let count = met.count in omega (arith, count, few))
           (ap is_some met.reads.named),
       loses_place_disturb p t is ok_t bucket all.same steps r (wide_held c.args.self.now c.loop-pred.pred) whole.same
           h.quiet.seen
-          (knows_now p r whole.same whole.seen met.fresh) (stands_still_on v.quiet.seen none i.walks.stands)
+          (knows_now p r whole.same whole.seen met.fresh) (stands_still_on v.quiet.seen none i.traverses.stands)
           (rw (c.visit.ensures.goes.call.at.slots ∙ c.loop-pred.invariant.0.at.slots) at c.in-Err-help.ensures.lost),
     )

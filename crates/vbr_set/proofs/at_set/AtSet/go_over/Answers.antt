@@ -82,7 +82,8 @@ pub returns-then-eq-clause-told : goal.returns-then-eq-clause-told
 returns-then-eq-clause-told g c =
     let y = answered_as c.in-Err.is (at_set (ap (λ s. s.now) c.loop-key.invariant.3) c.next_where-next.ensures.told) in
     let x = c.loop-key.invariant.0 in
-    goes_over _ c.args.budget x.lists _ y tt (stands_short _ c.args.budget x.lists c.in-Err.refusal c.law.ensures y (stood c.loop-key.cursor c.next_where-next.new.cursor (sym c.eq.ensures ∙ c.if-eq.true)))
+    goes_over _ c.args.budget x.lists _ y tt (stands_short _ c.args.budget x.lists c.in-Err.refusal c.law.ensures y
+    (stood c.loop-key.cursor c.next_where-next.new.cursor (sym c.eq.ensures ∙ c.if-eq.true)))
 
 -- after a refusal with which it goes on, the cursor stands elsewhere
 elsewhere : (g : given.Over) (c : goal.Else-eq g) → c.next_where-next.new.cursor ≡ c.loop-key.cursor → ⊥

@@ -5,7 +5,8 @@ use Rattle.vbr_set.proofs.set.VbrSet.renew.Goals as goal
 
 pub open_many-requires-clause-ascending : goal.open_many-requires-clause-ascending
 open_many-requires-clause-ascending g c =
-    subst (λ (keys : List ℕ). IsStrictlyIncreasing keys) (ap g.N.Kind.kind.keys (sym c.items.ensures)) (g.met.N.Kind.ascends _ _ _ c.in-Ok.ensures.ok.reports.listed)
+    subst (λ (keys : List ℕ). IsStrictlyIncreasing keys) (ap g.N.Kind.kind.keys (sym c.items.ensures))
+    (g.met.N.Kind.ascends _ _ _ c.in-Ok.ensures.ok.reports.listed)
 
 pub returns-in-Ok-open_many-clause-renewed : goal.returns-in-Ok-open_many-clause-renewed
 returns-in-Ok-open_many-clause-renewed g c =

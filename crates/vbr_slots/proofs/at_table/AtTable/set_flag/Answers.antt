@@ -8,9 +8,9 @@ use Rattle.vbr_slots.proofs.at_table.AtTable.set_flag.Goals as goal
 pub invariant_of-stepper : goal.invariant_of-stepper
 invariant_of-stepper g c =
     let p = c.stepper.inside in
-    let d = c.fetch_or_as.ensures in
+    let d = c.fetch_or.ensures in
     well_after p d refl
-    (pool_raised p.runner c.fetch_or_as.new.runner c.args.slot c.fetch_or_as.result p.pool.items p.hand d
+    (pool_raised p.runner c.fetch_or.new.runner c.args.slot c.fetch_or.result p.pool.items p.hand d
     (subst (λ (v : PassView). ¬ (Contains v.pool c.args.slot)) (sym c.stepper.view_is) c.requires.outside)
     (subst (λ (v : PassView). v.hand ≢ Some c.args.slot) (sym c.stepper.view_is) c.requires.apart)
     c.stepper.invariant.pool)

@@ -2,5 +2,5 @@ use Rattle.vbr_slots.specs.steps.Stepping.{opening_of}
 use Rattle.vbr_slots.specs.views.Views.{event_of}
 use Rattle.vbr_slots.proofs.at_table.AtTable.set_flag.Given as goal
 
-abbrev pub ghosts-fetch_or_as : goal.ghosts-fetch_or_as
-ghosts-fetch_or_as g a = record { event = event_of a.runner.now.who a.step; opening = opening_of a.self.now }
+abbrev pub ghosts-fetch_or : goal.ghosts-fetch_or
+ghosts-fetch_or g a = record { event = event_of a.runner.now.who a.step; opening = opening_of a.self.now }

@@ -3,5 +3,8 @@ use Rattle.vbr_slots.specs.steps.Stepping.{opening_of}
 use Rattle.vbr_slots.specs.views.Views.{event_of}
 use Rattle.vbr_slots.proofs.slots.Slots.load_at_and_epoch.Given as goal
 
+abbrev pub ghosts-load_at : goal.ghosts-load_at
+ghosts-load_at g a = record { event = event_of a.stepper.now.trace.who a.step; opening = opening_of a.self.now }
+
 abbrev pub ghosts-read_epoch_as : goal.ghosts-read_epoch_as
 ghosts-read_epoch_as g a = record { event = event_of a.runner.now.who ReadEpoch; opening = opening_of a.self.now }

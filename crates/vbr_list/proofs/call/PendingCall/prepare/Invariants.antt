@@ -1,9 +1,0 @@
-use Rattle.vbr_list.proofs.Names.{◌-◌}
-use Rattle.vbr_list.proofs.walks.LostWalks.{HasSearched}
-use Rattle.vbr_list.proofs.call.PendingCall.prepare.Given as goal
-
-abbrev pub invariant-loop-found : goal.invariant-loop-found
-invariant-loop-found g l = HasSearched l.fn.self l.self
-
-abbrev pub decreases-loop-found : goal.decreases-loop-found
-decreases-loop-found g l = l.self.budget - l.self.used

@@ -1,9 +1,0 @@
--- Walks along the list of a bucket.
-pub mod Places
-pub mod Disturbed
-pub mod Leaving
-pub mod Found
-pub mod Walking
-pub mod Visiting
-pub mod Traversing
-pub mod Helping

@@ -1,0 +1,127 @@
+//! What an insert or a store does before it changes anything: where the key is otherwise than it is
+//! wanted, it is answered; else it takes a slot.
+ghost use Rattle.std.specs.Prelude.{◌≡◌, false, None, IfOk, IfErr, IfNone, IfSome};
+ghost use Rattle.vbr_list.specs.updates.Inserting.{Prepares, TriesFor};
+ghost use Rattle.vbr_list.specs.calls.Pieces.{HasRoomForPiece, pass_in};
+ghost use Rattle.vbr_list.specs.updates.Preparing.{AskLoses, Asks, AsksMet, GivesOrInserts, IsMet, IsPrepared, Meeting, MeetTires, PreparesNone, has_wanted};
+ghost use Rattle.vbr_list.specs.traversals.Traversing.{LocatesFor};
+ghost use Rattle.vbr_list.specs.calls.Words.{wide_found};
+
+use crate::call::PendingCall;
+use crate::found::Found;
+use crate::wanted::Wanted;
+use vbr_at_table::budget::affords;
+use vbr_at_table::{Hand, Refusal, Rollback};
+use vbr_words::Nodes;
+
+/// How a call without a slot in hand found its key.
+#[derive(Clone, Copy)]
+pub(crate) enum Met {
+    /// As it is wanted.
+    AsWanted,
+    /// Otherwise, and it is answered: with what was there, whose value is 0 where none is given.
+    Otherwise(Option<u64>),
+}
+
+/// What a call has before it changes anything.
+pub(crate) enum Prepared {
+    /// A slot in hand.
+    Ready(Hand),
+    /// Its answer, which is that of [`Met::Otherwise`].
+    Answered(Option<u64>),
+}
+
+// Whether a key is as it is wanted that is there, or isn't, whatever value it has.
+#[inline(always)]
+fn has_wanted(wanted: Wanted, present: bool) -> bool
+    ensures { result ≡ has_wanted wanted present }
+{
+    match wanted {
+        Wanted::Absent => !present,
+        Wanted::Present => present,
+        Wanted::Anything => true,
+        Wanted::Value(_) => false,
+    }
+}
+
+impl<N: Nodes> PendingCall<'_, N> {
+    // Reads what was there, and answers a get with it where it isn't as wanted. A call that gives nothing
+    // wants the key absent, and is answered no.
+    #[inline(always)]
+    fn ask(&mut self, found: &Found, wanted: Wanted, gives: bool) -> Result<Met, Rollback>
+        requires asked { GivesOrInserts gives wanted self.old }
+        requires locates { LocatesFor self.old (wide_found self.old found.now) }
+        requires open { has_wanted wanted found.now.present ≡ false }
+        requires room { HasRoomForPiece self.old }
+        ensures asks { Asks self.old self.new }
+        ensures met { IfOk result
+            (AsksMet gives wanted self.old self.new (wide_found self.old found.now)) }
+        ensures lost { IfErr result
+            (λ _. AskLoses self.old self.new (wide_found self.old found.now)) }
+    {
+        self.at.law();
+        if !gives {
+            self.answer_no(found)?;
+            return Ok(Met::Otherwise(Some(0)));
+        }
+        let there = self.read_found(found)?;
+        if wanted.wants(there) {
+            return Ok(Met::AsWanted);
+        }
+        self.tell_found(found, there)?;
+        Ok(Met::Otherwise(there))
+    }
+
+    // Looks for the key until it is found as it is wanted, or the call was answered, as it is otherwise;
+    // none where the budget has no room for one more piece. Where anything is wanted it makes no step.
+    #[inline(always)]
+    fn meet(&mut self, wanted: Wanted, gives: bool) -> Option<Met>
+        requires asked { GivesOrInserts gives wanted self.old }
+        ensures meets { Meeting self.old self.new }
+        ensures met { IfSome result (IsMet gives wanted self.old self.new) }
+        ensures tired { IfNone result (MeetTires self.old self.new) }
+    {
+        self.at.law();
+        if let Wanted::Anything = wanted {
+            return Some(Met::AsWanted);
+        }
+        loop {
+            let Some(found) = self.search() else {
+                return None;
+            };
+            if has_wanted(wanted, found.present) {
+                return Some(Met::AsWanted);
+            }
+            if !affords(self.budget, self.used) {
+                return None;
+            }
+            if let Ok(met) = self.ask(&found, wanted, gives) {
+                return Some(met);
+            }
+        }
+    }
+
+    /// Takes a slot once the key was found as it is wanted; else the call is answered: a get with what was
+    /// there, or, where it gives nothing, an insert with no.
+    #[inline(always)]
+    pub(crate) fn prepare(&mut self, wanted: Wanted, gives: bool) -> Result<Prepared, Refusal>
+        requires asked { GivesOrInserts gives wanted self.old }
+        requires empty_hand { (pass_in self.old).hand ≡ None }
+        ensures prepares { Prepares self.old self.new }
+        ensures tries { TriesFor wanted self.old self.new }
+        ensures prepared { IfOk result (IsPrepared gives wanted self.old self.new) }
+        ensures refused { IfErr result (PreparesNone wanted self.old self.new) }
+    {
+        self.at.law();
+        let Some(met) = self.meet(wanted, gives) else {
+            return Err(Refusal::OutOfSteps { used: self.used });
+        };
+        match met {
+            Met::Otherwise(there) => Ok(Prepared::Answered(there)),
+            Met::AsWanted => {
+                let hand = self.provide()?;
+                Ok(Prepared::Ready(hand))
+            }
+        }
+    }
+}

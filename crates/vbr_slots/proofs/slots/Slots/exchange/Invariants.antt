@@ -1,6 +1,0 @@
-use Rattle.vbr_slots.specs.steps.Stepping.{opening_of}
-use Rattle.vbr_slots.specs.views.Views.{event_of}
-use Rattle.vbr_slots.proofs.slots.Slots.exchange.Given as goal
-
-abbrev pub ghosts-exchange_as : goal.ghosts-exchange_as
-ghosts-exchange_as g a = record { event = event_of a.runner.now.who a.step; opening = opening_of a.self.now }

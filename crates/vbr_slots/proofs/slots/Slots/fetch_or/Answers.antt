@@ -1,0 +1,23 @@
+use Rattle.std.proofs.Common.{rules, sym, ap}
+use Rattle.std.specs.Prelude.{bit_or}
+use Rattle.vbr_machine.specs.Machine.{access_of, word_made}
+use Rattle.vbr_slots.proofs.steps.Learning.{shows_itself}
+use Rattle.vbr_slots.specs.views.Views.{knows}
+use Rattle.vbr_slots.proofs.words.Packed.{tells_plain, writes_plain}
+use Rattle.vbr_slots.proofs.steps.Steps.{asks_alone, steps_did, steps_sound}
+use Rattle.vbr_slots.proofs.slots.Slots.fetch_or.Goals as goal
+
+pub fetch_or-found-requires : goal.fetch_or-found-requires
+fetch_or-found-requires g c =
+    asks_alone c.self.invariant c.self.view_is c.runner.invariant c.runner.view_is c.requires.own c.requires.named _
+    c.args.place _ (λ n. bit_or n c.args.bits) (λ n. n) c.place_index_in-word.ensures.index c.requires.place
+    (writes_plain c.self.inside.opening.shape c.args.place (access_of (knows c.args.runner.now) c.args.step) _
+    c.requires.plain (λ n. sym (ap (λ a. word_made a n) c.requires.access)))
+    (tells_plain c.self.inside.opening.shape c.args.place c.args.step _ c.requires.plain (shows_itself c.args.step))
+    c.requires.accepted
+
+pub invariant_of-runner : goal.invariant_of-runner
+invariant_of-runner g c = search (rules, steps_sound)
+
+pub returns : goal.returns
+returns g c = search (rules, steps_did)

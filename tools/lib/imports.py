@@ -1,0 +1,36 @@
+"""Imports that nothing uses: a `ghost use` of a source file whose name stands nowhere else in its code. The compiler says so of
+a `use`, and the kit of those in written proofs. A name may stay that STAYS has, until its crate is proved anew for another
+reason."""
+import re
+
+# File: the names that it imports and doesn't use.
+STAYS = {
+    "crates/vbr_machine/src/record_laws.rt": ("Incarnations", "Know", "World"),
+    "crates/vbr_words/src/shape.rt": ("MAX_VERSION",),
+}
+
+IMPORT = re.compile(r"^\s*(?:pub )?(?:ghost )?use ([^;]+);", re.M)
+GHOST = re.compile(r"^\s*ghost use ([^;]+);", re.M)
+WORD = r"(?<![\w-]){}(?![\w-])"
+
+
+def imported(clause):
+    """The names that one `ghost use` brings into the file, as the file writes them."""
+    path = " ".join(clause.split())
+    braces = re.fullmatch(r"(.*?)\.\{(.*)\}", path)
+    names = braces.group(2).split(",") if braces else [path.rsplit(".", 1)[1]]
+    return [name.split(" as ")[-1].strip() for name in names if name.strip()]
+
+
+def stands(name, code):
+    """Whether the code has the name. An operator's parts stand around what it is applied to."""
+    if "◌" in name or not re.match(r"\w", name):
+        return all(part in code for part in name.split("◌") if part)
+    return re.search(WORD.format(re.escape(name)), code) is not None
+
+
+def unused(path, text):
+    """The imported names of a source file that it doesn't use."""
+    code = re.sub(r"//.*", "", IMPORT.sub("", text))
+    names = (name for clause in GHOST.findall(text) for name in imported(clause))
+    return [name for name in names if not stands(name, code) and name not in STAYS.get(path, ())]
