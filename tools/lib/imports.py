@@ -1,13 +1,6 @@
 """Imports that nothing uses: a `ghost use` of a source file whose name stands nowhere else in its code. The compiler says so of
-a `use`, and the kit of those in written proofs. A name may stay that STAYS has, until its crate is proved anew for another
-reason."""
+a `use`, and the kit of those in written proofs."""
 import re
-
-# File: the names that it imports and doesn't use.
-STAYS = {
-    "crates/vbr_machine/src/record_laws.rt": ("Incarnations", "Know", "World"),
-    "crates/vbr_words/src/shape.rt": ("MAX_VERSION",),
-}
 
 IMPORT = re.compile(r"^\s*(?:pub )?(?:ghost )?use ([^;]+);", re.M)
 GHOST = re.compile(r"^\s*ghost use ([^;]+);", re.M)
@@ -33,4 +26,4 @@ def unused(path, text):
     """The imported names of a source file that it doesn't use."""
     code = re.sub(r"//.*", "", IMPORT.sub("", text))
     names = (name for clause in GHOST.findall(text) for name in imported(clause))
-    return [name for name in names if not stands(name, code) and name not in STAYS.get(path, ())]
+    return [name for name in names if not stands(name, code)]

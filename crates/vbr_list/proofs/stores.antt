@@ -5,3 +5,4 @@ pub mod Settled
 pub mod SettledSoon
 pub mod LateSearches
 pub mod StoredValues
+pub mod HeldStores

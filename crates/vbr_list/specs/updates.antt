@@ -8,3 +8,4 @@ pub mod Storing
 pub mod Settling
 pub mod Replacing
 pub mod Holding
+pub mod HeldStores

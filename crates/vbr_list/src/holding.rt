@@ -4,23 +4,18 @@ ghost use Rattle.vbr_at_table.specs.pools.GivingBack.{PutsBack};
 ghost use Rattle.vbr_at_table.specs.hands.KeptSlots.{TakesNoSlot};
 ghost use Rattle.vbr_at_table.specs.pools.Refusals.{RefusesTake};
 ghost use Rattle.vbr_at_table.specs.pools.Taking.{Takes};
-ghost use Rattle.vbr_list.specs.updates.Holding.{FoundWithValue, HoldsSlot, answer_unpublished, InsertsHeld, KeepsHeld, LinksHeld};
-ghost use Rattle.vbr_list.specs.updates.Holding.{KeepsUnreplaced, LeavesInHand, ReplacesByHand, ReplacesFor};
-ghost use Rattle.vbr_list.specs.updates.Holding.{KeepsUnput, PutsHeld, ReplacesHeldEntry, StoresByHand, StoresFor};
+ghost use Rattle.vbr_list.specs.updates.HeldStores.{still_in_hand};
+ghost use Rattle.vbr_list.specs.updates.Holding.{HoldsSlot, InsertsHeld, KeepsUnreplaced, PutsHeld, ReplacesFor, ReplacesHeldEntry};
 ghost use Rattle.vbr_list.specs.updates.Inserting.{CountsWithin, HasHandAndRoom};
-ghost use Rattle.vbr_list.specs.calls.Pieces.{HasRoomForPiece, IsSameCall, pass_in, trace_in};
-ghost use Rattle.vbr_list.specs.updates.Replacing.{HasUnused};
-ghost use Rattle.vbr_list.specs.updates.Settling.{HasHandForValue, MaySettle};
-ghost use Rattle.vbr_list.specs.traversals.Traversing.{LocatesFor};
+ghost use Rattle.vbr_list.specs.calls.Pieces.{IsSameCall, pass_in, trace_in};
 ghost use Rattle.vbr_slots.specs.steps.Calls.{Took};
 ghost use Rattle.vbr_slots.specs.views.Views.{IsOf};
-ghost use Rattle.vbr_list.specs.calls.Words.{wide_found};
 
 use crate::call::{PendingCall, begin};
 use crate::entries::{Entry, is_node_of};
-use crate::found::Found;
-use crate::valuing::steps_to_update;
-use vbr_at_table::{Hand, Refusal, take, update};
+use crate::storing::Unstored;
+use crate::wanted::Wanted;
+use vbr_at_table::{Hand, Refusal, take};
 use vbr_slots::{AtTable, Pass, Slots, Stepper};
 use vbr_words::{Entries, Nodes};
 
@@ -36,15 +31,15 @@ pub enum StillInHand {
     },
 }
 
-impl StillInHand {
-    // The answer of an insert whose slot wasn't published.
+impl Unstored {
+    // Why the slot in hand of an insert wasn't published.
     #[inline(always)]
-    pub(crate) fn answer(self) -> Result<bool, Refusal>
-        ensures { result ≡ answer_unpublished self }
+    fn of_insert(self) -> StillInHand
+        ensures { result ≡ still_in_hand self }
     {
         match self {
-            StillInHand::Present => Ok(false),
-            StillInHand::OutOfSteps { used } => Err(Refusal::OutOfSteps { used }),
+            Unstored::Otherwise(_) => StillInHand::Present,
+            Unstored::OutOfSteps { used } => StillInHand::OutOfSteps { used },
         }
     }
 }
@@ -89,86 +84,6 @@ pub enum NotReplaced {
 }
 
 impl<N: Nodes> PendingCall<'_, N> {
-    // Puts the slot in hand in the place of the node that was found, with this value, in eight steps at
-    // most, and takes the old node out of its list, as far as the budget has room; gives the value that was
-    // there. Else the hand comes back.
-    #[inline(always)]
-    fn replace_by_held(
-        &mut self,
-        found: &Found,
-        value: u64,
-        hand: Hand,
-    ) -> Result<Option<u64>, Hand>
-        requires found { FoundWithValue self.old (wide_found self.old found.now) }
-        requires hand { HasHandAndRoom (pass_in self.old) hand }
-        requires room { HasRoomForPiece self.old }
-        ensures settles { MaySettle self.old self.new }
-        ensures had { HasUnused (pass_in self.old) (pass_in self.new) result }
-        ensures replaced { IfOk result
-            (ReplacesByHand value self.old self.new hand (wide_found self.old found.now)) }
-        ensures back { IfErr result
-            (LeavesInHand 8 self.old self.new (wide_found self.old found.now) hand) }
-    {
-        self.at.law();
-        let Ok(there) = self.read_found(found) else {
-            return Err(hand);
-        };
-        let marked = match self.replace_found(found, value, hand) {
-            Ok(marked) => marked,
-            Err(back) => return Err(back),
-        };
-        self.unlink_replaced(&found.pred, marked);
-        Ok(there)
-    }
-
-    // Puts the value by the slot in hand where this was found: by an insert, or in the place of the node;
-    // gives the value that was there. Else the hand comes back.
-    #[inline(always)]
-    fn put_found(&mut self, found: &Found, value: u64, hand: Hand) -> Result<Option<u64>, Hand>
-        requires found { LocatesFor self.old (wide_found self.old found.now) }
-        requires has { HasHandForValue self.old hand }
-        requires room { HasRoomForPiece self.old }
-        ensures settles { MaySettle self.old self.new }
-        ensures had { HasUnused (pass_in self.old) (pass_in self.new) result }
-        ensures put { IfOk result
-            (StoresByHand value self.old self.new hand (wide_found self.old found.now)) }
-        ensures back { IfErr result
-            (LeavesInHand 8 self.old self.new (wide_found self.old found.now) hand) }
-    {
-        if found.present {
-            return self.replace_by_held(found, value, hand);
-        }
-        match self.link_found(found, value, hand) {
-            Ok(()) => Ok(None),
-            Err(back) => Err(back),
-        }
-    }
-
-    // Gives the key the value by the slot in hand, whatever is there, and gives the value that was there;
-    // where the budget has no room for one more piece, the hand comes back, with the steps that were made.
-    #[inline(always)]
-    fn put_by_held(&mut self, value: u64, mut hand: Hand) -> Result<Option<u64>, (Hand, u32)>
-        requires values { (trace_in self.old).start.shape.values ≡ true }
-        requires hand { HasHandAndRoom (pass_in self.old) hand }
-        ensures call { IsSameCall self.old self.new }
-        ensures counts { CountsWithin (trace_in self.old) (trace_in self.new)
-            self.old.used self.new.used self.old.budget }
-        ensures takes_no_slot { TakesNoSlot (pass_in self.old) (pass_in self.new) }
-        ensures put { IfOk result (StoresFor value self.old self.new hand) }
-        ensures kept { IfErr result (KeepsUnput self.old self.new hand) }
-    {
-        self.at.law();
-        loop {
-            let Some(found) = self.reach() else {
-                return Err((hand, self.used));
-            };
-            match self.put_found(&found, value, hand) {
-                Ok(there) => return Ok(there),
-                Err(back) => hand = back,
-            }
-        }
-    }
-
     // Puts the slot in hand in the place of this entry, and of no other; else, and where the budget has no
     // room for one more piece, the hand comes back.
     #[inline(always)]
@@ -195,52 +110,13 @@ impl<N: Nodes> PendingCall<'_, N> {
             if !is_node_of(&found, entry) {
                 return Err((hand, NotReplaced::Other));
             }
-            match self.replace_by_held(&found, value, hand) {
-                Ok(_) => return Ok(()),
-                Err(back) => hand = back,
-            }
-        }
-    }
-
-    // Links the slot in hand, or answers no where the key is there; then, and where the budget has no room
-    // for one more piece, the hand comes back.
-    #[inline(always)]
-    pub(crate) fn link_held(
-        &mut self,
-        value: u64,
-        mut hand: Hand,
-    ) -> Result<(), (Hand, StillInHand)>
-        requires hand { HasHandAndRoom (pass_in self.old) hand }
-        ensures call { IsSameCall self.old self.new }
-        ensures counts { CountsWithin (trace_in self.old) (trace_in self.new)
-            self.old.used self.new.used self.old.budget }
-        ensures takes_no_slot { TakesNoSlot (pass_in self.old) (pass_in self.new) }
-        ensures had { HasUnused (pass_in self.old) (pass_in self.new) result }
-        ensures linked { IfOk result (λ _. LinksHeld value self.old self.new hand) }
-        ensures kept { IfErr result (KeepsHeld value self.old self.new hand) }
-    {
-        self.at.law();
-        loop {
-            let Some(found) = self.reach() else {
-                return Err((hand, StillInHand::OutOfSteps { used: self.used }));
+            self.at.law();
+            let Ok(_) = self.read_found(&found) else {
+                continue;
             };
-            if found.present {
-                if self.answer_no(&found).is_err() {
-                    continue;
-                }
-                return Err((hand, StillInHand::Present));
-            }
-            self.used += steps_to_update(self.at.slots);
-            match update(
-                &mut self.at,
-                &found.pred,
-                found.cur.as_ref(),
-                self.key,
-                value,
-                hand,
-            ) {
+            match self.replace_and_unlink(&found, value, hand) {
                 Ok(()) => return Ok(()),
-                Err((back, _)) => hand = back,
+                Err(back) => hand = back,
             }
         }
     }
@@ -382,8 +258,13 @@ fn put_held_by<N: Nodes>(
 {
     let mut call = begin!(slots, stepper, key, budget, 0);
     call.at.law();
-    let outcome = call.put_by_held(value, hand);
-    (outcome, call.used)
+    match call.store_held(value, Wanted::Anything, true, hand) {
+        Ok(there) => (Ok(there), call.used),
+        Err((back, why)) => match why {
+            Unstored::OutOfSteps { used } => (Err((back, used)), call.used),
+            Unstored::Otherwise(_) => unreachable!(),
+        },
+    }
 }
 
 // As `replace_held`, where no step is counted; and how many steps were made.
@@ -425,6 +306,8 @@ fn insert_held_by<N: Nodes>(
 {
     let mut call = begin!(slots, stepper, key, budget, 0);
     call.at.law();
-    let outcome = call.link_held(value, hand);
-    (outcome, call.used)
+    match call.store_held(value, Wanted::Absent, false, hand) {
+        Ok(_) => (Ok(()), call.used),
+        Err((back, why)) => (Err((back, why.of_insert())), call.used),
+    }
 }

@@ -88,11 +88,11 @@ fn insert_by<N: Nodes>(
         Ok(Prepared::Answered(_)) => return (Ok(false), call.used),
         Err(refusal) => return (Err(refusal), call.used),
     };
-    match call.link_held(value, hand) {
-        Ok(()) => (Ok(true), call.used),
+    match call.store_held(value, Wanted::Absent, false, hand) {
+        Ok(_) => (Ok(true), call.used),
         Err((back, why)) => {
             give_back(&mut call.at, back);
-            (why.answer(), call.used)
+            (why.denied(), call.used)
         }
     }
 }

@@ -3,7 +3,7 @@
 ghost use Rattle.std.specs.Prelude.{◌≡◌, false, None, IfOk, IfErr, IfNone, IfSome};
 ghost use Rattle.vbr_list.specs.updates.Inserting.{Prepares, TriesFor};
 ghost use Rattle.vbr_list.specs.calls.Pieces.{HasRoomForPiece, pass_in};
-ghost use Rattle.vbr_list.specs.updates.Preparing.{AskLoses, Asks, AsksMet, GivesOrInserts, IsMet, IsPrepared, Meeting, MeetTires, PreparesNone, has_wanted};
+ghost use Rattle.vbr_list.specs.updates.Preparing.{AskLoses, Asks, GivesOrInserts, AsksTold, IsMet, IsPrepared, Meeting, MeetTires, PreparesNone, has_wanted};
 ghost use Rattle.vbr_list.specs.traversals.Traversing.{LocatesFor};
 ghost use Rattle.vbr_list.specs.calls.Words.{wide_found};
 
@@ -45,31 +45,38 @@ fn has_wanted(wanted: Wanted, present: bool) -> bool
 }
 
 impl<N: Nodes> PendingCall<'_, N> {
-    // Reads what was there, and answers a get with it where it isn't as wanted. A call that gives nothing
-    // wants the key absent, and is answered no.
+    /// Reads what was there: gives it where it is as wanted, else answers a get with it, which is the error. A
+    /// call that gives nothing wants the key absent, and reads nothing: it is answered no where the key is there.
     #[inline(always)]
-    fn ask(&mut self, found: &Found, wanted: Wanted, gives: bool) -> Result<Met, Rollback>
+    pub(crate) fn ask(
+        &mut self,
+        found: &Found,
+        wanted: Wanted,
+        gives: bool,
+    ) -> Result<Result<Option<u64>, Option<u64>>, Rollback>
         requires asked { GivesOrInserts gives wanted self.old }
         requires locates { LocatesFor self.old (wide_found self.old found.now) }
-        requires open { has_wanted wanted found.now.present ≡ false }
         requires room { HasRoomForPiece self.old }
         ensures asks { Asks self.old self.new }
-        ensures met { IfOk result
-            (AsksMet gives wanted self.old self.new (wide_found self.old found.now)) }
+        ensures told { IfOk result
+            (AsksTold gives wanted self.old self.new (wide_found self.old found.now)) }
         ensures lost { IfErr result
             (λ _. AskLoses self.old self.new (wide_found self.old found.now)) }
     {
         self.at.law();
         if !gives {
+            if !found.present {
+                return Ok(Ok(None));
+            }
             self.answer_no(found)?;
-            return Ok(Met::Otherwise(Some(0)));
+            return Ok(Err(Some(0)));
         }
         let there = self.read_found(found)?;
         if wanted.wants(there) {
-            return Ok(Met::AsWanted);
+            return Ok(Ok(there));
         }
         self.tell_found(found, there)?;
-        Ok(Met::Otherwise(there))
+        Ok(Err(there))
     }
 
     // Looks for the key until it is found as it is wanted, or the call was answered, as it is otherwise;
@@ -95,8 +102,12 @@ impl<N: Nodes> PendingCall<'_, N> {
             if !affords(self.budget, self.used) {
                 return None;
             }
-            if let Ok(met) = self.ask(&found, wanted, gives) {
-                return Some(met);
+            let Ok(asked) = self.ask(&found, wanted, gives) else {
+                continue;
+            };
+            match asked {
+                Ok(_) => return Some(Met::AsWanted),
+                Err(there) => return Some(Met::Otherwise(there)),
             }
         }
     }

@@ -11,7 +11,7 @@ ghost use Rattle.vbr_slots.specs.views.Views.{PassView};
 ghost use Rattle.vbr_at_table.specs.hands.Hands.{HandView, IsHandOf};
 ghost use Rattle.vbr_at_table.specs.hands.KeptSlots.{TakesNoSlot};
 ghost use Rattle.vbr_at_table.specs.answers.Records.{PublishesSlot};
-ghost use Rattle.vbr_list.specs.updates.Holding.{PublishedSlot};
+ghost use Rattle.vbr_list.specs.updates.Settling.{PublishedSlot};
 
 /// A law: a slot that a pass has in hand between two of its calls is in its hand alone, whatever others
 /// do meanwhile; and no entry that there ever was in the slot has the birth that it shows.

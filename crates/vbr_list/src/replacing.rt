@@ -4,9 +4,9 @@ ghost use Rattle.vbr_words.specs.Packing.{unpacked};
 ghost use Rattle.vbr_at_table.specs.costs.StepCosts.{steps_to_birth};
 ghost use Rattle.vbr_list.specs.updates.Inserting.{GivesHandBack, HasHandAndRoom};
 ghost use Rattle.vbr_list.specs.calls.Pieces.{GoesOn, pass_in};
-ghost use Rattle.vbr_list.specs.updates.Replacing.{HasUnused, KnowsFoundValue, MayStoreNode, PublishesOrKeeps, ReplacesFound, ReplacesAndLeaves, ReplacesPaid, UnlinksReplaced};
+ghost use Rattle.vbr_list.specs.updates.Replacing.{HasUnused, KnowsFoundValue, MayStoreNode, PublishesOrKeeps, ReplacesByHand, ReplacesFound, UnlinksReplaced};
 ghost use Rattle.vbr_list.specs.updates.Removing.{IsMarkedFor, LeavesWithRoom};
-ghost use Rattle.vbr_list.specs.updates.Settling.{MaySettle, SettlesNone};
+ghost use Rattle.vbr_list.specs.updates.Settling.{LeavesInHand, MaySettle};
 ghost use Rattle.vbr_list.specs.calls.Words.{wide_found, wide_held, wide_marked};
 
 use crate::call::PendingCall;
@@ -95,13 +95,10 @@ impl<N: Nodes> PendingCall<'_, N> {
         requires hand { HasHandAndRoom (pass_in self.old) hand }
         requires room { self.old.used + 6 ≤ self.old.budget }
         ensures settles { MaySettle self.old self.new }
-        ensures had { HasUnused (pass_in self.old) (pass_in self.new) result }
         ensures replaced { IfOk result
-            (λ _. ReplacesAndLeaves value self.old self.new (wide_found self.old found.now)) }
-        ensures paid { IfOk result
-            (λ _. ReplacesPaid self.old self.new (wide_found self.old found.now)) }
+            (λ _. ReplacesByHand value self.old self.new hand (wide_found self.old found.now)) }
         ensures back { IfErr result
-            (SettlesNone 6 self.old self.new (wide_found self.old found.now)) }
+            (LeavesInHand 6 self.old self.new (wide_found self.old found.now) hand) }
     {
         self.at.law();
         let marked = match self.replace_found(found, value, hand) {

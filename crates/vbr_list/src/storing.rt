@@ -1,14 +1,15 @@
-//! Storing a value where what is there is as it is wanted.
-ghost use Rattle.std.specs.Prelude.{◌≡◌, ◌+◌, ◌≤◌, true, None, IfOk, IfErr};
+//! Storing a value where what is there is as it is wanted; an insert is a store that wants its key absent.
+ghost use Rattle.std.specs.Prelude.{◌≡◌, ◌+◌, ◌≤◌, false, true, None, IfOk, IfErr};
 ghost use Rattle.vbr_slots.specs.steps.Calls.{Took};
 ghost use Rattle.vbr_slots.specs.views.Views.{IsOf};
-ghost use Rattle.vbr_list.specs.updates.Holding.{LeavesInHand, StoresByHand};
-ghost use Rattle.vbr_list.specs.updates.Inserting.{HasHandAndRoom, Links};
-ghost use Rattle.vbr_list.specs.calls.Pieces.{HasRoomForPiece, pass_in, trace_in};
+ghost use Rattle.vbr_at_table.specs.hands.KeptSlots.{TakesNoSlot};
+ghost use Rattle.vbr_list.specs.updates.HeldStores.{KeepsUnstored, StoresWanted, answer_unlinked, answer_unstored};
+ghost use Rattle.vbr_list.specs.updates.Inserting.{CountsWithin, HasHandAndRoom};
+ghost use Rattle.vbr_list.specs.calls.Pieces.{IsSameCall, pass_in, trace_in};
+ghost use Rattle.vbr_list.specs.updates.Preparing.{GivesOrInserts};
 ghost use Rattle.vbr_list.specs.updates.Replacing.{HasUnused};
-ghost use Rattle.vbr_list.specs.updates.Settling.{AnswersPaid, ChangePaid, HasHandForValue, MaySettle, SettlesNone, SettlesPaid, StoreAnswers, StoresAndLeaves, StoresNone};
-ghost use Rattle.vbr_list.specs.updates.Storing.{CallsStore, HasUnstored};
-ghost use Rattle.vbr_list.specs.look_ups.Telling.{KnowsThere};
+ghost use Rattle.vbr_list.specs.updates.Settling.{LeavesInHand, LinksNode, MaySettle};
+ghost use Rattle.vbr_list.specs.updates.Storing.{CallsStore};
 ghost use Rattle.vbr_list.specs.traversals.Traversing.{LocatesFor};
 ghost use Rattle.vbr_list.specs.declared.wanted.Wanted.TheVariants.{Absent, Anything, Present, Value};
 ghost use Rattle.vbr_list.specs.calls.Words.{wide_found};
@@ -16,29 +17,62 @@ ghost use Rattle.vbr_list.specs.calls.Words.{wide_found};
 use crate::call::{PendingCall, begin};
 use crate::found::Found;
 use crate::preparing::Prepared;
+use crate::valuing::steps_to_update;
 use crate::wanted::Wanted;
 use vbr_at_table::{Hand, Refusal, give_back, update};
 use vbr_slots::{Pass, Slots, Stepper};
 use vbr_words::{Entries, Nodes};
 
-impl<N: Nodes> PendingCall<'_, N> {
-    // Links the slot in hand with this value where the key was found absent, in four steps. Else the
-    // hand comes back as it was.
+/// Why a slot in hand wasn't published with a value. It is in hand still.
+pub(crate) enum Unstored {
+    /// This is there, which isn't as it is wanted: the call is answered with it.
+    Otherwise(Option<u64>),
+    /// The steps left of the budget are fewer than a piece of the call may take; no call was made.
+    OutOfSteps {
+        /// The steps that were made.
+        used: u32,
+    },
+}
+
+impl Unstored {
+    // The answer of a store whose slot wasn't published.
     #[inline(always)]
-    pub(crate) fn link_found(&mut self, found: &Found, value: u64, hand: Hand) -> Result<(), Hand>
-        requires knows { KnowsThere self.old (wide_found self.old found.now) None }
+    fn answer(self) -> Result<Option<u64>, Refusal>
+        ensures { result ≡ answer_unstored self }
+    {
+        match self {
+            Unstored::Otherwise(there) => Ok(there),
+            Unstored::OutOfSteps { used } => Err(Refusal::OutOfSteps { used }),
+        }
+    }
+
+    // That of an insert.
+    #[inline(always)]
+    pub(crate) fn denied(self) -> Result<bool, Refusal>
+        ensures { result ≡ answer_unlinked self }
+    {
+        match self {
+            Unstored::Otherwise(_) => Ok(false),
+            Unstored::OutOfSteps { used } => Err(Refusal::OutOfSteps { used }),
+        }
+    }
+}
+
+impl<N: Nodes> PendingCall<'_, N> {
+    // Links the slot in hand with this value where the key was found absent. Else the hand comes back.
+    #[inline(always)]
+    fn link_found(&mut self, found: &Found, value: u64, hand: Hand) -> Result<(), Hand>
+        requires locates { LocatesFor self.old (wide_found self.old found.now) }
+        requires absent { found.now.present ≡ false }
         requires hand { HasHandAndRoom (pass_in self.old) hand }
         requires room { self.old.used + 6 ≤ self.old.budget }
         ensures settles { MaySettle self.old self.new }
-        ensures few { self.new.used ≡ self.old.used + 4 }
-        ensures had { HasUnused (pass_in self.old) (pass_in self.new) result }
-        ensures linked { IfOk result
-            (λ _. StoresByHand value self.old self.new hand (wide_found self.old found.now) None) }
+        ensures linked { IfOk result (λ _. LinksNode value self.old self.new hand) }
         ensures back { IfErr result
-            (LeavesInHand 6 self.old self.new (wide_found self.old found.now) hand) }
+            (LeavesInHand 4 self.old self.new (wide_found self.old found.now) hand) }
     {
         self.at.law();
-        self.used += 4;
+        self.used += steps_to_update(self.at.slots);
         match update(
             &mut self.at,
             &found.pred,
@@ -52,97 +86,49 @@ impl<N: Nodes> PendingCall<'_, N> {
         }
     }
 
-    // Puts the value where this was found: by an insert, or in the place of the value that was there.
-    // Else the hand comes back.
+    /// Stores the value by the slot in hand, if what is there is as it is wanted then, and gives what was there.
+    /// Else, and where the budget has no room for one more piece, the hand comes back. An insert is the store that
+    /// wants its key absent and gives nothing: where the key is there, it is answered no.
     #[inline(always)]
-    fn change(
-        &mut self,
-        found: &Found,
-        there: Option<u64>,
-        value: u64,
-        hand: Hand,
-    ) -> Result<(), Hand>
-        requires knows { KnowsThere self.old (wide_found self.old found.now) there }
-        requires hand { HasHandAndRoom (pass_in self.old) hand }
-        requires room { self.old.used + 6 ≤ self.old.budget }
-        ensures settles { MaySettle self.old self.new }
-        ensures had { HasUnused (pass_in self.old) (pass_in self.new) result }
-        ensures stored { IfOk result (λ _. StoresAndLeaves value self.old self.new there) }
-        ensures paid { IfOk result
-            (λ _. ChangePaid self.old self.new (wide_found self.old found.now) there) }
-        ensures back { IfErr result
-            (SettlesNone 6 self.old self.new (wide_found self.old found.now)) }
-    {
-        match there {
-            None => self.link_found(found, value, hand),
-            Some(_) => self.replace_and_unlink(found, value, hand),
-        }
-    }
-
-    // Stores the value if what was found is as it is wanted, else answers a get; gives what was there, and
-    // the hand is empty. Else the hand comes back.
-    #[inline(always)]
-    fn settle_store(
-        &mut self,
-        found: &Found,
-        value: u64,
-        wanted: Wanted,
-        hand: Hand,
-    ) -> Result<Option<u64>, Hand>
-        requires found { LocatesFor self.old (wide_found self.old found.now) }
-        requires has { HasHandForValue self.old hand }
-        requires room { HasRoomForPiece self.old }
-        ensures settles { MaySettle self.old self.new }
-        ensures had { HasUnstored wanted (pass_in self.old) (pass_in self.new) result }
-        ensures answers { IfOk result (StoreAnswers value wanted self.old self.new) }
-        ensures paid { IfOk result
-            (SettlesPaid wanted self.old self.new (wide_found self.old found.now)) }
-        ensures back { IfErr result
-            (SettlesNone 8 self.old self.new (wide_found self.old found.now)) }
-    {
-        self.at.law();
-        let Ok(there) = self.read_found(found) else {
-            return Err(hand);
-        };
-        if !wanted.wants(there) {
-            if self.tell_found(found, there).is_err() {
-                return Err(hand);
-            }
-            give_back(&mut self.at, hand);
-            return Ok(there);
-        }
-        match self.change(found, there, value, hand) {
-            Ok(()) => Ok(there),
-            Err(back) => Err(back),
-        }
-    }
-
-    // Stores the value by the slot in hand, if what is there is as it is wanted then, else answers a get;
-    // gives what was there. The hand is spent.
-    #[inline(always)]
-    fn store_with(
+    pub(crate) fn store_held(
         &mut self,
         value: u64,
         wanted: Wanted,
+        gives: bool,
         mut hand: Hand,
-    ) -> Result<Option<u64>, Refusal>
-        requires values { (trace_in self.old).start.shape.values ≡ true }
+    ) -> Result<Option<u64>, (Hand, Unstored)>
+        requires asked { GivesOrInserts gives wanted self.old }
         requires hand { HasHandAndRoom (pass_in self.old) hand }
-        ensures links { Links self.old self.new }
-        ensures had { HasUnstored wanted (pass_in self.old) (pass_in self.new) result }
-        ensures answers { IfOk result (StoreAnswers value wanted self.old self.new) }
-        ensures paid { IfOk result (AnswersPaid wanted self.old self.new) }
-        ensures refused { IfErr result (StoresNone self.old self.new) }
+        ensures call { IsSameCall self.old self.new }
+        ensures counts { CountsWithin (trace_in self.old) (trace_in self.new)
+            self.old.used self.new.used self.old.budget }
+        ensures takes_no_slot { TakesNoSlot (pass_in self.old) (pass_in self.new) }
+        ensures had { HasUnused (pass_in self.old) (pass_in self.new) result }
+        ensures stored { IfOk result (StoresWanted gives value wanted self.old self.new hand) }
+        ensures kept { IfErr result (KeepsUnstored gives value wanted self.old self.new hand) }
     {
         self.at.law();
         loop {
             let Some(found) = self.reach() else {
-                give_back(&mut self.at, hand);
-                return Err(Refusal::OutOfSteps { used: self.used });
+                return Err((hand, Unstored::OutOfSteps { used: self.used }));
             };
-            match self.settle_store(&found, value, wanted, hand) {
-                Ok(there) => return Ok(there),
-                Err(back) => hand = back,
+            self.at.law();
+            let Ok(asked) = self.ask(&found, wanted, gives) else {
+                continue;
+            };
+            let there = match asked {
+                Ok(there) => there,
+                Err(there) => return Err((hand, Unstored::Otherwise(there))),
+            };
+            match there {
+                None => match self.link_found(&found, value, hand) {
+                    Ok(()) => return Ok(None),
+                    Err(back) => hand = back,
+                },
+                Some(_) => match self.replace_and_unlink(&found, value, hand) {
+                    Ok(()) => return Ok(there),
+                    Err(back) => hand = back,
+                },
             }
         }
     }
@@ -273,7 +259,8 @@ pub fn compare_exchange(
     )
 }
 
-// As `store`, where no step is counted; and how many steps were made.
+// As `store`, where no step is counted; and how many steps were made. With a slot in hand it searches anew, and
+// stores by it, or gives it back where the key is otherwise than wanted meanwhile.
 #[inline(always)]
 fn store_by(
     slots: &Slots<Entries>,
@@ -291,9 +278,16 @@ fn store_by(
     slots.kind();
     let mut call = begin!(slots, stepper, key, budget, 0);
     call.at.law();
-    match call.prepare(wanted, true) {
-        Err(refusal) => (Err(refusal), call.used),
-        Ok(Prepared::Answered(there)) => (Ok(there), call.used),
-        Ok(Prepared::Ready(hand)) => (call.store_with(value, wanted, hand), call.used),
+    let hand = match call.prepare(wanted, true) {
+        Ok(Prepared::Ready(hand)) => hand,
+        Ok(Prepared::Answered(there)) => return (Ok(there), call.used),
+        Err(refusal) => return (Err(refusal), call.used),
+    };
+    match call.store_held(value, wanted, true, hand) {
+        Ok(there) => (Ok(there), call.used),
+        Err((back, why)) => {
+            give_back(&mut call.at, back);
+            (why.answer(), call.used)
+        }
     }
 }

@@ -6,7 +6,7 @@ ghost use Rattle.vbr_words.specs.Buckets.{bucket_of, mixed, multiplier_of, shift
 ghost use Rattle.vbr_words.specs.Dimensions.{IsShape};
 ghost use Rattle.vbr_words.specs.Shapes.{last_epoch_for, shape_error};
 ghost use Rattle.vbr_words.specs.Packing.{max_epoch, slot_bits};
-ghost use Rattle.vbr_words.specs.declared.link.TheConstants.{MAX_SLOTS, MAX_VERSION, SLOT_BITS};
+ghost use Rattle.vbr_words.specs.declared.link.TheConstants.{MAX_SLOTS, SLOT_BITS};
 
 use crate::link::{Layout, MAX_SLOTS};
 use std::error::Error;

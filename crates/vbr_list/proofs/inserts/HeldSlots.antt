@@ -24,7 +24,7 @@ use Rattle.vbr_at_table.specs.hands.Hands.{HandView, IsHandOf}
 use Rattle.vbr_at_table.specs.hands.KeptSlots.{TakesNoSlot}
 use Rattle.vbr_at_table.specs.answers.Records.{PublishesSlot}
 use Rattle.vbr_at_table.specs.costs.StepKinds.{flags_tried, is_try}
-use Rattle.vbr_list.specs.updates.Holding.{PublishedSlot}
+use Rattle.vbr_list.specs.updates.Settling.{PublishedSlot}
 
 -- ---- no flag is tried
 

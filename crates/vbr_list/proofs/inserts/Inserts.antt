@@ -3,11 +3,12 @@ use Rattle.vbr_list.proofs.Names.{◌≡◌, ◌+◌, ◌<◌, ◌≤◌, ℕ, B
 use Rattle.vbr_list.proofs.Names.{arith, in_need_before}
 use Rattle.vbr_list.proofs.Names.{AtTable, Ghosts, had_then, HandView, HasUnpublished, IsAlone, IsSameTable, longer}
 use Rattle.vbr_list.proofs.Names.{Made, needed_before, NoSlot, PassLaw, Quiet, quiet_on, Refusal, same_on, shared_on}
-use Rattle.vbr_list.proofs.Names.{shares_more, slots_kept_on, steps_to_update, steps_to_value, TableView, TookWithin}
+use Rattle.vbr_list.proofs.Names.{None, shares_more, slots_kept_on, steps_to_update, steps_to_value, TableView}
+use Rattle.vbr_list.proofs.Names.{TakesNoSlot, TookWithin}
 use Rattle.vbr_list.specs.calls.Budgets.{LacksSteps, enough_to_insert, listed_for}
 use Rattle.vbr_list.specs.traversals.Disturbed.{disturbed, enough_to_insert_among, insert_costs_among, steps_for_slot}
 use Rattle.vbr_list.specs.traversals.Disturbed.{steps_to_prepare}
-use Rattle.vbr_list.specs.updates.Inserting.{CountsWithin, InsertIsShort, Links, Prepares, SearchedFor, SearchesFor}
+use Rattle.vbr_list.specs.updates.Inserting.{CountsWithin, Prepares, SearchedFor, SearchesFor}
 use Rattle.vbr_list.specs.updates.Inserting.{TriesFor}
 use Rattle.vbr_list.specs.declared.wanted.Wanted.TheVariants.{Absent}
 use Rattle.vbr_list.specs.calls.Pieces.{GoesOn, IsSameCall, pass_in, trace_in}
@@ -23,14 +24,21 @@ use Rattle.vbr_list.proofs.inserts.Linking.{IsLinking, begun, quiet_until}
 use Rattle.vbr_list.proofs.pieces.LonePasses.{each_alone}
 use Rattle.vbr_list.proofs.traversals.LostTraversals.{search_ends}
 use Rattle.vbr_list.proofs.traversals.Moments.{so_later}
-use Rattle.vbr_list.proofs.inserts.Preparing.{each_same, each_seen, each_since, refused_second, tries_before}
-use Rattle.vbr_list.proofs.inserts.Preparing.{within_all}
+use Rattle.vbr_list.proofs.inserts.Preparing.{InsertIsShort, each_same, each_seen, each_since, refused_second}
+use Rattle.vbr_list.proofs.inserts.Preparing.{tries_before, within_all}
 use Rattle.vbr_list.proofs.inserts.Preparing.{within_most, within_on}
 use Rattle.vbr_list.proofs.inserts.Sufficing.{answered_or_spent, each_error, lacks, lone_costs, lone_lacks}
 use Rattle.vbr_list.proofs.inserts.Sufficing.{never_refused}
 use Rattle.vbr_list.proofs.inserts.Sufficing.{slot_later}
 use Rattle.vbr_list.proofs.pieces.Told.{stored_same, told_since}
 use Rattle.vbr_list.proofs.traversals.Searching.{insert_lacks, twice_paid}
+
+-- the pieces that link it: the steps are within the budget, it takes no slot, and the hand is empty then
+pub record Links {N : Type 0} {kind : Ghosts N} (c d : PendingCall N kind) : Type 0 where
+  pub call : IsSameCall c d
+  pub counts : CountsWithin (trace_in c) (trace_in d) c.used d.used c.budget
+  pub takes_no_slot : TakesNoSlot (pass_in c) (pass_in d)
+  pub spent : (pass_in d).hand ≡ None
 
 -- the pass made the insert of this value with this reply
 abbrev pub MadeInsert : {N : Type 0} {kind : Ghosts N} → ℕ → PendingCall N kind → PendingCall N kind → Bool → Type 0

@@ -1,10 +1,10 @@
 -- With a slot in hand, search follows search until the call is answered or its budget has no room.
-use Rattle.vbr_list.proofs.Names.{◌≡◌, ℕ, ◌+◌, ◌≤◌, Bool, false, Option, None, Some, sym, ◌∙◌}
+use Rattle.vbr_list.proofs.Names.{◌≡◌, ℕ, ◌+◌, ◌≤◌, Bool, Option, None, Some, sym}
 use Rattle.vbr_list.proofs.Names.{subst, arith, Bor, option_copied}
-use Rattle.vbr_list.proofs.Names.{CountsSteps, Ghosts, had_back, had_grown, had_on, HandView, HasStill, Held, IsGap}
-use Rattle.vbr_list.proofs.Names.{IsSucc, KeepsIn, Know, knows, none_back, none_on, PassLaw, PassView, PutsBack}
-use Rattle.vbr_list.proofs.Names.{Quiet, quiet_on, TakesNoSlot, Took, Trace}
-use Rattle.vbr_list.specs.updates.Inserting.{CountsWithin, AnswersNone, HasHandAndRoom, Links}
+use Rattle.vbr_list.proofs.Names.{CountsSteps, Ghosts, had_grown, had_on, HandView, HasStill, Held}
+use Rattle.vbr_list.proofs.Names.{IsSucc, Know, knows, none_on, PassLaw}
+use Rattle.vbr_list.proofs.Names.{Quiet, quiet_on, TakesNoSlot, Took}
+use Rattle.vbr_list.specs.updates.Inserting.{CountsWithin, HasHandAndRoom}
 use Rattle.vbr_list.specs.calls.Pieces.{GoesOn, IsSameCall, pass_in, trace_in}
 use Rattle.vbr_list.specs.traversals.Places.{IsCur, IsEnd, Locates}
 use Rattle.vbr_list.specs.traversals.Traversing.{SearchFinds, LocatesFor}
@@ -12,10 +12,8 @@ use Rattle.vbr_list.specs.traversals.Searching.{LosesFound}
 use Rattle.vbr_list.specs.declared.call.PendingCall.{PendingCall}
 use Rattle.vbr_list.specs.declared.found.Found.{Found}
 use Rattle.vbr_list.proofs.pieces.Going.{call_on, counts_step, within_call}
-use Rattle.vbr_list.proofs.pieces.KeptHands.{own_kept}
 use Rattle.vbr_list.proofs.traversals.LostTraversals.{search_lost}
-use Rattle.vbr_list.proofs.traversals.Moments.{stands_before}
-use Rattle.vbr_list.proofs.inserts.Preparing.{within_on, within_same}
+use Rattle.vbr_list.proofs.inserts.Preparing.{within_on}
 use Rattle.vbr_list.proofs.stores.Stores.{hand_kept}
 use Rattle.vbr_list.proofs.traversals.Searching.{HasRepeated}
 
@@ -65,20 +63,6 @@ module _ {N : Type 0} {kind : Ghosts N} {each : ℕ} {b c d : PendingCall N kind
   pub has_until : HasHandAndRoom (pass_in d) hand
   has_until = hand_kept hand went.goes.hand so.4
 
-  pub has_denied : {q : PassView} → KeepsIn (pass_in d) q 1 → HasHandAndRoom q hand
-  has_denied keeps = hand_kept hand (own_kept keeps.own keeps.takes_no_slot) has_until
-
-  -- a piece that leaves no slot in hand
-  pub links_then : {e : PendingCall N kind} → TakesOn d e → (pass_in e).hand ≡ None → Links b e
-  links_then x spent =
-      let same = call_on begun x.call in
-      record {
-        call = same;
-        counts = within_on counts_until x.counts x.more (within_call same);
-        takes_no_slot = none_on none_until x.takes_no_slot;
-        spent = spent;
-      }
-
 -- a search whose place was lost: the slot is in hand again
 pub lost_then : {N : Type 0} {kind : Ghosts N} → (each : ℕ) → {b c d e : PendingCall N kind} {hand back : HandView} →
     PassLaw (pass_in b) → IsLinking (3 + each) b c hand → GoesOn c d → TakesOn d e → e.used ≤ d.used + each →
@@ -96,48 +80,6 @@ lost_then each {b} {c} {d} {e} law so went x few quiet has had found finds loses
       search_lost law so.0 so.1 went each e so.6 found finds quiet x.takes_no_slot.count few loses,
     )
 
--- ---- an answer no, and the end of the budget
-
--- the answer was lost: the slot is in hand again
-pub denied_then : {N : Type 0} {kind : Ghosts N} → (each : ℕ) → 1 ≤ each →
-    {b c d e : PendingCall N kind} {hand : HandView} → PassLaw (pass_in b) → IsLinking (3 + each) b c hand →
-    GoesOn c d → IsSameCall d e → e.used ≡ d.used + 1 → KeepsIn (pass_in d) (pass_in e) 1 → (found : Found) →
-    SearchFinds c d found → AnswersNone d e found → IsLinking (3 + each) b e hand
-denied_then each one {d = d} {e = e} law so went same used keeps found finds lost =
-    lost_then each law so went (takes_on 1 same used keeps.took keeps.takes_no_slot) (omega (arith, used, one))
-    lost.quiet
-    (has_denied so went keeps)
-    (had_grown (pass_in d) (pass_in e) keeps.takes_no_slot.grows keeps.own.hand) found finds lost.loses
-
--- one step, and the hand is given back
-pub takes_back : {N : Type 0} {kind : Ghosts N} {c d : PendingCall N kind} {q : PassView} (slot : ℕ) → IsSameCall c d →
-    d.used ≡ c.used + 1 → KeepsIn (pass_in c) q 1 → PutsBack q (pass_in d) slot → TakesOn c d
-takes_back {c = c} {d = d} {q = q} slot same used keeps back =
-    let P : Trace → Type 0 = λ t. Took (trace_in c) t 1 in
-    takes_on 1 same used (subst P (sym back.trace) keeps.took)
-    (none_on keeps.takes_no_slot (none_back q (pass_in d) slot back.trace back.pool back.kept))
-
--- the hand is given back, after pieces that kept it
-module _ {N : Type 0} {kind : Ghosts N} {each : ℕ} {b c d : PendingCall N kind} {hand : HandView}
-    (so : IsLinking each b c hand) (went : GoesOn c d) where
-  -- for want of steps
-  pub had_tired : {r : PassView} → PutsBack (pass_in d) r hand.slot → HasStill (pass_in b) r
-  had_tired {r} back =
-      had_on (pass_in b) (pass_in d) r (had_until so went)
-      (had_back (pass_in d) r hand.slot (went.goes.hand.hand ∙ so.4.is.slot) back.pool)
-
-  pub links_tired : {e : PendingCall N kind} → IsSameCall d e → e.used ≡ d.used →
-      PutsBack (pass_in d) (pass_in e) hand.slot → Links b e
-  links_tired {e} same used back =
-      let P : ℕ → Type 0 = λ used. CountsWithin (trace_in b) (trace_in e) b.used used b.budget in
-      record {
-        call = call_on (begun so went) same;
-        counts = subst P (sym used) (within_same back.trace (counts_until so went));
-        takes_no_slot =
-            none_on (none_until so went) (none_back (pass_in d) (pass_in e) hand.slot back.trace back.pool back.kept);
-        spent = back.hand;
-      }
-
 -- ---- what was found
 
 -- it tells where the key stands, after the search too
@@ -146,19 +88,6 @@ pub located : {N : Type 0} {kind : Ghosts N} {c d : PendingCall N kind} → Goes
 located {d = d} went found finds =
     let P : ℕ → Type 0 = λ key. Locates (trace_in d).start (knows (trace_in d)) key found in
     subst P (sym went.call.key) finds.found.locates
-
--- an absent key would stand behind the place
-pub gap_found : {N : Type 0} {kind : Ghosts N} {c d : PendingCall N kind} → GoesOn c d → (found : Found) →
-    SearchFinds c d found → found.present ≡ false → IsGap (trace_in d) d.key found.pred
-gap_found {d = d} went found finds absent =
-    let x = located went found finds in
-    let P : Bool → Type 0 = IsEnd (knows (trace_in d)) d.key found.pred found.cur in
-    record {
-      held = x.pred.held;
-      unmarked = x.pred.unmarked;
-      behind = x.pred.behind;
-      before = stands_before (knows (trace_in d)) d.key found.pred found.cur (subst P absent x.end);
-    }
 
 -- what was lent of the node behind, if there is one, is the place's successor
 pub succ_found : (know : Know) (key : ℕ) (pred : Held) (lent : Option (Bor Held)) (cur : Option Held) (present : Bool) →

@@ -8,7 +8,7 @@ use Rattle.vbr_list.proofs.Names.{OutOfSteps, PassView, Quiet, Refusal, set_call
 use Rattle.vbr_list.proofs.Names.{slots_kept_on, some_grown, Start, TakesNoSlot, took_all, TookWithin, Trace}
 use Rattle.vbr_list.proofs.Names.{TriesNoFlag, TriesOnlyWhere, TriesWhereEmpty}
 use Rattle.vbr_machine.specs.declared.history.Call.{Call as ListedCall}
-use Rattle.vbr_list.specs.updates.Inserting.{CountsWithin, InsertIsShort, InsertShowsSpent, Prepares, TakesNone}
+use Rattle.vbr_list.specs.updates.Inserting.{CountsWithin, InsertShowsSpent, Prepares, RunsShort, TakesNone}
 use Rattle.vbr_list.specs.updates.Wanted.{WasWantedFor}
 use Rattle.vbr_list.specs.declared.wanted.Wanted.TheVariants.{Absent}
 use Rattle.vbr_list.specs.calls.Pieces.{GoesOn, IsSameCall, pass_in, trace_in}
@@ -16,6 +16,13 @@ use Rattle.vbr_list.specs.calls.Refusals.{IsRefusedInsert}
 use Rattle.vbr_list.specs.declared.call.PendingCall.{PendingCall}
 use Rattle.vbr_list.proofs.pieces.Going.{call_on, counts_step, within_call}
 
+-- a refusal for want of steps, and no other
+abbrev pub InsertIsShort : PassView → PassView → ℕ → ℕ → Refusal → Type 0
+InsertIsShort p q before budget (OutOfSteps used) = RunsShort p.trace q.trace before used budget
+InsertIsShort p q before budget NoSlot = ⊥
+InsertIsShort p q before budget (EpochSpent epoch) = ⊥
+
+-- more steps after those that are within the budget
 pub within_on : {p q r : Trace} {a b c budget : ℕ} → CountsWithin p q a b budget → CountsSteps q r b c → b ≤ c →
     c ≤ budget → CountsWithin p r a c budget
 within_on x y low high = record { counts = counts_on x.counts y; within = (let u = x.within.0 in omega arith, high) }

@@ -9,7 +9,8 @@ use Rattle.vbr_list.specs.calls.Budgets.{enough_to_search}
 use Rattle.vbr_list.specs.calls.Budgets.{insert_costs, listed_for}
 use Rattle.vbr_list.specs.traversals.Disturbed.{disturbed, enough_among, enough_to_insert_among, enough_to_search_among}
 use Rattle.vbr_list.specs.traversals.Disturbed.{insert_costs_among, steps_for_slot}
-use Rattle.vbr_list.specs.updates.Inserting.{InsertIsShort, TakesNone}
+use Rattle.vbr_list.specs.updates.Inserting.{TakesNone}
+use Rattle.vbr_list.proofs.inserts.Preparing.{InsertIsShort}
 use Rattle.vbr_list.specs.calls.Pieces.{GoesOn, pass_in, trace_in}
 use Rattle.vbr_list.specs.declared.call.PendingCall.{PendingCall}
 use Rattle.vbr_list.proofs.traversals.Disturbing.{undisturbed}

@@ -1,6 +1,6 @@
 -- Pieces one after another: they make no call, their steps add up, and the slot in hand stays.
 use Rattle.vbr_list.proofs.Names.{◌≡◌, ℕ, ◌+◌, ◌≤◌, Result, Ok, Err, refl, sym, ap, ◌∙◌, subst, arith, inl, inr, ◌⊎◌}
-use Rattle.vbr_list.proofs.Names.{IfErr, IfOk}
+use Rattle.vbr_list.proofs.Names.{IfOk}
 use Rattle.vbr_list.proofs.Names.{AtTable, counts_none, counts_on, CountsSteps, Dimensions, Ghosts, IsOf, IsSame}
 use Rattle.vbr_list.proofs.Names.{IsSameTable, Keeps, KeepsIn, KeepsOwn, Know, LeavesRoom, PassView, PIECE, Quiet}
 use Rattle.vbr_list.proofs.Names.{quiet_on, quiet_refl, ReadsIn, Start, TableView, TakesNoSlot, Took, took_all}
@@ -112,11 +112,6 @@ within_call {c} {d} x = let u = d.within in let e = x.budget in omega (arith, u,
 pub ok_as : {T E : Type 0} {P Q : T → Type 0} (x : Result T E) → ((value : T) → P value → Q value) → IfOk x P → IfOk x Q
 ok_as (Ok value) f p = f value p
 ok_as (Err error) f p = tt
-
-pub err_as : {T E : Type 0} {P Q : E → Type 0} (x : Result T E) → ((error : E) → P error → Q error) → IfErr x P →
-    IfErr x Q
-err_as (Ok value) f p = tt
-err_as (Err error) f p = f error p
 
 -- what is known stays where nothing is done
 pub keeps_still : (know : Know) → Keeps know know

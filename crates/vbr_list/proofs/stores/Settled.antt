@@ -1,109 +1,180 @@
--- What a store returns once it has read what was there, seen from before that.
-use Rattle.vbr_list.proofs.Names.{◌≡◌, ℕ, ◌+◌, ◌≤◌, Bool, true, false, List, Option, None, inl, inr, arith, sym, ◌∙◌}
-use Rattle.vbr_list.proofs.Names.{subst}
-use Rattle.vbr_list.proofs.Names.{AddsNone, Call, counts_on, Ghosts, IsStart, Keeps, knows, none_on, PassLaw, PIECE}
-use Rattle.vbr_list.proofs.Names.{Quiet}
+-- What a store's change returns once what was there was read, seen from before that.
+use Rattle.vbr_list.proofs.Names.{◌≡◌, ℕ, ◌+◌, ◌≤◌, Bool, true, false, Option, Some, None, inl, inr, arith, subst, ap}
+use Rattle.vbr_list.proofs.Names.{refl}
+use Rattle.vbr_list.proofs.Names.{counts_on, Ghosts, had_grown, had_on, HandView, HasStill, Keeps, Know, knows, Made}
+use Rattle.vbr_list.proofs.Names.{none_on, PassLaw, PIECE}
+use Rattle.vbr_list.proofs.Names.{quiet_on, ReadsIn, same_on, steps_to_update}
+use Rattle.vbr_at_table.specs.answers.Records.{PublishesSlot}
+use Rattle.vbr_list.specs.calls.Budgets.{steps_where}
 use Rattle.vbr_list.specs.traversals.Leaving.{LeavesReplaced}
-use Rattle.vbr_list.specs.calls.Pieces.{GoesOn, pass_in, trace_in}
+use Rattle.vbr_list.specs.calls.Pieces.{GoesOn, IsSameCall, pass_in, trace_in}
 use Rattle.vbr_list.specs.updates.Removing.{MarksAndSearches}
-use Rattle.vbr_list.specs.updates.Settling.{MaySettle, SettlesIn, SettlesSoon, StoreAnswers, StoresAndLeaves}
-use Rattle.vbr_list.specs.updates.Storing.{Makes, stored_calls}
-use Rattle.vbr_list.specs.look_ups.Telling.{TellsThere}
-use Rattle.vbr_list.specs.updates.Wanted.{wants}
+use Rattle.vbr_list.specs.updates.Settling.{LeavesInHand, LinksNode, MaySettle, SettlesIn, SettlesSoon}
+use Rattle.vbr_list.specs.updates.Settling.{StoresByHand, had_node}
+use Rattle.vbr_list.specs.updates.Storing.{Makes, storing_calls}
+use Rattle.vbr_list.specs.look_ups.Telling.{IsThere}
+use Rattle.vbr_list.specs.calls.Told.{stored_in}
 use Rattle.vbr_list.specs.declared.call.PendingCall.{PendingCall}
 use Rattle.vbr_list.specs.declared.found.Found.{Found}
-use Rattle.vbr_list.specs.declared.wanted.Wanted.{Wanted}
 use Rattle.vbr_list.proofs.traversals.Disturbing.{run_at}
+use Rattle.vbr_list.proofs.look_ups.FoundValues.{few_where, read_goes}
+use Rattle.vbr_list.proofs.look_ups.ReadFirst.{found_lost_since}
+use Rattle.vbr_list.proofs.named_entries.Publishing.{published_since}
 use Rattle.vbr_list.proofs.pieces.Going.{call_on}
+use Rattle.vbr_list.proofs.pieces.Told.{stored_same, told_since}
 use Rattle.vbr_list.proofs.removes.Marks.{marks_later}
-use Rattle.vbr_list.proofs.stores.Stores.{makes_on, replaced_not, replaced_where, stored_where, told_where}
+use Rattle.vbr_list.proofs.stores.Stores.{makes_on, unless_since}
 use Rattle.vbr_list.proofs.traversals.Sweeping.{leaves_replaced_since}
 
--- what stays of the call
-pub settles_after : {N : Type 0} {kind : Ghosts N} {c d e : PendingCall N kind} → GoesOn c d → MaySettle d e →
-    MaySettle c e
-settles_after went x = record {
-  call = call_on went.call x.call;
-  counts = counts_on went.goes.counts x.counts;
-  more = (let low = went.more in let more = x.more in omega (arith, low, more));
-  takes_no_slot = none_on went.goes.hand.takes_no_slot x.takes_no_slot;
-}
+-- the slot in hand was published: by an insert where the key was absent, else in the place of a node
+abbrev pub Changes : {N : Type 0} {kind : Ghosts N} → ℕ → ℕ → PendingCall N kind → PendingCall N kind → HandView →
+    Found → Option ℕ → Type 0
+Changes most value c d hand found None = LinksNode value c d hand
+Changes most value c d hand found (Some old) = StoresByHand most value c d hand found (Some old)
 
--- ---- the answer
+-- the steps of a change that is lost
+abbrev pub steps_to_lose : Option ℕ → ℕ
+steps_to_lose None = 4
+steps_to_lose (Some old) = 6
 
--- the value was stored, as what was there is as it is wanted
-pub change_answers : {N : Type 0} {kind : Ghosts N} (c d : PendingCall N kind) (value : ℕ) (wanted : Wanted)
-    (there : Option ℕ) → wants wanted there ≡ true → StoresAndLeaves value c d there →
-    StoreAnswers value wanted c d there
-change_answers c d value wanted there is x =
-    let M : List Call → Type 0 = λ calls. Makes calls (trace_in c) (trace_in d) in
-    record {
-      made = subst M (sym (stored_where (trace_in c).who c.key value wanted there is)) x.stores.made;
-      spent = x.stores.spent;
-      leaves = λ yes room. x.leaves (sym (replaced_where wanted there is) ∙ yes) room;
-    }
+-- the steps of what was read and lost, by whether the call gives what was there
+abbrev pub each_lost : Bool → ℕ
+each_lost true = 8
+each_lost false = 4
 
--- a get was answered, as it isn't
-pub told_answers : {N : Type 0} {kind : Ghosts N} (c d : PendingCall N kind) (value : ℕ) (wanted : Wanted)
-    (there : Option ℕ) → wants wanted there ≡ false → TellsThere c d there → (pass_in d).hand ≡ None →
-    StoreAnswers value wanted c d there
-told_answers c d value wanted there is told spent =
-    let M : List Call → Type 0 = λ calls. Makes calls (trace_in c) (trace_in d) in
-    let none = replaced_not wanted there is in
-    record {
-      made = subst M (sym (told_where (trace_in c).who c.key value wanted there is)) told;
-      spent = spent;
-      leaves = λ yes room. absurd (cc);
-    }
+lost_few : (gives present : Bool) (there : Option ℕ) → (gives ≡ false → there ≡ None) →
+    (had_node there ≡ false → present ≡ false) → steps_where present + steps_to_lose there ≤ each_lost gives
+lost_few true present None none absent = let few = few_where present in omega (arith, few)
+lost_few true present (Some old) none absent = let few = few_where present in omega (arith, few)
+lost_few false present None none absent = rw (absent refl) (omega arith)
+lost_few false present (Some old) none absent = absurd (let z : Some old ≡ None = none refl in cc)
 
--- after what made no call
-pub answers_since : {N : Type 0} {kind : Ghosts N} (b c d : PendingCall N kind) (value : ℕ) (wanted : Wanted)
-    (there : Option ℕ) → c.key ≡ b.key → IsStart (trace_in b).start → Quiet (trace_in b) (trace_in c) →
-    StoreAnswers value wanted c d there → StoreAnswers value wanted b d there
-answers_since b c d value wanted there key start quiet x =
-    let p = trace_in b in
-    let q = trace_in c in
-    let r = trace_in d in
-    let K : ℕ → Type 0 = λ k. Makes (stored_calls q.who k value wanted there) p r in
-    let W : ℕ → Type 0 = λ who. Makes (stored_calls who b.key value wanted there) p r in
-    let L : ℕ → Type 0 = λ k. LeavesReplaced q r k in
-    record {
-      made = subst W quiet.same.who
-          (subst K key (makes_on p q r (stored_calls q.who c.key value wanted there) quiet x.made));
-      spent = x.spent;
-      leaves = λ yes room. leaves_replaced_since r b.key start quiet (subst L key (x.leaves yes room));
-    }
+-- an absent key has no node there
+none_there : (know : Know) (found : Found) (there : Option ℕ) → IsThere know found there →
+    had_node there ≡ false → found.present ≡ false
+none_there know found None x none = x
+none_there know found (Some old) x none = absurd (let z : true ≡ false = none in cc)
 
--- ---- what it cost
-
-module _ {N : Type 0} {kind : Ghosts N} (b c d : PendingCall N kind) (found : Found) (law : PassLaw (pass_in b))
-    (went : GoesOn b c) (few : c.used ≤ b.used + 2) (none : AddsNone (trace_in b) (trace_in c))
+module _ {N : Type 0} {kind : Ghosts N} (b c d : PendingCall N kind) (found : Found)
+    (law : PassLaw (pass_in b)) (call : IsSameCall b c) (used : c.used ≡ b.used + steps_where found.present)
+    (read : ReadsIn (pass_in b) (pass_in c) (steps_where found.present))
     (keeps : Keeps (knows (trace_in b)) (knows (trace_in c))) where
-  soon_since : (stored : Bool) → SettlesSoon 6 stored c d → SettlesSoon PIECE stored b d
-  soon_since stored soon = record {
-    few = let then = soon.few in omega (arith, then, few);
-    leaves = λ yes room.
-        let budget = went.call.budget in
-        let L : ℕ → Type 0 = λ k. LeavesReplaced (trace_in c) (trace_in d) k in
-        leaves_replaced_since (trace_in d) b.key law.start went.goes.quiet
-        (subst L went.call.key (soon.leaves yes (omega (arith, room, few, budget))));
+  went : GoesOn b c
+  went = read_goes (steps_where found.present) call used read
+
+  still : HasStill (pass_in b) (pass_in c)
+  still = had_grown (pass_in b) (pass_in c) went.goes.hand.takes_no_slot.grows went.goes.hand.hand
+
+  -- what stays of the call
+  pub settles_since : MaySettle c d → MaySettle b d
+  settles_since x = record {
+    call = call_on call x.call;
+    counts = counts_on went.goes.counts x.counts;
+    more = (let low = went.more in let more = x.more in omega (arith, low, more));
+    takes_no_slot = none_on went.goes.hand.takes_no_slot x.takes_no_slot;
   }
 
-  -- with the steps of reading
-  pub settles_since : (stored : Bool) → SettlesIn 6 stored c d found → SettlesIn PIECE stored b d found
-  settles_since false soon = soon_since false soon
-  settles_since true (inl soon) = inl (soon_since true soon)
-  settles_since true (inr late) =
+  soon_since : (stored : Bool) → SettlesSoon 6 stored c d → SettlesSoon PIECE stored b d
+  soon_since stored soon = record {
+    few = let then = soon.few in let few = few_where found.present in omega (arith, then, used, few);
+    leaves = λ yes room.
+        let budget = call.budget in
+        let few = few_where found.present in
+        let L : ℕ → Type 0 = λ k. LeavesReplaced (trace_in c) (trace_in d) k in
+        leaves_replaced_since (trace_in d) b.key law.start read.quiet
+        (subst L call.key (soon.leaves yes (omega (arith, room, used, few, budget))));
+  }
+
+  -- what it cost
+  paid_since : (stored : Bool) → SettlesIn 6 stored c d found → SettlesIn PIECE stored b d found
+  paid_since false soon = soon_since false soon
+  paid_since true (inl soon) = inl (soon_since true soon)
+  paid_since true (inr late) =
       let M : ℕ → Type 0 = λ k. MarksAndSearches 6 (trace_in c) (trace_in d) k c.used d.used found.pred in
-      let x : MarksAndSearches 6 (trace_in c) (trace_in d) b.key c.used d.used found.pred =
-      subst M went.call.key late in
-      let quiet = went.goes.quiet in
+      let x : MarksAndSearches 6 (trace_in c) (trace_in d) b.key c.used d.used found.pred = subst M call.key late in
+      let quiet = read.quiet in
+      let few = few_where found.present in
       inr (record {
         marked = x.marked;
         marks = marks_later (trace_in b) (trace_in c) x.marked b.key found.pred law.start
-            (run_at (trace_in b) (trace_in c) quiet.same (quiet.is_run law.is_run)) quiet none keeps.epoch
+            (run_at (trace_in b) (trace_in c) quiet.same (quiet.is_run law.is_run)) quiet read.adds_none
+            keeps.epoch
             went.goes.hand.takes_no_slot.count x.marks;
         used = x.used;
-        few = let then = x.few in omega (arith, then, few);
+        few = let then = x.few in omega (arith, then, used, few);
         searches = x.searches;
       })
+
+  -- the value is stored in the place of another
+  pub stores_since : (value old : ℕ) (hand : HandView) → StoresByHand 6 value c d hand found (Some old) →
+      StoresByHand PIECE value b d hand found (Some old)
+  stores_since value old hand x =
+      let p = trace_in b in
+      let q = trace_in c in
+      let r = trace_in d in
+      let quiet = read.quiet in
+      let K : ℕ → Type 0 = λ k. Makes (storing_calls q.who k value (Some old)) p r in
+      let W : ℕ → Type 0 = λ who. Makes (storing_calls who b.key value (Some old)) p r in
+      let S : ℕ → Type 0 = λ k. PublishesSlot p x.slot.ended hand.slot hand.birth k in
+      let L : ℕ → Type 0 = LeavesReplaced q r in
+      record {
+        stores = record {
+          made = subst W quiet.same.who
+              (subst K call.key (makes_on p q r (storing_calls q.who c.key value (Some old)) quiet x.stores.made));
+          spent = x.stores.spent;
+        };
+        slot = record {
+          ended = x.slot.ended;
+          same = same_on quiet.same x.slot.same;
+          to = x.slot.to;
+          published = subst S call.key (published_since quiet x.slot.published);
+        };
+        had = unless_since true (pass_in b) (pass_in c) (pass_in d) still x.had;
+        leaves = λ yes room.
+            leaves_replaced_since r b.key law.start quiet (subst L call.key (x.leaves yes room));
+        paid = paid_since true x.paid;
+      }
+
+  -- or it is inserted
+  linked_since : (value : ℕ) (hand : HandView) → found.present ≡ false → LinksNode value c d hand →
+      LinksNode value b d hand
+  linked_since value hand absent x =
+      let p = trace_in b in
+      let q = trace_in c in
+      let r = trace_in d in
+      let quiet = read.quiet in
+      let K : ℕ → Type 0 = λ k. Made (stored_in q k value true) q r in
+      let S : ℕ → Type 0 = λ k. PublishesSlot p r hand.slot hand.birth k in
+      let none = ap steps_where absent in
+      let few = x.few in
+      let start = ap steps_to_update quiet.same.start in
+      record {
+        made = told_since quiet (stored_same quiet.same b.key value true) (subst K call.key x.made);
+        spent = x.spent;
+        slot = subst S call.key (published_since quiet x.slot);
+        had = unless_since true (pass_in b) (pass_in c) (pass_in d) still x.had;
+        few = omega (arith, used, none, few, start);
+      }
+
+  pub changes_since : (value : ℕ) (hand : HandView) (there : Option ℕ) → IsThere (knows (trace_in c)) found there →
+      Changes 6 value c d hand found there → Changes PIECE value b d hand found there
+  changes_since value hand None absent x = linked_since value hand absent x
+  changes_since value hand (Some old) there x = stores_since value old hand x
+
+  -- or neither, as what was found is lost
+  pub leaves_since : (gives : Bool) (hand back : HandView) (there : Option ℕ) → (gives ≡ false → there ≡ None) →
+      IsThere (knows (trace_in c)) found there → LeavesInHand (steps_to_lose there) c d found hand back →
+      LeavesInHand (each_lost gives) b d found hand back
+  leaves_since gives hand back there none is x =
+      let few = lost_few gives found.present there none (none_there (knows (trace_in c)) found there is) in
+      let more = x.few in
+      record {
+        given = record {
+          quiet = quiet_on read.quiet x.given.quiet;
+          hand = x.given.hand;
+          loses = found_lost_since found law read keeps x.given.loses;
+        };
+        same = x.same;
+        had = had_on (pass_in b) (pass_in c) (pass_in d) still x.had;
+        few = omega (arith, used, few, more);
+      }

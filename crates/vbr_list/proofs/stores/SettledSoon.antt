@@ -1,33 +1,40 @@
 -- What a call with a slot in hand costs that stores a value, seen from before its searches.
-use Rattle.vbr_list.proofs.Names.{◌≡◌, ◌<◌, ◌≤◌, ℕ, ◌+◌, Bool, true, false, Option, subst, inl, inr, arith}
+use Rattle.vbr_list.proofs.Names.{◌≡◌, ◌<◌, ◌≤◌, ℕ, ◌+◌, Bool, true, false, Option, subst, inl, inr, arith, ◌∙◌}
 use Rattle.vbr_list.proofs.Names.{begins_refl, Call, Ghosts, HandView, Insert, MadeTwo, PassLaw, PIECE, refl, Remove}
-use Rattle.vbr_list.proofs.Names.{None, same_on, Some, Trace}
+use Rattle.vbr_list.proofs.Names.{had_grown, HasStill, None, Quiet, same_on, Some, Trace}
 use Rattle.vbr_at_table.specs.answers.Records.{PublishesSlot}
-use Rattle.vbr_list.specs.updates.Holding.{FindsOtherEntry, StoresByHand, StoresHeld, TiresStoring}
+use Rattle.vbr_list.specs.updates.HeldStores.{AnswersOther}
+use Rattle.vbr_list.specs.updates.Holding.{FindsOtherEntry, StoresHeld, TiresStoring}
 use Rattle.vbr_list.specs.named_entries.OtherEntries.{WasOther}
 use Rattle.vbr_list.specs.traversals.Leaving.{LeavesReplaced}
 use Rattle.vbr_list.specs.calls.Pieces.{GoesOn, IsSameCall, pass_in, trace_in}
 use Rattle.vbr_list.specs.updates.Removing.{MarksAndSearches}
-use Rattle.vbr_list.specs.updates.Settling.{AnswersIn, MaySettle, SearchesWith, SettlesIn, SettlesSoon, StoredIn}
-use Rattle.vbr_list.specs.updates.Settling.{StoredSoon}
-use Rattle.vbr_list.specs.updates.Settling.{had_node}
+use Rattle.vbr_list.specs.updates.Preparing.{Asks, TellsOther}
+use Rattle.vbr_list.specs.updates.Settling.{LeavesInHand, MaySettle, SearchesWith, SettlesIn, SettlesSoon, StoredIn}
+use Rattle.vbr_list.specs.updates.Settling.{StoredSoon, StoresByHand, had_node}
 use Rattle.vbr_list.specs.updates.Storing.{Makes, storing_calls}
 use Rattle.vbr_list.specs.traversals.Traversing.{LastTraversal, SearchFinds, SearchTires}
-use Rattle.vbr_list.specs.traversals.Searching.{TraversesAgain}
+use Rattle.vbr_list.specs.traversals.Searching.{LosesFound, TraversesAgain}
 use Rattle.vbr_list.specs.declared.call.PendingCall.{PendingCall}
 use Rattle.vbr_list.specs.declared.found.Found.{Found}
+use Rattle.vbr_list.specs.declared.wanted.Wanted.{Wanted}
 use Rattle.vbr_list.specs.calls.Told.{given_call, stored_call}
 use Rattle.vbr_list.specs.declared.entries.Entry.{Entry}
 use Rattle.vbr_list.proofs.traversals.Disturbing.{run_at}
 use Rattle.vbr_list.proofs.inserts.HeldCosts.{costs_after, lacks_after, stored_costs, stored_leaves}
 use Rattle.vbr_list.proofs.stores.LateSearches.{late_searched}
-use Rattle.vbr_list.proofs.inserts.Linking.{begun, counts_until, IsLinking, quiet_until, TakesOn}
+use Rattle.vbr_list.proofs.inserts.Linking.{begun, counts_until, has_until, IsLinking, lost_then, quiet_until}
+use Rattle.vbr_list.proofs.inserts.Linking.{TakesOn}
+use Rattle.vbr_list.proofs.look_ups.FoundValues.{otherwise_since}
 use Rattle.vbr_list.proofs.named_entries.Publishing.{published_since}
-use Rattle.vbr_list.proofs.stores.Stores.{are_alone, has_made, HasMade, makes_on, searches_with_end}
+use Rattle.vbr_list.proofs.stores.Stores.{are_alone, hand_kept, has_made, HasMade, makes_on, searches_with_end}
 use Rattle.vbr_list.proofs.traversals.Sweeping.{leaves_replaced_since}
 
-abbrev pub AnswersSoon : {N : Type 0} {kind : Ghosts N} → Bool → PendingCall N kind → PendingCall N kind → Type 0
+abbrev AnswersSoon : {N : Type 0} {kind : Ghosts N} → Bool → PendingCall N kind → PendingCall N kind → Type 0
 AnswersSoon stored c d = StoredSoon stored (trace_in c) (trace_in d) c.key c.used d.used c.budget
+
+abbrev AnswersIn : {N : Type 0} {kind : Ghosts N} → Bool → PendingCall N kind → PendingCall N kind → Type 0
+AnswersIn stored c d = StoredIn stored (trace_in c) (trace_in d) c.key c.used d.used c.budget
 
 -- one more search, and what came then
 pub searches_with : {N : Type 0} {kind : Ghosts N} {b c d : PendingCall N kind} {hand : HandView} →
@@ -87,7 +94,14 @@ takes_settled x =
       takes_no_slot = x.takes_no_slot;
     }
 
--- ---- by a slot in hand that the caller holds
+-- a piece that asks, and what slots the pass has then
+pub takes_asked : {N : Type 0} {kind : Ghosts N} {c d : PendingCall N kind} → Asks c d → TakesOn c d
+takes_asked x = record { call = x.call; counts = x.counts; more = x.more; takes_no_slot = x.hand.takes_no_slot }
+
+pub had_asked : {N : Type 0} {kind : Ghosts N} {c d : PendingCall N kind} → Asks c d → HasStill (pass_in c) (pass_in d)
+had_asked {c = c} {d = d} x = had_grown (pass_in c) (pass_in d) x.hand.takes_no_slot.grows x.hand.hand
+
+-- ---- by a slot in hand
 
 -- two calls where a node was replaced
 held_two : (p r : Trace) (who key value : ℕ) (there : Option ℕ) → Makes (storing_calls who key value there) p r →
@@ -101,7 +115,7 @@ held_two p r who key value (Some old) made had =
 pub held_stores : {N : Type 0} {kind : Ghosts N} (b c d e : PendingCall N kind) {hand first : HandView}
     (law : PassLaw (pass_in b)) (so : IsLinking 11 b c hand) (went : GoesOn c d) (found : Found)
     (finds : SearchFinds c d found) → IsSameCall d e → (value : ℕ) (there : Option ℕ) → hand ≡ first →
-    StoresByHand value d e hand found there →
+    StoresByHand PIECE value d e hand found there →
     StoresHeld (pass_in b) (pass_in e) b.key value b.used e.used b.budget first there
 held_stores b c d e {hand} {first} law so went found finds call value there is x =
     let p = trace_in b in
@@ -117,16 +131,16 @@ held_stores b c d e {hand} {first} law so went found finds call value there is x
     let L : ℕ → Type 0 = LeavesReplaced q r in
     let made : Makes (storing_calls p.who b.key value there) p r =
     subst W quiet.same.who
-    (subst K same.key (makes_on p q r (storing_calls q.who d.key value there) quiet x.stores.stores.made)) in
+    (subst K same.key (makes_on p q r (storing_calls q.who d.key value there) quiet x.stores.made)) in
     let has = has_made p r (storing_calls p.who b.key value there) made in
     let ok = run_at p r has.same has.is_run in
     let paid : StoredIn (had_node there) p r b.key b.used e.used b.budget =
     answers_then b c d e law so went found finds
-    (has_made q r (storing_calls q.who d.key value there) x.stores.stores.made) (had_node there) x.paid in
+    (has_made q r (storing_calls q.who d.key value there) x.stores.made) (had_node there) x.paid in
     record {
       made = made;
       alone = are_alone p r (storing_calls p.who b.key value there) law.start law.low made;
-      spent = x.stores.stores.spent;
+      spent = x.stores.spent;
       slot = record {
         ended = x.slot.ended;
         same = same_on quiet.same x.slot.same;
@@ -137,11 +151,49 @@ held_stores b c d e {hand} {first} law so went found finds call value there is x
           let kept = call.budget in
           let before = same.budget in
           leaves_replaced_since r b.key law.start quiet
-          (subst L same.key (x.stores.leaves yes (omega (arith, room, kept, before))));
+          (subst L same.key (x.leaves yes (omega (arith, room, kept, before))));
       leaves_alone = stored_leaves (had_node there) p r law.start ok b.key b.used e.used b.budget paid;
       paid = paid;
       costs = stored_costs (had_node there) p r law.start ok b.key b.used e.used b.budget
           (held_two p r p.who b.key value there made) paid;
+    }
+
+-- what was asked, or read, was lost: the slot is in hand still
+pub held_asked : {N : Type 0} {kind : Ghosts N} (each : ℕ) → 3 ≤ each → {b c d e : PendingCall N kind}
+    {hand : HandView} (law : PassLaw (pass_in b)) (so : IsLinking (3 + each) b c hand) (went : GoesOn c d) → Asks d e →
+    Quiet (trace_in d) (trace_in e) → (found : Found) → SearchFinds c d found →
+    LosesFound (trace_in d) (trace_in e) found → IsLinking (3 + each) b e hand
+held_asked each three {d = d} {e = e} {hand = hand} law so went asks quiet found finds loses =
+    let few = asks.few in
+    lost_then each law so went (takes_asked asks) (omega (arith, few, three)) quiet
+    (hand_kept hand asks.hand (has_until so went)) (had_asked asks) found finds loses
+
+-- what was to be stored wasn't: it is in hand again
+pub held_lost : {N : Type 0} {kind : Ghosts N} (each : ℕ) {b c d e : PendingCall N kind} {hand back first : HandView}
+    (law : PassLaw (pass_in b)) (so : IsLinking (3 + each) b c hand) (went : GoesOn c d) (found : Found) →
+    SearchFinds c d found → hand ≡ first → MaySettle d e → LeavesInHand each d e found hand back →
+    IsLinking (3 + each) b e back × (back ≡ first)
+held_lost each law so went found finds is settles x = (
+  lost_then each law so went (takes_settled settles) x.few x.given.quiet x.given.hand x.had found finds x.given.loses,
+  x.same ∙ is,
+)
+
+-- a get was answered with what was there, which isn't as wanted
+pub held_told : {N : Type 0} {kind : Ghosts N} {b c d e : PendingCall N kind} {hand : HandView}
+    (law : PassLaw (pass_in b)) (so : IsLinking 11 b c hand) (went : GoesOn c d) → Asks d e → (found : Found) →
+    SearchFinds c d found → (wanted : Wanted) (there : Option ℕ) → TellsOther true wanted d e there →
+    AnswersOther wanted b e there
+held_told {b = b} {c = c} {d = d} {e = e} law so went asks found finds wanted there tells =
+    let few = asks.few in
+    let told = tells.told in
+    record {
+      tells = record {
+        told = otherwise_since true b d e there (begun so went).key (quiet_until so went) told;
+        is_not = tells.is_not;
+      };
+      paid = soon_then b c d e law so went found finds
+          (record { same = told.same; seen = told.seen; is_run = told.is_run }) false
+          (record { few = omega (arith, few); leaves = λ yes room. absurd (cc) });
     }
 
 -- there are no steps left

@@ -1,6 +1,6 @@
 -- The calls of a store, its slots and its steps, and what its refusals say.
 use Rattle.vbr_list.proofs.Names.{◌≡◌, ◌≢◌, ℕ, ◌+◌, ◌*◌, ◌<◌, ◌≤◌, Bool, true, false, List, [], ◌∷◌, ◌++◌, Option, Some}
-use Rattle.vbr_list.proofs.Names.{None, Result, Ok, Err, sym, ap, refl, ◌∙◌, arith, mul-le, subst, IfErr, if◌then◌else◌}
+use Rattle.vbr_list.proofs.Names.{None, Result, sym, ap, refl, ◌∙◌, arith, mul-le, subst, IfErr, if◌then◌else◌}
 use Rattle.vbr_list.proofs.Names.{Begins, birth_in_hand, Call, counts_on, EpochSpent, Get, grows_same, had_grown}
 use Rattle.vbr_list.proofs.Names.{HandView, HasAllButOne, HasStill, IsAlone, IsRun, IsSame, IsStart, made_by, MadeTwo}
 use Rattle.vbr_list.proofs.Names.{made_on, most_to_take, NoSlot, OutOfSteps, PassView, Quiet, Refusal}
@@ -8,17 +8,18 @@ use Rattle.vbr_list.proofs.Names.{Remove, took_all, TookWithin, Trace, two_on}
 use Rattle.vbr_list.specs.calls.LoneReplies.{AreAnsweredAlone}
 use Rattle.vbr_list.specs.calls.Budgets.{IsAnsweredOrSpent, LacksSteps, enough_to_store, listed_for, store_costs}
 use Rattle.vbr_list.specs.traversals.Disturbed.{disturbed, enough_to_store_among, steps_to_prepare, store_costs_among}
-use Rattle.vbr_list.specs.updates.Inserting.{CountsWithin, HasHandAndRoom, InsertIsShort, SearchedFor, SearchesInVain}
+use Rattle.vbr_list.specs.updates.Inserting.{CountsWithin, HasHandAndRoom, SearchedFor, SearchesInVain}
 use Rattle.vbr_list.specs.updates.Inserting.{TakesNone}
 use Rattle.vbr_list.specs.calls.Pieces.{KeepsHand}
 use Rattle.vbr_list.specs.updates.Settling.{SearchesWith, had_node}
-use Rattle.vbr_list.specs.updates.Storing.{HasUnlessStored, HasUnstored, IsRefusedStore, Makes, replaced, stored_calls}
+use Rattle.vbr_list.specs.updates.Storing.{HasUnlessStored, IsRefusedStore, Makes, replaced, stored_calls}
 use Rattle.vbr_list.specs.updates.Storing.{storing_calls}
 use Rattle.vbr_list.specs.calls.Told.{given_call, stored_call}
 use Rattle.vbr_list.specs.traversals.Searching.{TraversesAgain}
 use Rattle.vbr_list.specs.updates.Wanted.{WasWantedFor, steps_to_compare, wants}
 use Rattle.vbr_list.specs.declared.wanted.Wanted.{Wanted}
 use Rattle.vbr_list.proofs.pieces.LonePasses.{alone_all}
+use Rattle.vbr_list.proofs.inserts.Preparing.{InsertIsShort}
 use Rattle.vbr_list.proofs.inserts.Sufficing.{lacks_more, lone, took_more}
 use Rattle.vbr_list.proofs.traversals.Searching.{HasRepeated, once_paid, searches_until, vain_lacks}
 
@@ -119,11 +120,6 @@ pub unless_since : (stored : Bool) (p q r : PassView) → HasStill p q → HasUn
     HasUnlessStored stored p r
 unless_since true p q r first next = (next.0, λ slot has other. next.1 slot (first slot has) other)
 unless_since false p q r first next = λ slot has. next slot (first slot has)
-
-pub had_since : {E : Type 0} (wanted : Wanted) (p q r : PassView) (answer : Result (Option ℕ) E) → HasStill p q →
-    HasUnstored wanted q r answer → HasUnstored wanted p r answer
-had_since wanted p q r (Ok there) first next = unless_since (wants wanted there) p q r first next
-had_since wanted p q r (Err error) first next = λ slot has. next slot (first slot has)
 
 -- nothing was stored
 pub told_had : (wanted : Wanted) (there : Option ℕ) (p q : PassView) → wants wanted there ≡ false → HasStill p q →

@@ -1,5 +1,6 @@
 -- A store finds the key as it is wanted, or otherwise.
 use Rattle.vbr_list.proofs.Names.{◌≡◌, ℕ, ◌+◌, ◌≤◌, Bool, true, false, not, Option, Some, None, arith, refl, sym, subst}
+use Rattle.vbr_list.proofs.Names.{◌∙◌}
 use Rattle.vbr_list.proofs.Names.{nat_tests}
 use Rattle.vbr_list.proofs.Names.{At, Begins, EpochSpent, Ghosts, Held, held_kept, IsRun, IsSame, IsStart, Keeps, KeyAt}
 use Rattle.vbr_list.proofs.Names.{Know, knows, moment_before, NoSlot, OutOfSteps, Quiet, Refusal, stood_before, Trace}
@@ -10,14 +11,11 @@ use Rattle.vbr_list.specs.updates.Inserting.{SearchesFor, SearchesInVain}
 use Rattle.vbr_list.specs.traversals.Searching.{SearchesIn}
 use Rattle.vbr_list.specs.calls.Pieces.{GoesOn, trace_in}
 use Rattle.vbr_list.specs.traversals.Places.{IsCur, IsEnd}
-use Rattle.vbr_list.specs.updates.Preparing.{AsksMet, IsMet, Meeting, MeetsOther, MeetsWanted, ReadsWanted, TellsOther}
-use Rattle.vbr_list.specs.updates.Preparing.{has_wanted}
+use Rattle.vbr_list.specs.updates.Preparing.{Meeting, has_wanted}
 use Rattle.vbr_list.specs.look_ups.Telling.{IsFoundValue, IsThere}
 use Rattle.vbr_list.specs.updates.Wanted.{WasWanted, WasWantedFor, steps_to_compare, wants}
 use Rattle.vbr_list.specs.declared.call.PendingCall.{PendingCall}
 use Rattle.vbr_list.specs.declared.found.Found.{Found}
-use Rattle.vbr_list.specs.declared.preparing.Met.{Met}
-use Rattle.vbr_list.specs.declared.preparing.Met.TheVariants.{AsWanted, Otherwise}
 use Rattle.vbr_list.specs.declared.wanted.Wanted.{Wanted}
 use Rattle.vbr_list.specs.declared.wanted.Wanted.TheVariants.{Absent, Present, Anything, Value}
 use Rattle.vbr_list.proofs.look_ups.FoundValues.{few_where}
@@ -25,11 +23,6 @@ use Rattle.vbr_list.proofs.traversals.Moments.{key_known, later_moment, so_befor
 use Rattle.vbr_list.proofs.traversals.Reaching.{key_kept}
 
 -- ---- as it is wanted
-
--- what isn't absent is there
-pub is_there : (present : Bool) → not present ≡ false → present ≡ true
-is_there true other = refl
-is_there false other = absurd (cc)
 
 -- by its presence alone
 pub was_plain : (p q : Trace) (key : ℕ) (wanted : Wanted) (present : Bool) → has_wanted wanted present ≡ true →
@@ -54,6 +47,15 @@ known_value know found (Value value) None other is x = absurd (cc)
 known_value know found (Value value) (Some old) other is x =
     let same : value ≡ old = grind (arith, nat_tests) in
     (value, refl, rw (sym same) at x)
+
+-- so it was asked of a call that gives what was there
+pub asked_values : {V : Type 0} (know : Know) (gives : Bool) (wanted : Wanted) (found : Found) (there : Option ℕ) →
+    (gives ≡ true → V) → (gives ≡ false → wanted ≡ Absent) → has_wanted wanted found.present ≡ false →
+    wants wanted there ≡ true → IsThere know found there → V
+asked_values know true wanted found there values absent other is x = values refl
+asked_values know false wanted found there values absent other is x =
+    let one = known_value know found wanted there other is x in
+    absurd (let z : Value one.0 ≡ Absent = one.1 ∙ absent refl in cc)
 
 -- which took two steps
 pub compare_few : (know : Know) (found : Found) (wanted : Wanted) (there : Option ℕ) →
@@ -148,12 +150,3 @@ store_in_vain key budget steps all x (OutOfSteps used) short le =
     searches_more_steps (budget + 1) all (omega (arith, short, le)) x
 store_in_vain key budget steps all x NoSlot short le = tt
 store_in_vain key budget steps all x (EpochSpent epoch) short le = tt
-
--- what was asked tells how it was met
-pub met_as : {N : Type 0} {kind : Ghosts N} (gives : Bool) (c m d : PendingCall N kind) (wanted : Wanted)
-    (found : Found)
-    (met : Met) → ((there : Option ℕ) → ReadsWanted wanted m d found there → MeetsWanted wanted c d) →
-    ((there : Option ℕ) → TellsOther gives wanted m d there → MeetsOther gives wanted c d there) →
-    AsksMet gives wanted m d found met → IsMet gives wanted c d met
-met_as gives c m d wanted found AsWanted f g x = f x.0 x.1
-met_as gives c m d wanted found (Otherwise there) f g x = g there x

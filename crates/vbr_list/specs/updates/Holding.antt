@@ -1,9 +1,8 @@
 -- What an insert, a replacement and a put tell by a slot that the pass has in hand already.
-use Rattle.std.specs.Prelude.{◌≡◌, ℕ, ◌+◌, ◌<◌, ◌≤◌, Bool, true, false, Option, Some, None, Result, Ok, Err, IfOk, IfErr}
+use Rattle.std.specs.Prelude.{◌≡◌, ℕ, ◌+◌, ◌<◌, ◌≤◌, Bool, true, false, Option, Some, None, Result, IfOk, IfErr}
 use Rattle.vbr_words.specs.declared.nodes.Nodes.{Ghosts}
-use Rattle.vbr_machine.specs.Runs.{Begins}
 use Rattle.vbr_slots.specs.steps.Alone.{IsAlone}
-use Rattle.vbr_slots.specs.steps.Calls.{IsSame, Made, Quiet, Took}
+use Rattle.vbr_slots.specs.steps.Calls.{Made, Quiet, Took}
 use Rattle.vbr_slots.specs.views.Views.{PassView, Trace}
 use Rattle.vbr_at_table.specs.hands.Hands.{HandView}
 use Rattle.vbr_at_table.specs.hands.KeptSlots.{TakesNoSlot}
@@ -16,18 +15,13 @@ use Rattle.vbr_list.specs.traversals.Disturbed.{costs_in_hand_among, disturbed, 
 use Rattle.vbr_list.specs.named_entries.OtherEntries.{ReplacedEntry, WasOther}
 use Rattle.vbr_list.specs.updates.Inserting.{HasHandAndRoom, RunsShort, SearchedFor, SearchesFor}
 use Rattle.vbr_list.specs.calls.LoneReplies.{AreAnsweredAlone}
-use Rattle.vbr_list.specs.calls.Pieces.{pass_in, trace_in}
+use Rattle.vbr_list.specs.calls.Pieces.{pass_in}
 use Rattle.vbr_list.specs.traversals.Leaving.{LeavesReplaced}
-use Rattle.vbr_list.specs.updates.Replacing.{ReplacesFoundEntry}
-use Rattle.vbr_list.specs.updates.Settling.{SearchesWith, SettlesIn, SettlesNone, StoredIn, StoresAndLeaves, had_node}
+use Rattle.vbr_list.specs.updates.Settling.{PublishedSlot, SearchesWith, StoredIn, had_node}
 use Rattle.vbr_list.specs.updates.Storing.{Makes, storing_calls}
 use Rattle.vbr_list.specs.calls.Told.{stored_in}
-use Rattle.vbr_list.specs.traversals.Traversing.{LocatesFor}
-use Rattle.vbr_list.specs.declared.found.Found.{Found}
 use Rattle.vbr_list.specs.declared.call.PendingCall.{PendingCall}
 use Rattle.vbr_at_table.specs.declared.budget.TheConstants.{PIECE}
-use Rattle.vbr_at_table.specs.declared.refusal.Refusal.{Refusal}
-use Rattle.vbr_at_table.specs.declared.refusal.Refusal.TheVariants.{OutOfSteps as Short}
 use Rattle.vbr_list.specs.declared.entries.Entry.{Entry}
 use Rattle.vbr_list.specs.declared.holding.NotReplaced.{NotReplaced}
 use Rattle.vbr_list.specs.declared.holding.NotReplaced.TheVariants.{Other, OutOfSteps as Tired}
@@ -70,11 +64,6 @@ pub record TiresHeld (p q : Trace) (key before used budget : ℕ) : Type 0 where
   pub searches : SearchesFor p q key before (budget + 1) 11
   pub lacks : LacksInHand 7 p q key before budget
 
--- the answer of an insert whose slot wasn't published
-abbrev pub answer_unpublished : StillInHand → Result Bool Refusal
-answer_unpublished Present = Ok false
-answer_unpublished (OutOfSteps used) = Err (Short used)
-
 -- why the slot wasn't published: the insert was answered no, or there were no steps left
 abbrev pub SaysHeld : PassView → PassView → ℕ → ℕ → ℕ → ℕ → ℕ → StillInHand → Type 0
 SaysHeld p q key value before since budget Present = AnswersHeld p.trace q.trace key value before since false
@@ -94,13 +83,6 @@ pub record InsertsHeld {T : Type 0} (p q : PassView) (key value budget : ℕ) (h
   pub took : Took p.trace q.trace since
   pub published : IfOk answer (λ _. PublishesHeld p q key value 0 since hand)
   pub kept : IfErr answer (HoldsOn p q key value 0 since budget hand)
-
--- the slot in hand was published at a moment of what the pass did
-pub record PublishedSlot (p q : Trace) (slot birth key : ℕ) : Type 0 where
-  pub ended : Trace
-  pub same : IsSame p ended
-  pub to : Begins ended.seen q.seen
-  pub published : PublishesSlot p ended slot birth key
 
 -- ---- a value is stored by a slot in hand
 
@@ -179,33 +161,6 @@ pub record PutsHeld (p q : PassView) (key value budget : ℕ) (hand : HandView) 
 abbrev pub LinksHeld : {N : Type 0} {kind : Ghosts N} → ℕ → PendingCall N kind → PendingCall N kind → HandView → Type 0
 LinksHeld value c d hand = PublishesHeld (pass_in c) (pass_in d) c.key value c.used d.used hand
 
-abbrev pub KeepsHeld : {N : Type 0} {kind : Ghosts N} → ℕ → PendingCall N kind → PendingCall N kind → HandView → HandView × StillInHand → Type 0
-KeepsHeld value c d hand told = HoldsOn (pass_in c) (pass_in d) c.key value c.used d.used c.budget hand told
-
--- nodes have values, and the key was found present
-pub record FoundWithValue {N : Type 0} {kind : Ghosts N} (c : PendingCall N kind) (found : Found) : Type 0 where
-  pub values : (trace_in c).start.shape.values ≡ true
-  pub locates : LocatesFor c found
-  pub present : found.present ≡ true
-
--- a piece after a search published the slot in hand with the value, where this was there
-pub record StoresByHand {N : Type 0} {kind : Ghosts N} (value : ℕ) (c d : PendingCall N kind) (hand : HandView) (found : Found) (there : Option ℕ) : Type 0 where
-  pub stores : StoresAndLeaves value c d there
-  pub slot : PublishedSlot (trace_in c) (trace_in d) hand.slot hand.birth c.key
-  pub paid : SettlesIn PIECE (had_node there) c d found
-
--- in the place of the node that was found
-pub record ReplacesByHand {N : Type 0} {kind : Ghosts N} (value : ℕ) (c d : PendingCall N kind) (hand : HandView) (found : Found) (there : Option ℕ) : Type 0 where
-  pub old : ℕ
-  pub is : there ≡ Some old
-  pub stores : StoresByHand value c d hand found (Some old)
-  pub gone : ReplacesFoundEntry c d found old
-
--- it stored nothing, in so many steps at most, and the hand is as it was
-pub record LeavesInHand {N : Type 0} {kind : Ghosts N} (most : ℕ) (c d : PendingCall N kind) (found : Found) (hand back : HandView) : Type 0 where
-  pub settles : SettlesNone most c d found back
-  pub same : back ≡ hand
-
 abbrev pub ReplacesFor : {N : Type 0} {kind : Ghosts N} → ℕ → PendingCall N kind → PendingCall N kind → HandView → Entry → Type 0
 ReplacesFor value c d hand entry = TakesPlace (pass_in c) (pass_in d) c.key value c.used d.used c.budget hand entry
 
@@ -214,6 +169,3 @@ KeepsUnreplaced c d hand entry told = HoldsUnreplaced (pass_in c) (pass_in d) c.
 
 abbrev pub StoresFor : {N : Type 0} {kind : Ghosts N} → ℕ → PendingCall N kind → PendingCall N kind → HandView → Option ℕ → Type 0
 StoresFor value c d hand there = StoresHeld (pass_in c) (pass_in d) c.key value c.used d.used c.budget hand there
-
-abbrev pub KeepsUnput : {N : Type 0} {kind : Ghosts N} → PendingCall N kind → PendingCall N kind → HandView → HandView × ℕ → Type 0
-KeepsUnput c d hand told = HoldsUnput (pass_in c) (pass_in d) c.key c.used c.budget hand told

@@ -12,7 +12,7 @@ use Rattle.vbr_at_table.specs.costs.Advances.{AdvancesWhereNeeded}
 use Rattle.vbr_at_table.specs.costs.Budgets.{steps_to_take_among}
 use Rattle.vbr_at_table.specs.costs.Gained.{gained}
 use Rattle.vbr_at_table.specs.hands.Hands.{HandView, IsHandOf}
-use Rattle.vbr_at_table.specs.hands.KeptSlots.{HasStill, KeepsSlots, SharesWhereFull, TakesNoSlot, TriesOnlyWhere, WinsInNeed}
+use Rattle.vbr_at_table.specs.hands.KeptSlots.{HasStill, KeepsSlots, SharesWhereFull, TriesOnlyWhere, WinsInNeed}
 use Rattle.vbr_at_table.specs.pools.Refusals.{HasNoSlot, IsSpent}
 use Rattle.vbr_at_table.specs.costs.WithinBudget.{CountsSteps}
 use Rattle.vbr_at_table.specs.declared.budget.TheConstants.{PIECE}
@@ -55,12 +55,6 @@ abbrev pub TakesNone : PassView → PassView → ℕ → ℕ → Refusal → Typ
 TakesNone p q before budget (OutOfSteps used) = RunsShort p.trace q.trace before used budget
 TakesNone p q before budget NoSlot = HasNoSlot p q
 TakesNone p q before budget (EpochSpent epoch) = InsertShowsSpent p q before budget epoch
-
--- a refusal for want of steps, and no other
-abbrev pub InsertIsShort : PassView → PassView → ℕ → ℕ → Refusal → Type 0
-InsertIsShort p q before budget (OutOfSteps used) = RunsShort p.trace q.trace before used budget
-InsertIsShort p q before budget NoSlot = ⊥
-InsertIsShort p q before budget (EpochSpent epoch) = ⊥
 
 -- ---- an answer no
 
@@ -129,10 +123,3 @@ pub record GivesHandBack {N : Type 0} {kind : Ghosts N} (c d : PendingCall N kin
   pub quiet : Quiet (trace_in c) (trace_in d)
   pub hand : HasHandAndRoom (pass_in d) back
   pub loses : LosesFound (trace_in c) (trace_in d) found
-
--- the pieces that link it: the steps are within the budget, it takes no slot, and the hand is empty then
-pub record Links {N : Type 0} {kind : Ghosts N} (c d : PendingCall N kind) : Type 0 where
-  pub call : IsSameCall c d
-  pub counts : CountsWithin (trace_in c) (trace_in d) c.used d.used c.budget
-  pub takes_no_slot : TakesNoSlot (pass_in c) (pass_in d)
-  pub spent : (pass_in d).hand ≡ None

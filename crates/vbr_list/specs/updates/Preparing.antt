@@ -1,19 +1,24 @@
 -- What an insert or a store does before it changes anything: it finds its key as it is wanted and takes a slot, or is answered. Only contracts of private functions cite this.
-use Rattle.std.specs.Prelude.{◌≡◌, ℕ, ◌+◌, ◌<◌, ◌≤◌, Bool, true, false, not, Option, None}
+use Rattle.std.specs.Prelude.{◌≡◌, ℕ, ◌+◌, ◌<◌, ◌≤◌, Bool, true, false, not, Option, None, Result, Ok, Err}
 use Rattle.vbr_words.specs.declared.nodes.Nodes.{Ghosts}
 use Rattle.vbr_machine.specs.History.{set_call}
 use Rattle.vbr_machine.specs.declared.history.Call.{Call}
 use Rattle.vbr_machine.specs.declared.history.Op.TheVariants.{Get, Insert}
 use Rattle.vbr_slots.specs.steps.Calls.{Made, Quiet}
+use Rattle.vbr_slots.specs.views.Views.{knows}
 use Rattle.vbr_at_table.specs.hands.Hands.{HandView}
 use Rattle.vbr_at_table.specs.costs.WithinBudget.{CountsSteps}
+use Rattle.vbr_at_table.specs.reads.KeptKnowledge.{Keeps}
+use Rattle.vbr_at_table.specs.reads.Reading.{ReadsIn}
 use Rattle.vbr_at_table.specs.declared.budget.TheConstants.{PIECE}
 use Rattle.vbr_at_table.specs.declared.refusal.Refusal.{Refusal}
+use Rattle.vbr_list.specs.calls.Budgets.{steps_where}
 use Rattle.vbr_list.specs.traversals.Disturbed.{steps_to_prepare}
 use Rattle.vbr_list.specs.updates.Inserting.{CountsWithin, HasHandAndRoom, SearchedFor, SearchesFor, SearchesInVain, TakesNone}
 use Rattle.vbr_list.specs.calls.Pieces.{IsSameCall, KeepsHand, pass_in, trace_in}
-use Rattle.vbr_list.specs.look_ups.Telling.{ReadsFound}
+use Rattle.vbr_list.specs.look_ups.Telling.{IsThere}
 use Rattle.vbr_list.specs.traversals.Searching.{LosesFound}
+use Rattle.vbr_list.specs.traversals.Traversing.{LocatesFor}
 use Rattle.vbr_list.specs.updates.Wanted.{WasWanted, WasWantedFor, steps_to_compare, wants}
 use Rattle.vbr_list.specs.declared.call.PendingCall.{PendingCall}
 use Rattle.vbr_list.specs.declared.found.Found.{Found}
@@ -48,12 +53,14 @@ pub record Asks {N : Type 0} {kind : Ghosts N} (c d : PendingCall N kind) : Type
   pub more : c.used ≤ d.used
   pub few : d.used ≤ c.used + 3
 
--- what was read is as it is wanted, and no call was made
+-- what was there was only read, and is as it is wanted
 pub record ReadsWanted {N : Type 0} {kind : Ghosts N} (wanted : Wanted) (c d : PendingCall N kind) (found : Found) (there : Option ℕ) : Type 0 where
-  pub quiet : Quiet (trace_in c) (trace_in d)
-  pub reads : ReadsFound c d found there
+  pub read : ReadsIn (pass_in c) (pass_in d) (steps_where found.present)
+  pub used : d.used ≡ c.used + steps_where found.present
+  pub keeps : Keeps (knows (trace_in c)) (knows (trace_in d))
+  pub locates : LocatesFor d found
+  pub known : IsThere (knows (trace_in d)) found there
   pub is : wants wanted there ≡ true
-  pub few : d.used ≤ c.used + steps_to_compare wanted
 
 -- the call that answers one which finds its key otherwise: a get of what was there; or, where nothing is given, an insert that is answered no
 abbrev pub told_otherwise : Bool → ℕ → ℕ → Option ℕ → Call
@@ -66,9 +73,9 @@ pub record TellsOther {N : Type 0} {kind : Ghosts N} (gives : Bool) (wanted : Wa
   pub is_not : wants wanted there ≡ false
 
 -- the one or the other
-abbrev pub AsksMet : {N : Type 0} {kind : Ghosts N} → Bool → Wanted → PendingCall N kind → PendingCall N kind → Found → Met → Type 0
-AsksMet gives wanted c d found AsWanted = (there : Option ℕ) × ReadsWanted wanted c d found there
-AsksMet gives wanted c d found (Otherwise there) = TellsOther gives wanted c d there
+abbrev pub AsksTold : {N : Type 0} {kind : Ghosts N} → Bool → Wanted → PendingCall N kind → PendingCall N kind → Found → Result (Option ℕ) (Option ℕ) → Type 0
+AsksTold gives wanted c d found (Ok there) = ReadsWanted wanted c d found there
+AsksTold gives wanted c d found (Err there) = TellsOther gives wanted c d there
 
 -- neither, in one step or more, as what was found is lost
 pub record AskLoses {N : Type 0} {kind : Ghosts N} (c d : PendingCall N kind) (found : Found) : Type 0 where

@@ -1,5 +1,5 @@
 -- The pieces of a replacement: a node that was found is replaced by the one in hand, and leaves its list. Only contracts of private functions cite this.
-use Rattle.std.specs.Prelude.{◌≡◌, ◌⊎◌, ℕ, ◌+◌, ◌<◌, ◌≤◌, true, Some, Result, Ok, Err}
+use Rattle.std.specs.Prelude.{◌≡◌, ◌⊎◌, ℕ, ◌+◌, ◌<◌, ◌≤◌, Some, Result, Ok, Err}
 use Rattle.vbr_words.specs.declared.nodes.Nodes.{Ghosts}
 use Rattle.vbr_words.specs.declared.place.At.TheVariants.{Slot}
 use Rattle.vbr_machine.specs.Removals.{ReplacedAt}
@@ -14,7 +14,7 @@ use Rattle.vbr_list.specs.named_entries.OtherEntries.{ReplacedEntry}
 use Rattle.vbr_list.specs.traversals.Leaving.{LeavesAt}
 use Rattle.vbr_list.specs.calls.Pieces.{HasRoomForPiece, IsSameCall, pass_in, trace_in}
 use Rattle.vbr_list.specs.updates.Removing.{IsMarkedFor, MarksBehind, SearchesOn}
-use Rattle.vbr_list.specs.updates.Settling.{SettlesIn, Stores, StoresAndLeaves}
+use Rattle.vbr_list.specs.updates.Settling.{Stores, StoresByHand}
 use Rattle.vbr_list.specs.look_ups.Telling.{KnowsThere}
 use Rattle.vbr_list.specs.declared.call.PendingCall.{PendingCall}
 use Rattle.vbr_list.specs.declared.found.Found.{Found}
@@ -49,13 +49,13 @@ abbrev pub PublishesOrKeeps : {N A : Type 0} {kind : Ghosts N} → PendingCall N
 PublishesOrKeeps c d hand (Ok answer) = PublishesSlot (trace_in c) (trace_in d) hand.slot hand.birth c.key
 PublishesOrKeeps c d hand (Err back) = back ≡ hand
 
--- so it is, and the replaced node has left its list, unless the budget has no room for one more piece
-abbrev pub ReplacesAndLeaves : {N : Type 0} {kind : Ghosts N} → ℕ → PendingCall N kind → PendingCall N kind → Found → Type 0
-ReplacesAndLeaves value c d found = (old : ℕ) → KnowsThere c found (Some old) → StoresAndLeaves value c d (Some old)
+-- so it is with the value, and the node that was found, whose value was read, was an entry until then
+pub record ReplacesRead {N : Type 0} {kind : Ghosts N} (value : ℕ) (c d : PendingCall N kind) (hand : HandView) (found : Found) (old : ℕ) : Type 0 where
+  pub stores : StoresByHand 6 value c d hand found (Some old)
+  pub entry : ReplacesFoundEntry c d found old
 
--- and it is paid as a change of a node that was there
-abbrev pub ReplacesPaid : {N : Type 0} {kind : Ghosts N} → PendingCall N kind → PendingCall N kind → Found → Type 0
-ReplacesPaid c d found = SettlesIn 6 true c d found
+abbrev pub ReplacesByHand : {N : Type 0} {kind : Ghosts N} → ℕ → PendingCall N kind → PendingCall N kind → HandView → Found → Type 0
+ReplacesByHand value c d hand found = (old : ℕ) → KnowsThere c found (Some old) → ReplacesRead value c d hand found old
 
 -- the old node is unlinked in six steps at most, if the budget has room for a piece
 pub record UnlinksAtOnce {N : Type 0} {kind : Ghosts N} (c d : PendingCall N kind) (slot : ℕ) : Type 0 where

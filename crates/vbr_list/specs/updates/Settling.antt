@@ -1,31 +1,27 @@
--- The pieces of a store that has a slot in hand: it stores the value, or answers a get. Only contracts of private functions cite this, and those of calls with a slot in hand.
+-- The pieces of a store that has a slot in hand: the slot is published with the value, or stays in hand. Only contracts of private functions cite this, and those of calls with a slot in hand.
 use Rattle.std.specs.Prelude.{◌≡◌, ◌⊎◌, ℕ, ◌+◌, ◌*◌, ◌<◌, ◌≤◌, Bool, true, false, Option, Some, None}
 use Rattle.vbr_words.specs.declared.nodes.Nodes.{Ghosts}
 use Rattle.vbr_machine.specs.Runs.{Begins}
-use Rattle.vbr_slots.specs.steps.Calls.{Quiet}
+use Rattle.vbr_slots.specs.steps.Calls.{IsSame, Made, Quiet}
 use Rattle.vbr_slots.specs.views.Views.{Trace}
 use Rattle.vbr_at_table.specs.hands.Hands.{HandView}
-use Rattle.vbr_at_table.specs.hands.KeptSlots.{TakesNoSlot}
+use Rattle.vbr_at_table.specs.answers.Records.{PublishesSlot}
+use Rattle.vbr_at_table.specs.answers.Values.{steps_to_update}
+use Rattle.vbr_at_table.specs.hands.KeptSlots.{HasAllButOne, HasStill, TakesNoSlot}
 use Rattle.vbr_at_table.specs.costs.WithinBudget.{CountsSteps}
 use Rattle.vbr_at_table.specs.declared.budget.TheConstants.{PIECE}
 use Rattle.vbr_list.specs.traversals.Disturbed.{disturbed_after}
-use Rattle.vbr_list.specs.updates.Inserting.{GivesHandBack, HasHandAndRoom, InsertIsShort, Searches}
+use Rattle.vbr_list.specs.updates.Inserting.{GivesHandBack, Searches}
 use Rattle.vbr_list.specs.traversals.Leaving.{LeavesReplaced}
+use Rattle.vbr_list.specs.calls.Told.{stored_in}
 use Rattle.vbr_list.specs.calls.Pieces.{HasRoomForPiece, IsSameCall, pass_in, trace_in}
 use Rattle.vbr_list.specs.updates.Removing.{MarksAndSearches}
-use Rattle.vbr_list.specs.updates.Storing.{Makes, replaced, stored_calls, storing_calls}
+use Rattle.vbr_list.specs.updates.Storing.{Makes, storing_calls}
 use Rattle.vbr_list.specs.traversals.Searching.{met_since}
 use Rattle.vbr_list.specs.declared.call.PendingCall.{PendingCall}
 use Rattle.vbr_list.specs.declared.found.Found.{Found}
-use Rattle.vbr_list.specs.declared.wanted.Wanted.{Wanted}
-use Rattle.vbr_at_table.specs.declared.refusal.Refusal.{Refusal}
 
 -- ---- the value is stored
-
--- nodes have values, and the pass has a slot in hand
-pub record HasHandForValue {N : Type 0} {kind : Ghosts N} (c : PendingCall N kind) (given : HandView) : Type 0 where
-  pub values : (trace_in c).start.shape.values ≡ true
-  pub hand : HasHandAndRoom (pass_in c) given
 
 -- a piece that may have answered the call: its steps are counted, and it takes no slot
 pub record MaySettle {N : Type 0} {kind : Ghosts N} (c d : PendingCall N kind) : Type 0 where
@@ -44,20 +40,6 @@ abbrev pub had_node : Option ℕ → Bool
 had_node None = false
 had_node (Some old) = true
 
--- a node that was replaced has left its list, unless the budget has no room for one more piece
-abbrev pub LeavesIf : {N : Type 0} {kind : Ghosts N} → Bool → PendingCall N kind → PendingCall N kind → Type 0
-LeavesIf stored c d = stored ≡ true → HasRoomForPiece d → LeavesReplaced (trace_in c) (trace_in d) c.key
-
--- so it is, and the value is stored
-pub record StoresAndLeaves {N : Type 0} {kind : Ghosts N} (value : ℕ) (c d : PendingCall N kind) (there : Option ℕ) : Type 0 where
-  pub stores : Stores value c d there
-  pub leaves : LeavesIf (had_node there) c d
-
--- nothing was stored in so many steps at most, and the hand comes back
-pub record SettlesNone {N : Type 0} {kind : Ghosts N} (most : ℕ) (c d : PendingCall N kind) (found : Found) (back : HandView) : Type 0 where
-  pub given : GivesHandBack c d found back
-  pub few : d.used ≤ c.used + most
-
 -- it is answered in so many steps and six; with a piece more left of the budget than so many, a replaced node has then left its list
 pub record SettlesSoon {N : Type 0} {kind : Ghosts N} (most : ℕ) (stored : Bool) (c d : PendingCall N kind) : Type 0 where
   pub few : d.used ≤ c.used + most + 6
@@ -68,19 +50,35 @@ abbrev pub SettlesIn : {N : Type 0} {kind : Ghosts N} → ℕ → Bool → Pendi
 SettlesIn most false c d found = SettlesSoon most false c d
 SettlesIn most true c d found = SettlesSoon most true c d ⊎ MarksAndSearches most (trace_in c) (trace_in d) c.key c.used d.used found.pred
 
--- so it is once the value was read, by what was there
-abbrev pub ChangePaid : {N : Type 0} {kind : Ghosts N} → PendingCall N kind → PendingCall N kind → Found → Option ℕ → Type 0
-ChangePaid c d found there = SettlesIn 6 (had_node there) c d found
+-- the slot in hand was published at a moment of what the pass did
+pub record PublishedSlot (p q : Trace) (slot birth key : ℕ) : Type 0 where
+  pub ended : Trace
+  pub same : IsSame p ended
+  pub to : Begins ended.seen q.seen
+  pub published : PublishesSlot p ended slot birth key
 
--- and with the reading
-abbrev pub SettlesPaid : {N : Type 0} {kind : Ghosts N} → Wanted → PendingCall N kind → PendingCall N kind → Found → Option ℕ → Type 0
-SettlesPaid wanted c d found there = SettlesIn PIECE (replaced wanted there) c d found
-
--- the pass has made the calls of a store that found this there, and its hand is empty; a replaced node has left its list, unless the budget has no room for one more piece
-pub record StoreAnswers {N : Type 0} {kind : Ghosts N} (value : ℕ) (wanted : Wanted) (c d : PendingCall N kind) (there : Option ℕ) : Type 0 where
-  pub made : Makes (stored_calls (trace_in c).who c.key value wanted there) (trace_in c) (trace_in d)
+-- a new node was linked with the value where the key was absent: an insert, in the steps that one makes
+pub record LinksNode {N : Type 0} {kind : Ghosts N} (value : ℕ) (c d : PendingCall N kind) (hand : HandView) : Type 0 where
+  pub made : Made (stored_in (trace_in c) c.key value true) (trace_in c) (trace_in d)
   pub spent : (pass_in d).hand ≡ None
-  pub leaves : LeavesIf (replaced wanted there) c d
+  pub slot : PublishesSlot (trace_in c) (trace_in d) hand.slot hand.birth c.key
+  pub had : HasAllButOne (pass_in c) (pass_in d)
+  pub few : d.used ≤ c.used + steps_to_update (trace_in c).start
+
+-- the slot in hand was published with the value, where this was there; a node that was replaced has left its list, unless the budget has no room for one more piece
+pub record StoresByHand {N : Type 0} {kind : Ghosts N} (most value : ℕ) (c d : PendingCall N kind) (hand : HandView) (found : Found) (there : Option ℕ) : Type 0 where
+  pub stores : Stores value c d there
+  pub slot : PublishedSlot (trace_in c) (trace_in d) hand.slot hand.birth c.key
+  pub had : HasAllButOne (pass_in c) (pass_in d)
+  pub leaves : had_node there ≡ true → HasRoomForPiece d → LeavesReplaced (trace_in c) (trace_in d) c.key
+  pub paid : SettlesIn most (had_node there) c d found
+
+-- nothing was stored in so many steps at most, as what was found is lost, and the slot is in hand as it was
+pub record LeavesInHand {N : Type 0} {kind : Ghosts N} (most : ℕ) (c d : PendingCall N kind) (found : Found) (hand back : HandView) : Type 0 where
+  pub given : GivesHandBack c d found back
+  pub same : back ≡ hand
+  pub had : HasStill (pass_in c) (pass_in d)
+  pub few : d.used ≤ c.used + most
 
 -- ---- searches with a slot in hand
 
@@ -112,16 +110,3 @@ pub record AnswersLate (p q : Trace) (key before since : ℕ) : Type 0 where
 abbrev pub StoredIn : Bool → Trace → Trace → ℕ → ℕ → ℕ → ℕ → Type 0
 StoredIn false p q key before since budget = StoredSoon false p q key before since budget
 StoredIn true p q key before since budget = StoredSoon true p q key before since budget ⊎ AnswersLate p q key before since
-
-abbrev pub AnswersIn : {N : Type 0} {kind : Ghosts N} → Bool → PendingCall N kind → PendingCall N kind → Type 0
-AnswersIn stored c d = StoredIn stored (trace_in c) (trace_in d) c.key c.used d.used c.budget
-
--- so it is of a store, by what was there
-abbrev pub AnswersPaid : {N : Type 0} {kind : Ghosts N} → Wanted → PendingCall N kind → PendingCall N kind → Option ℕ → Type 0
-AnswersPaid wanted c d there = AnswersIn (replaced wanted there) c d
-
--- nothing is stored, for want of steps, and no call was made
-pub record StoresNone {N : Type 0} {kind : Ghosts N} (c d : PendingCall N kind) (refusal : Refusal) : Type 0 where
-  pub quiet : Quiet (trace_in c) (trace_in d)
-  pub says : InsertIsShort (pass_in c) (pass_in d) c.used c.budget refusal
-  pub searches : SearchesWith (trace_in c) (trace_in d) c.key c.used (c.budget + 1) 11

@@ -46,13 +46,6 @@ pub record AreLaid (shape : Dimensions) (word_at : Place → ℕ) (words : List 
   pub count : length words ≡ words_in shape
   pub each : (place : Place) → IsIn shape place → get_or words (index_of shape place) 0 ≡ word_at place
 
-below-same : {A : Type 0} (i : ℕ) (x y : A) → (if nat_lt i (i + 1) then x else y) ≡ x
-below-same i x y = grind (arith, nat_tests)
-
-below-other : {A : Type 0} (s i : ℕ) (x y : A) → s ≢ i →
-    (if nat_lt s i then x else y) ≡ (if nat_lt s (i + 1) then x else y)
-below-other s i x y other = grind (arith, nat_tests)
-
 below : {A : Type 0} (s n : ℕ) (x y : A) → s < n → (if nat_lt s n then x else y) ≡ x
 below s n x y low = grind (arith, nat_tests)
 

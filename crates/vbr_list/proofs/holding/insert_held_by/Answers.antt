@@ -1,20 +1,43 @@
-use Rattle.vbr_list.proofs.Names.{◌≡◌, rules, took_all}
+use Rattle.vbr_list.proofs.Names.{◌≡◌, rules, refl, took_all}
 use Rattle.vbr_list.proofs.inserts.Preparing.{within_all}
 use Rattle.vbr_list.proofs.holding.insert_held_by.Goals as goal
 
-pub returns-clause-took : goal.returns-clause-took
-returns-clause-took g c =
-    let same : c.stepper-1.given.0 ≡ c.link_held-outcome.new.self.at.stepper.now = search rules in
-    rw same (took_all c.link_held-outcome.ensures.counts.counts)
+pub store_held-requires-clause-asked : goal.store_held-requires-clause-asked
+store_held-requires-clause-asked g c = record { values = λ gives. absurd (cc); absent = λ gives. refl }
 
-pub returns-clause-inserts : goal.returns-clause-inserts
-returns-clause-inserts g c =
-    let same : c.stepper-1.given.0 ≡ c.link_held-outcome.new.self.at.stepper.now = search rules in
+pub returns-in-Ok-clause-took : goal.returns-in-Ok-clause-took
+returns-in-Ok-clause-took g c =
+    let same : c.stepper-1.given.0 ≡ c.store_held.new.self.at.stepper.now = search rules in
+    rw same (took_all c.store_held.ensures.counts.counts)
+
+pub returns-in-Ok-clause-inserts : goal.returns-in-Ok-clause-inserts
+returns-in-Ok-clause-inserts g c =
+    let same : c.stepper-1.given.0 ≡ c.store_held.new.self.at.stepper.now = search rules in
+    let x = c.store_held.ensures in
     rw same (record {
-      steps = within_all c.link_held-outcome.ensures.counts;
-      takes_no_slot = c.link_held-outcome.ensures.takes_no_slot;
-      since = c.link_held-outcome.new.self.used;
-      took = took_all c.link_held-outcome.ensures.counts.counts;
-      published = c.link_held-outcome.ensures.linked;
-      kept = c.link_held-outcome.ensures.kept;
+      steps = within_all x.counts;
+      takes_no_slot = x.takes_no_slot;
+      since = c.store_held.new.self.used;
+      took = took_all x.counts.counts;
+      published = c.in-Ok.ensures.stored;
+      kept = tt;
+    })
+
+pub returns-in-Err-clause-took : goal.returns-in-Err-clause-took
+returns-in-Err-clause-took g c =
+    let same : c.stepper-in-Err-1.given.0 ≡ c.store_held.new.self.at.stepper.now = search rules in
+    rw same (took_all c.store_held.ensures.counts.counts)
+
+pub returns-in-Err-clause-inserts : goal.returns-in-Err-clause-inserts
+returns-in-Err-clause-inserts g c =
+    let same : c.stepper-in-Err-1.given.0 ≡ c.store_held.new.self.at.stepper.now = search rules in
+    let x = c.store_held.ensures in
+    let kept = c.in-Err.ensures.kept in
+    rw (same, c.of_insert.ensures) (record {
+      steps = within_all x.counts;
+      takes_no_slot = x.takes_no_slot;
+      since = c.store_held.new.self.used;
+      took = took_all x.counts.counts;
+      published = tt;
+      kept = record { same = kept.same; has = kept.has; says = kept.says };
     })

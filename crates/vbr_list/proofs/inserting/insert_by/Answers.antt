@@ -7,17 +7,16 @@ use Rattle.vbr_list.specs.traversals.Disturbed.{disturbed, enough_to_insert_amon
 use Rattle.vbr_list.specs.traversals.Disturbed.{steps_to_prepare}
 use Rattle.vbr_list.proofs.traversals.Disturbing.{run_at}
 use Rattle.vbr_list.proofs.pieces.Going.{call_on}
-use Rattle.vbr_list.proofs.inserts.Inserts.{insert_linked, insert_unlinked, later, same_later}
+use Rattle.vbr_list.proofs.inserts.Inserts.{Links, insert_linked, insert_unlinked, later, same_later}
 use Rattle.vbr_list.proofs.inserts.Preparing.{refused_first, within_all, within_most, within_same}
 use Rattle.vbr_list.proofs.inserts.Sufficing.{had_no_slot, lacks_more}
 use Rattle.vbr_list.proofs.pieces.Told.{call_answered, told_as, told_bare}
 use Rattle.vbr_list.proofs.traversals.Searching.{once_paid, vain_lacks}
-use Rattle.vbr_list.specs.updates.Inserting.{Links}
 use Rattle.vbr_list.specs.updates.Preparing.{HasAnswered, HasPrepared}
 use Rattle.vbr_list.specs.declared.wanted.Wanted.TheVariants.{Absent}
 use Rattle.vbr_list.specs.calls.Pieces.{pass_in}
 use Rattle.vbr_list.proofs.inserts.HeldInserts.{had_answered, held_answered}
-use Rattle.vbr_list.specs.updates.Holding.{answer_unpublished}
+use Rattle.vbr_list.specs.updates.HeldStores.{answer_unlinked}
 use Rattle.vbr_list.proofs.inserting.insert_by.Goals as goal
 
 -- ---- before a slot is taken
@@ -74,58 +73,61 @@ returns-in-Ok-Answered-clause-calls g c =
 
 -- ---- with a slot in hand
 
+pub store_held-requires-clause-asked : goal.store_held-requires-clause-asked
+store_held-requires-clause-asked g c = record { values = λ gives. absurd (cc); absent = λ gives. refl }
+
 pub returns-in-Ok-clause-took : goal.returns-in-Ok-clause-took
 returns-in-Ok-clause-took g c =
-    let end : c.stepper-in-Ok-1.given.0 ≡ c.link_held.new.self.at.stepper.now = search rules in
-    rw end (took_all (counts_on c.prepare.ensures.prepares.counts.counts c.link_held.ensures.counts.counts))
+    let end : c.stepper-in-Ok-1.given.0 ≡ c.store_held.new.self.at.stepper.now = search rules in
+    rw end (took_all (counts_on c.prepare.ensures.prepares.counts.counts c.store_held.ensures.counts.counts))
 
 pub returns-in-Ok-clause-calls : goal.returns-in-Ok-clause-calls
 returns-in-Ok-clause-calls g c =
-    let same : c.stepper-in-Ok-1.given.0 ≡ c.link_held.new.self.at.stepper.now = search rules in
-    let x = c.link_held.ensures in
-    let done = c.in-Ok.ensures.linked in
+    let same : c.stepper-in-Ok-1.given.0 ≡ c.store_held.new.self.at.stepper.now = search rules in
+    let x = c.store_held.ensures in
+    let done = c.in-Ok.ensures.stored in
     let ready : HasPrepared Absent _ c.prepare.new.self c.in-Ok-Ready.hand =
     rw c.in-Ok-Ready.field-0-is at c.in-Ok-Ready.ensures.prepared in
-    let links : Links c.prepare.new.self c.link_held.new.self =
+    let links : Links c.prepare.new.self c.store_held.new.self =
     record { call = x.call; counts = x.counts; takes_no_slot = x.takes_no_slot; spent = done.spent } in
     rw same (insert_linked c.args.value (Ok true) c.law.ensures refl c.prepare.ensures.prepares c.prepare.ensures.tries
     ready.quiet ready.searched links (rw c.in-Ok.is at x.had)
     (record { made = done.answers.made; searched = done.answers.searched }) tt)
 
 pub give_back-requires-clause-hand : goal.give_back-requires-clause-hand
-give_back-requires-clause-hand g c = c.in-Err-link_held.ensures.kept.has.is
+give_back-requires-clause-hand g c = c.in-Err-store_held.ensures.kept.has.is
 
-pub returns-in-Err-link_held-clause-took : goal.returns-in-Err-link_held-clause-took
-returns-in-Err-link_held-clause-took g c =
-    let same : c.stepper-in-Err-link_held-1.given.0 ≡ c.give_back.new.at.stepper.now = search rules in
-    let counts = within_same c.give_back.ensures.back.trace c.link_held.ensures.counts in
+pub returns-in-Err-store_held-clause-took : goal.returns-in-Err-store_held-clause-took
+returns-in-Err-store_held-clause-took g c =
+    let same : c.stepper-in-Err-store_held-1.given.0 ≡ c.give_back.new.at.stepper.now = search rules in
+    let counts = within_same c.give_back.ensures.back.trace c.store_held.ensures.counts in
     rw same (took_all (counts_on c.prepare.ensures.prepares.counts.counts counts.counts))
 
-pub returns-in-Err-link_held-clause-calls : goal.returns-in-Err-link_held-clause-calls
-returns-in-Err-link_held-clause-calls g c =
-    let same : c.stepper-in-Err-link_held-1.given.0 ≡ c.give_back.new.at.stepper.now = search rules in
-    let x = c.link_held.ensures in
+pub returns-in-Err-store_held-clause-calls : goal.returns-in-Err-store_held-clause-calls
+returns-in-Err-store_held-clause-calls g c =
+    let same : c.stepper-in-Err-store_held-1.given.0 ≡ c.give_back.new.at.stepper.now = search rules in
+    let x = c.store_held.ensures in
     let b = c.prepare.new.self in
-    let d = c.link_held.new.self in
+    let d = c.store_held.new.self in
     let q = d.at.stepper.now in
     let back = c.give_back.ensures.back in
-    let kept = c.in-Err-link_held.ensures.kept in
+    let kept = c.in-Err-store_held.ensures.kept in
     let start = ap (λ (t : Trace). t.start) back.trace in
     let e = later d c.give_back.new.at d.used c.give_back.ensures.table start d.within in
     let once = same_later d c.give_back.new.at d.used c.give_back.ensures.table start d.within in
-    let slot = c.in-Err-link_held.back.slot in
-    let why = c.in-Err-link_held.why in
+    let slot = c.in-Err-store_held.back.slot in
+    let why = c.in-Err-store_held.why in
     let links : Links b e = record {
       call = call_on x.call once;
       counts = within_same back.trace x.counts;
       takes_no_slot = none_on x.takes_no_slot (none_back q (pass_in e) slot back.trace back.pool back.kept);
       spent = back.hand;
     } in
-    let had = had_on b.at.stepper.now q (pass_in e) (rw c.in-Err-link_held.is at x.had)
+    let had = had_on b.at.stepper.now q (pass_in e) (rw c.in-Err-store_held.is at x.had)
     (had_back q (pass_in e) slot kept.has.is.slot back.pool) in
-    let answered = held_answered b d e c.args.value (c.in-Err-link_held.back, why) kept back.trace refl in
+    let answered = held_answered b d e c.args.value Absent why kept.says back.trace refl in
     let ready : HasPrepared Absent _ c.prepare.new.self c.in-Ok-Ready.hand =
     rw c.in-Ok-Ready.field-0-is at c.in-Ok-Ready.ensures.prepared in
-    rw (same, c.answer.ensures) (insert_linked c.args.value (answer_unpublished why) c.law.ensures refl
+    rw (same, c.denied.ensures) (insert_linked c.args.value (answer_unlinked why) c.law.ensures refl
     c.prepare.ensures.prepares c.prepare.ensures.tries ready.quiet ready.searched links
     (had_answered b.at.stepper.now (pass_in e) why had) answered.0 answered.1)

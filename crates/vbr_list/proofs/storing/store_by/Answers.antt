@@ -1,31 +1,24 @@
-use Rattle.vbr_list.proofs.Names.{◌≡◌, true, List, Option, Err, ℕ, rules, sym, subst}
-use Rattle.vbr_list.proofs.Names.{Call, took_all}
+use Rattle.vbr_list.proofs.Names.{◌≡◌, true, List, Option, Err, ℕ, refl, rules, sym, subst}
+use Rattle.vbr_list.proofs.Names.{Call, counts_on, had_back, had_on, none_back, none_on, took_all}
 use Rattle.vbr_list.specs.calls.Budgets.{listed_for}
 use Rattle.vbr_list.specs.traversals.Disturbed.{steps_to_prepare}
 use Rattle.vbr_list.specs.updates.Preparing.{HasAnswered, HasPrepared}
 use Rattle.vbr_list.specs.updates.Storing.{Makes}
 use Rattle.vbr_list.specs.updates.Wanted.{steps_to_compare}
 use Rattle.vbr_list.proofs.traversals.Disturbing.{run_at}
-use Rattle.vbr_list.proofs.inserts.Preparing.{within_all, within_most, within_on}
+use Rattle.vbr_list.proofs.inserts.Preparing.{within_all, within_most, within_same}
 use Rattle.vbr_list.proofs.stores.Stores.{are_alone, replaced_not, store_lone, store_lone_costs, store_ready}
 use Rattle.vbr_list.proofs.stores.Stores.{store_refused_first, store_vain, told_had, told_paid, told_where}
-use Rattle.vbr_list.proofs.stores.StoredValues.{calls_with}
+use Rattle.vbr_list.proofs.stores.StoredValues.{calls_stored, calls_unstored}
 use Rattle.vbr_list.proofs.inserts.Sufficing.{had_no_slot}
 use Rattle.vbr_list.proofs.storing.store_by.Goals as goal
 
 pub prepare-requires-clause-asked : goal.prepare-requires-clause-asked
 prepare-requires-clause-asked c = record { values = λ gives. search rules; absent = λ gives. absurd (cc) }
 
-pub returns-in-Ok-Ready-clause-took : goal.returns-in-Ok-Ready-clause-took
-returns-in-Ok-Ready-clause-took c =
-    let same : c.stepper-in-Ok-Ready-1.given.0 ≡ c.store_with.new.self.at.stepper.now = search rules in
-    let counts = rw c.prepare.ensures.prepares.call.budget at c.store_with.ensures.links.counts in
-    rw same (took_all
-    (within_on c.prepare.ensures.prepares.counts counts.counts counts.within.0 counts.within.1).counts)
-
 pub returns-in-Err-clause-calls : goal.returns-in-Err-clause-calls
 returns-in-Err-clause-calls c =
-    let same : c.stepper-1.given.0 ≡ c.prepare.new.self.at.stepper.now = search rules in
+    let same : c.stepper-in-Err-1.given.0 ≡ c.prepare.new.self.at.stepper.now = search rules in
     let p = c.args.stepper.now in
     let q = c.prepare.new.self.at.stepper.now in
     let prepares = c.prepare.ensures.prepares in
@@ -66,7 +59,7 @@ returns-in-Err-clause-calls c =
 
 pub returns-in-Ok-Answered-clause-calls : goal.returns-in-Ok-Answered-clause-calls
 returns-in-Ok-Answered-clause-calls c =
-    let same : c.stepper-in-Ok-Answered-1.given.0 ≡ c.prepare.new.self.at.stepper.now = search rules in
+    let same : c.stepper-1.given.0 ≡ c.prepare.new.self.at.stepper.now = search rules in
     let prepares = c.prepare.ensures.prepares in
     let there = c.in-Ok-Answered.there in
     let x : HasAnswered true c.args.wanted _ c.prepare.new.self there =
@@ -107,15 +100,59 @@ returns-in-Ok-Answered-clause-calls c =
       };
     })
 
-pub returns-in-Ok-Ready-clause-calls : goal.returns-in-Ok-Ready-clause-calls
-returns-in-Ok-Ready-clause-calls c =
-    let same : c.stepper-in-Ok-Ready-1.given.0 ≡ c.store_with.new.self.at.stepper.now = search rules in
-    let prepares = c.prepare.ensures.prepares in
-    let x : HasPrepared c.args.wanted _ c.prepare.new.self c.in-Ok-Ready.hand =
+-- ---- with a slot in hand
+
+pub store_held-requires-clause-asked : goal.store_held-requires-clause-asked
+store_held-requires-clause-asked c =
+    let same = c.prepare.ensures.prepares.call in
+    record { values = λ gives. search rules; absent = λ gives. absurd (cc) }
+
+pub returns-in-Ok-clause-took : goal.returns-in-Ok-clause-took
+returns-in-Ok-clause-took c =
+    let end : c.stepper-in-Ok-1.given.0 ≡ c.store_held.new.self.at.stepper.now = search rules in
+    rw end (took_all (counts_on c.prepare.ensures.prepares.counts.counts c.store_held.ensures.counts.counts))
+
+pub returns-in-Ok-clause-calls : goal.returns-in-Ok-clause-calls
+returns-in-Ok-clause-calls c =
+    let same : c.stepper-in-Ok-1.given.0 ≡ c.store_held.new.self.at.stepper.now = search rules in
+    let d = c.prepare.new.self in
+    let e = c.store_held.new.self in
+    let x = c.store_held.ensures in
+    let stored = c.in-Ok.ensures.stored in
+    let ready : HasPrepared c.args.wanted _ d c.in-Ok-Ready.hand =
     rw c.in-Ok-Ready.field-0-is at c.in-Ok-Ready.ensures.prepared in
-    rw same (calls_with c.args.stepper.now c.prepare.new.self c.store_with.new.self c.args.key c.args.value
-    c.args.wanted c.args.budget c.law.ensures.start c.law.ensures.low c.law.ensures.is_run x.quiet prepares.advances
-    prepares.kept prepares.had prepares.shared c.prepare.ensures.tries prepares.wins prepares.counts
-    prepares.call.key prepares.call.budget
-    c.store_with.ensures.links x.searched c.store_with.result c.store_with.ensures.had c.store_with.ensures.answers
-    c.store_with.ensures.refused c.store_with.ensures.paid)
+    rw same (calls_stored _ d e.at.stepper.now c.args.value c.args.wanted e.used c.law.ensures refl
+    c.prepare.ensures.prepares c.prepare.ensures.tries ready (rw c.prepare.ensures.prepares.call.budget at x.counts)
+    x.takes_no_slot stored.stores.spent c.in-Ok-Ready.hand c.in-Ok.there stored.is (rw c.in-Ok.is at x.had)
+    stored.stores)
+
+pub give_back-requires-clause-hand : goal.give_back-requires-clause-hand
+give_back-requires-clause-hand c = c.in-Err-store_held.ensures.kept.has.is
+
+pub returns-in-Err-store_held-clause-took : goal.returns-in-Err-store_held-clause-took
+returns-in-Err-store_held-clause-took c =
+    let same : c.stepper-in-Err-store_held-1.given.0 ≡ c.give_back.new.at.stepper.now = search rules in
+    let counts = within_same c.give_back.ensures.back.trace c.store_held.ensures.counts in
+    rw same (took_all (counts_on c.prepare.ensures.prepares.counts.counts counts.counts))
+
+pub returns-in-Err-store_held-clause-calls : goal.returns-in-Err-store_held-clause-calls
+returns-in-Err-store_held-clause-calls c =
+    let same : c.stepper-in-Err-store_held-1.given.0 ≡ c.give_back.new.at.stepper.now = search rules in
+    let d = c.prepare.new.self in
+    let e = c.store_held.new.self in
+    let q = e.at.stepper.now in
+    let r = c.give_back.new.at.stepper.now in
+    let x = c.store_held.ensures in
+    let back = c.give_back.ensures.back in
+    let kept = c.in-Err-store_held.ensures.kept in
+    let why = c.in-Err-store_held.why in
+    let slot = c.in-Err-store_held.back.slot in
+    let ready : HasPrepared c.args.wanted _ d c.in-Ok-Ready.hand =
+    rw c.in-Ok-Ready.field-0-is at c.in-Ok-Ready.ensures.prepared in
+    let had = had_on d.at.stepper.now q r (rw c.in-Err-store_held.is at x.had)
+    (had_back q r slot kept.has.is.slot back.pool) in
+    rw (same, c.answer.ensures) (calls_unstored _ d r c.args.value c.args.wanted e.used c.law.ensures refl
+    c.prepare.ensures.prepares c.prepare.ensures.tries ready
+    (rw c.prepare.ensures.prepares.call.budget at (within_same back.trace x.counts))
+    (none_on x.takes_no_slot (none_back q r slot back.trace back.pool back.kept)) back.hand e back.trace refl had why
+    kept.says)

@@ -1,17 +1,45 @@
-use Rattle.vbr_list.proofs.Names.{◌≡◌, Bool, Some, true, false, arith, refl, sym, subst, ◌∙◌}
-use Rattle.vbr_list.proofs.Names.{knows, Made, quiet_on, set_call}
+use Rattle.vbr_list.proofs.Names.{◌≡◌, Bool, None, Some, true, false, ap, arith, refl, sym, subst, ◌∙◌}
+use Rattle.vbr_list.proofs.Names.{counts_none, knows, Made, quiet_on, reads_none, ReadsIn, set_call}
+use Rattle.vbr_list.specs.calls.Budgets.{steps_where}
 use Rattle.vbr_list.specs.updates.Inserting.{denied}
-use Rattle.vbr_list.specs.updates.Preparing.{has_wanted, told_otherwise}
+use Rattle.vbr_list.specs.updates.Preparing.{told_otherwise}
 use Rattle.vbr_list.specs.updates.Wanted.{wants}
 use Rattle.vbr_list.specs.declared.wanted.Wanted.{Wanted}
 use Rattle.vbr_list.proofs.look_ups.FoundValues.{asks_one, asks_read, asks_then, tells_since}
 use Rattle.vbr_list.proofs.look_ups.ReadFirst.{found_lost_since}
 use Rattle.vbr_list.proofs.inserts.Sufficing.{any_error}
-use Rattle.vbr_list.proofs.stores.Wants.{compare_few, is_there}
+use Rattle.vbr_list.proofs.pieces.Going.{call_refl, keeps_still}
+use Rattle.vbr_list.proofs.pieces.KeptHands.{hand_refl}
 use Rattle.vbr_list.specs.calls.Words.{wide_found}
 use Rattle.vbr_list.proofs.call.PendingCall.ask.Goals as goal
 
 -- ---- nothing is given
+
+-- an absent key that nothing is read of
+pub returns-then-not-found-clause-asks : goal.returns-then-not-found-clause-asks
+returns-then-not-found-clause-asks g c = record {
+  call = call_refl c.args.self.now;
+  counts = counts_none c.args.self.now.at.stepper.now.trace c.args.self.now.used;
+  hand = hand_refl c.args.self.now.at.stepper.now;
+  more = omega arith;
+  few = omega arith;
+}
+
+pub returns-then-not-found-clause-told : goal.returns-then-not-found-clause-told
+returns-then-not-found-clause-told g c =
+    let absent = c.if-not-found.true in
+    let W : Wanted → Type 0 = λ wanted. wants wanted None ≡ true in
+    let R : Bool → Type 0 =
+    λ present. ReadsIn c.args.self.now.at.stepper.now c.args.self.now.at.stepper.now (steps_where present) in
+    let none : steps_where c.args.found.now.present ≡ 0 = ap steps_where absent in
+    record {
+      read = subst R (sym absent) (reads_none c.args.self.now.at.stepper.now);
+      used = omega (arith, none);
+      keeps = keeps_still (knows c.args.self.now.at.stepper.now.trace);
+      locates = c.requires.locates;
+      known = absent;
+      is = subst W (sym (c.requires.asked.absent c.if-not-gives.true)) refl;
+    }
 
 pub returns-in_err-answer_no-clause-asks : goal.returns-in_err-answer_no-clause-asks
 returns-in_err-answer_no-clause-asks g c =
@@ -28,8 +56,8 @@ pub returns-then-not-gives-clause-asks : goal.returns-then-not-gives-clause-asks
 returns-then-not-gives-clause-asks g c =
     let d = c.answer_no.ensures in asks_one d.call d.used d.keeps
 
-pub returns-then-not-gives-clause-met : goal.returns-then-not-gives-clause-met
-returns-then-not-gives-clause-met g c =
+pub returns-then-not-gives-clause-told : goal.returns-then-not-gives-clause-told
+returns-then-not-gives-clause-told g c =
     let b = c.args.self.now in
     let p = b.at.stepper.now.trace in
     let q = c.answer_no.new.self.at.stepper.now.trace in
@@ -37,10 +65,9 @@ returns-then-not-gives-clause-met g c =
     let M : Bool → Type 0 = λ present. Made (set_call p.who (denied present) b.key false) p q in
     let T : Bool → Type 0 = λ gives. Made (told_otherwise gives p.who b.key (Some 0)) p q in
     let W : Wanted → Type 0 = λ wanted. wants wanted (Some 0) ≡ false in
-    let H : Wanted → Type 0 = λ wanted. has_wanted wanted c.args.found.now.present ≡ false in
     record {
       told = subst T (sym c.if-not-gives.true)
-          (subst M (is_there c.args.found.now.present (subst H absent c.requires.open)) c.in_ok-answer_no.ensures.made);
+          (subst M c.if-not-found.false c.in_ok-answer_no.ensures.made);
       is_not = subst W (sym absent) refl;
     }
 
@@ -65,16 +92,17 @@ pub returns-then-wants-clause-asks : goal.returns-then-wants-clause-asks
 returns-then-wants-clause-asks g c =
     let r = c.read_found.ensures in asks_read c.args.found.now.present r.call r.used r.reads
 
-pub returns-then-wants-clause-met : goal.returns-then-wants-clause-met
-returns-then-wants-clause-met g c =
+pub returns-then-wants-clause-told : goal.returns-then-wants-clause-told
+returns-then-wants-clause-told g c =
     let r = c.read_found.ensures in
-    let reads = c.in_ok-there.ensures.found in
-    let is : wants c.args.wanted c.in_ok-there.there ≡ true = sym c.wants.ensures ∙ c.if-wants.true in
-    let used = r.used in
-    let few = compare_few (knows c.read_found.new.self.at.stepper.now.trace)
-    (wide_found c.args.self.now c.args.found.now) c.args.wanted
-    c.in_ok-there.there c.requires.open is reads.known.is in
-    (c.in_ok-there.there, record { quiet = r.reads.quiet; reads = reads; is = is; few = omega (arith, used, few) })
+    record {
+      read = r.reads;
+      used = r.used;
+      keeps = c.in_ok-there.ensures.found.keeps;
+      locates = c.in_ok-there.ensures.found.known.locates;
+      known = c.in_ok-there.ensures.found.known.is;
+      is = sym c.wants.ensures ∙ c.if-wants.true;
+    }
 
 pub returns-in_err-tell_found-clause-asks : goal.returns-in_err-tell_found-clause-asks
 returns-in_err-tell_found-clause-asks g c =
@@ -103,8 +131,8 @@ returns-clause-asks g c =
     let t = c.tell_found.ensures in
     asks_then c.args.found.now.present r.call r.used r.reads t.call t.used t.keeps
 
-pub returns-clause-met : goal.returns-clause-met
-returns-clause-met g c =
+pub returns-clause-told : goal.returns-clause-told
+returns-clause-told g c =
     let r = c.read_found.ensures in
     let p = c.args.self.now.at.stepper.now.trace in
     let q = c.tell_found.new.self.at.stepper.now.trace in

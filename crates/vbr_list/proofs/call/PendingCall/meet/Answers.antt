@@ -1,7 +1,7 @@
-use Rattle.vbr_list.proofs.Names.{◌≡◌, ◌+◌, true, sym, ap, ◌∙◌, subst, arith, ◌<◌}
-use Rattle.vbr_list.proofs.Names.{counts_none, Ghosts, PassLaw, PIECE, quiet_on, quiet_refl, Start}
+use Rattle.vbr_list.proofs.Names.{◌≡◌, ◌+◌, true, false, sym, ap, ◌∙◌, subst, arith, ◌<◌}
+use Rattle.vbr_list.proofs.Names.{counts_none, Ghosts, knows, PassLaw, PIECE, quiet_on, quiet_refl, Start}
 use Rattle.vbr_list.specs.calls.Pieces.{GoesOn, pass_in, trace_in}
-use Rattle.vbr_list.specs.updates.Preparing.{MeetTires, Meeting, has_wanted}
+use Rattle.vbr_list.specs.updates.Preparing.{Asks, MeetTires, Meeting, ReadsWanted, TellsOther, has_wanted}
 use Rattle.vbr_list.specs.traversals.Searching.{TraversesAgain}
 use Rattle.vbr_list.specs.updates.Wanted.{WasWanted, steps_to_compare}
 use Rattle.vbr_list.specs.declared.call.PendingCall.{PendingCall}
@@ -14,7 +14,7 @@ use Rattle.vbr_list.proofs.traversals.LostTraversals.{found_in, HasSearched, sea
 use Rattle.vbr_list.proofs.traversals.LostTraversals.{searched_until}
 use Rattle.vbr_list.proofs.traversals.LostTraversals.{short_of, so_in}
 use Rattle.vbr_list.proofs.inserts.Preparing.{steps_gone, within_on}
-use Rattle.vbr_list.proofs.stores.Wants.{met_as, was_compared, was_plain}
+use Rattle.vbr_list.proofs.stores.Wants.{asked_values, compare_few, was_compared, was_plain}
 use Rattle.vbr_list.specs.calls.Words.{wide_found}
 use Rattle.vbr_list.proofs.call.PendingCall.meet.Goals as goal
 
@@ -29,9 +29,6 @@ ask-requires-clause-asked g c =
 pub ask-requires-clause-locates : goal.ask-requires-clause-locates
 ask-requires-clause-locates g c = simp c.search.ensures.goes.call.at.slots
     (located c.search.ensures.goes (wide_found c.loop-found.self c.in-Some.found) c.in-Some.ensures.found)
-
-pub ask-requires-clause-open : goal.ask-requires-clause-open
-ask-requires-clause-open g c = sym c.has_wanted.ensures ∙ c.if-has_wanted.false
 
 pub loop-found-preserved : goal.loop-found-preserved
 loop-found-preserved g c =
@@ -91,16 +88,25 @@ pub returns-then-not-affords-clause-meets : goal.returns-then-not-affords-clause
 returns-then-not-affords-clause-meets g c =
     meets_none c.law.ensures c.loop-found.invariant c.search.ensures.goes
 
-pub returns-in-Ok-clause-meets : goal.returns-in-Ok-clause-meets
-returns-in-Ok-clause-meets g c =
-    let gone = searched_on c.law.ensures c.loop-found.invariant c.search.ensures.goes in
-    let a = c.ask.ensures.asks in
+-- it was asked
+meets_asked : {N : Type 0} {kind : Ghosts N} {b c d e : PendingCall N kind} → PassLaw (pass_in b) → HasSearched b c →
+    GoesOn c d → Asks d e → Meeting b e
+meets_asked law so went a =
+    let gone = searched_on law so went in
     let same = call_on gone.call a.call in
     record {
       call = same;
       counts = within_on (steps_gone gone) a.counts a.more (within_call same);
       hand = hand_on gone.goes.hand a.hand;
     }
+
+pub returns-in-Ok-asked-clause-meets : goal.returns-in-Ok-asked-clause-meets
+returns-in-Ok-asked-clause-meets g c =
+    meets_asked c.law.ensures c.loop-found.invariant c.search.ensures.goes c.ask.ensures.asks
+
+pub returns-in-Err-clause-meets : goal.returns-in-Err-clause-meets
+returns-in-Err-clause-meets g c =
+    meets_asked c.law.ensures c.loop-found.invariant c.search.ensures.goes c.ask.ensures.asks
 
 -- the budget had no room for one more piece
 meets_short : {N : Type 0} {kind : Ghosts N} {b c d : PendingCall N kind} → PassLaw (pass_in b) → HasSearched b c →
@@ -142,44 +148,51 @@ returns-then-has_wanted-clause-met g c =
           c.search.new.self.used 0 (steps_to_compare c.args.wanted + 3) (omega arith) (omega arith);
     }
 
-pub returns-in-Ok-clause-met : goal.returns-in-Ok-clause-met
-returns-in-Ok-clause-met g c =
+pub returns-in-Ok-asked-clause-met : goal.returns-in-Ok-asked-clause-met
+returns-in-Ok-asked-clause-met g c =
     let gone = searched_on c.law.ensures c.loop-found.invariant c.search.ensures.goes in
     let b = c.args.self.now in
-    let d = c.search.new.self in
     let e = c.ask.new.self in
-    let p = b.at.stepper.now.trace in
-    let m = d.at.stepper.now.trace in
-    let r = e.at.stepper.now.trace in
     let wanted = c.args.wanted in
     let found = wide_found c.loop-found.self c.in-Some.found in
-    let few = c.ask.ensures.asks.few in
     let there = found_in c.law.ensures c.loop-found.invariant c.search.ensures.goes found c.in-Some.ensures.found in
-    met_as c.args.gives b d e wanted found c.in-Ok.met
-    (λ value x.
-    let whole = quiet_on gone.goes.quiet x.quiet in
-    let compared = x.few in
-    let values = ap (λ (d : Start). d.shape.values) (sym whole.same.start) ∙ x.reads.known.values in
+    let x : ReadsWanted wanted c.search.new.self e found c.in-Ok-asked.field-0 =
+    rw c.in-Ok-asked.is at (simp c.search.ensures.goes.call.at.slots at c.in-Ok.ensures.told) in
+    let quiet = x.read.quiet in
+    let whole = quiet_on gone.goes.quiet quiet in
+    let other = sym c.has_wanted.ensures ∙ c.if-has_wanted.false in
+    let values = asked_values (knows e.at.stepper.now.trace) c.args.gives wanted found c.in-Ok-asked.field-0
+    c.requires.asked.values c.requires.asked.absent other x.is x.known in
+    let compared = compare_few (knows e.at.stepper.now.trace) found wanted c.in-Ok-asked.field-0 other x.is x.known in
+    let used = x.used in
     record {
       quiet = whole;
-      was = was_compared b.key found wanted value c.law.ensures.start whole.same x.quiet x.reads.keeps values
-          there (sym c.has_wanted.ensures ∙ c.if-has_wanted.false) x.is x.reads.known.is;
-      searches = searched_until c.law.ensures gone x.quiet (steps_to_compare wanted + 3) (omega arith)
+      was = was_compared b.key found wanted c.in-Ok-asked.field-0 c.law.ensures.start whole.same quiet x.keeps values
+          there other x.is x.known;
+      searches = searched_until c.law.ensures gone quiet (steps_to_compare wanted + 3) (omega arith)
           (searched_for c.law.ensures c.loop-found.invariant c.search.ensures.goes c.in-Some.ensures.found.traverses
-          e.used
-          (steps_to_compare wanted) (steps_to_compare wanted + 3) compared (omega arith));
-    })
-    (λ value x. record {
+          e.used (steps_to_compare wanted) (steps_to_compare wanted + 3) (omega (arith, compared, used)) (omega arith));
+    }
+
+pub returns-in-Err-clause-met : goal.returns-in-Err-clause-met
+returns-in-Err-clause-met g c =
+    let gone = searched_on c.law.ensures c.loop-found.invariant c.search.ensures.goes in
+    let d = c.search.new.self in
+    let e = c.ask.new.self in
+    let found = wide_found c.loop-found.self c.in-Some.found in
+    let few = c.ask.ensures.asks.few in
+    let x : TellsOther c.args.gives c.args.wanted d e c.in-Err.there =
+    rw c.in-Err.is at (simp c.search.ensures.goes.call.at.slots at c.in-Ok.ensures.told) in
+    record {
       tells = record {
-        told = otherwise_since c.args.gives b d e value gone.call.key gone.goes.quiet x.told;
+        told = otherwise_since c.args.gives c.args.self.now d e c.in-Err.there gone.call.key gone.goes.quiet x.told;
         is_not = x.is_not;
       };
       searched = record {
-        ended = m;
+        ended = d.at.stepper.now.trace;
         quiet = gone.goes.quiet;
         to = x.told.seen;
         searches = searched_for c.law.ensures c.loop-found.invariant c.search.ensures.goes
             c.in-Some.ensures.found.traverses e.used 3 6 few (omega arith);
       };
-    })
-    (simp c.search.ensures.goes.call.at.slots at c.in-Ok.ensures.met)
+    }

@@ -1,11 +1,19 @@
-use Rattle.vbr_list.proofs.Names.{ℕ, inl, inr, subst, ⊎_elim, arith, ◌∙◌}
-use Rattle.vbr_list.proofs.Names.{counts_on, had_grown, none_on, two_before}
+use Rattle.vbr_list.proofs.Names.{ℕ, true, inl, inr, subst, ⊎_elim, arith, ◌∙◌}
+use Rattle.vbr_list.proofs.Names.{counts_on, Ghosts, had_grown, IsRun, IsSame, IsStart, KeyAt, knows, none_on, Quiet}
+use Rattle.vbr_list.proofs.Names.{quiet_refl, Slot}
+use Rattle.vbr_list.proofs.Names.{two_before}
+use Rattle.vbr_at_table.specs.declared.held.Marked.{Marked}
+use Rattle.vbr_list.specs.calls.Pieces.{trace_in}
 use Rattle.vbr_list.specs.updates.Removing.{SearchesOn}
-use Rattle.vbr_list.specs.updates.Replacing.{UnlinksAtOnce}
+use Rattle.vbr_list.specs.updates.Replacing.{MayStoreNode, ReplacesFound, UnlinksAtOnce, UnlinksReplaced}
+use Rattle.vbr_list.specs.updates.Settling.{SettlesIn}
+use Rattle.vbr_list.specs.declared.call.PendingCall.{PendingCall}
+use Rattle.vbr_list.specs.declared.found.Found.{Found}
+use Rattle.vbr_list.proofs.named_entries.ReplacedEntries.{entry_since}
 use Rattle.vbr_list.proofs.pieces.Going.{call_on}
 use Rattle.vbr_list.proofs.stores.Stores.{all_but_then}
 use Rattle.vbr_list.proofs.traversals.Sweeping.{leaves_replaced}
-use Rattle.vbr_list.specs.calls.Words.{wide_held}
+use Rattle.vbr_list.specs.calls.Words.{wide_found, wide_marked}
 use Rattle.vbr_list.proofs.call.PendingCall.replace_and_unlink.Goals as goal
 
 pub returns-clause-settles : goal.returns-clause-settles
@@ -21,54 +29,72 @@ returns-clause-settles g c =
       takes_no_slot = none_on a.takes_no_slot b.goes.hand.takes_no_slot;
     }
 
-pub returns-clause-had : goal.returns-clause-had
-returns-clause-had g c =
-    let p = c.args.self.now.at.stepper.now in
-    let q = c.replace_found.new.self.at.stepper.now in
-    let r = c.unlink_replaced.new.self.at.stepper.now in
-    let b = c.unlink_replaced.ensures.goes.goes.hand in
-    all_but_then p q r (rw c.in-Ok.is at c.replace_found.ensures.had) (had_grown q r b.takes_no_slot.grows b.hand)
+-- what the unlinking cost, after the replacement
+replaced_paid : {N : Type 0} {kind : Ghosts N} {c d e : PendingCall N kind} (value : ℕ) (found : Found)
+    (gone : Marked) → IsStart (trace_in c).start → MayStoreNode c d → ReplacesFound value c d found gone →
+    IsSame (trace_in c) (trace_in d) → IsRun (trace_in d).start (trace_in d).passes (trace_in d).seen →
+    Quiet (trace_in d) (trace_in e) → UnlinksReplaced d e found.pred gone.slot → SettlesIn 6 true c e found
+replaced_paid {c = c} {d = d} {e = e} value found gone start first x same run then paid =
+    let p = trace_in c in
+    let q = trace_in d in
+    let r = trace_in e in
+    let key = first.call.key in
+    let low = first.few in
+    let budget = first.call.budget in
+    let K : ℕ → Type 0 = KeyAt (knows q) (Slot gone.slot) in
+    ⊎_elim (λ (soon : UnlinksAtOnce d e gone.slot). inl (record {
+      few = (let few = soon.few in omega (arith, few, low));
+      leaves = λ yes room.
+          leaves_replaced p q r gone.slot c.key start same run x.replaced (subst K key x.old.key) then
+          (soon.leaves (omega (arith, room, low, budget)));
+    }))
+    (λ (on : SearchesOn q r d.key d.used e.used found.pred). (
+    let S : ℕ → Type 0 = λ k. SearchesOn q r k d.used e.used found.pred in
+    inr (record { marked = q; marks = x.marks; used = d.used; few = low; searches = subst S key on })))
+    paid
 
 pub returns-clause-replaced : goal.returns-clause-replaced
 returns-clause-replaced g c = λ old known.
     let x = c.in-Ok.ensures.replaced in
     let stores = x.stores old known in
-    let p = c.args.self.now.at.stepper.now.trace in
-    let q = c.replace_found.new.self.at.stepper.now.trace in
-    let r = c.unlink_replaced.new.self.at.stepper.now.trace in
-    let then = c.unlink_replaced.ensures.goes.goes.quiet in
-    record {
-      stores = record {
-        made = two_before stores.made then;
-        spent = c.unlink_replaced.ensures.goes.goes.hand.hand ∙ stores.spent;
-      };
-      leaves = λ yes room.
-          leaves_replaced p q r c.in-Ok.marked.slot c.args.self.now.key c.law.ensures.start stores.made.same
-          stores.made.is_run x.replaced (rw c.replace_found.ensures.tries.call.key at x.old.key)
-          then (c.unlink_replaced.ensures.leaves room);
-    }
-
-pub returns-clause-paid : goal.returns-clause-paid
-returns-clause-paid g c =
-    let x = c.in-Ok.ensures.replaced in
-    let stores = x.stores c.requires.read.0 c.requires.read.1 in
-    let p = c.args.self.now.at.stepper.now.trace in
-    let q = c.replace_found.new.self.at.stepper.now.trace in
-    let r = c.unlink_replaced.new.self.at.stepper.now.trace in
-    let first = c.replace_found.ensures.tries in
-    let then = c.unlink_replaced.ensures.goes.goes.quiet in
-    let key = first.call.key in
-    let low = first.few in
-    let budget = first.call.budget in
+    let b = c.args.self.now in
     let d = c.replace_found.new.self in
     let e = c.unlink_replaced.new.self in
-    ⊎_elim (λ (soon : UnlinksAtOnce d e c.in-Ok.marked.slot). inl (record {
-      few = (let few = soon.few in omega (arith, few, low));
-      leaves = λ yes room.
-          leaves_replaced p q r c.in-Ok.marked.slot c.args.self.now.key c.law.ensures.start stores.made.same
-          stores.made.is_run x.replaced (rw key at x.old.key) then (soon.leaves (omega (arith, room, low, budget)));
-    }))
-    (λ (on : SearchesOn q r d.key d.used e.used (wide_held c.args.self.now c.args.found.now.pred)). (
-    let S : ℕ → Type 0 = λ k. SearchesOn q r k d.used e.used (wide_held c.args.self.now c.args.found.now.pred) in
-    inr (record { marked = q; marks = x.marks; used = d.used; few = low; searches = subst S key on })))
-    (simp c.replace_found.ensures.tries.call.at.slots at c.unlink_replaced.ensures.paid)
+    let p = b.at.stepper.now.trace in
+    let q = d.at.stepper.now.trace in
+    let r = e.at.stepper.now.trace in
+    let goes = c.unlink_replaced.ensures.goes.goes in
+    let then = goes.quiet in
+    let made = stores.made in
+    record {
+      stores = record {
+        stores = record { made = two_before made then; spent = goes.hand.hand ∙ stores.spent };
+        slot = record {
+          ended = q;
+          same = made.same;
+          to = then.seen;
+          published = rw c.in-Ok.is at c.replace_found.ensures.by;
+        };
+        had = all_but_then b.at.stepper.now d.at.stepper.now e.at.stepper.now
+            (rw c.in-Ok.is at c.replace_found.ensures.had)
+            (had_grown d.at.stepper.now e.at.stepper.now goes.hand.takes_no_slot.grows goes.hand.hand);
+        leaves = λ yes room.
+            leaves_replaced p q r c.in-Ok.marked.slot b.key c.law.ensures.start made.same made.is_run x.replaced
+            (rw c.replace_found.ensures.tries.call.key at x.old.key) then (c.unlink_replaced.ensures.leaves room);
+        paid = replaced_paid {c = b} {d = d} {e = e} c.args.value (wide_found b c.args.found.now)
+            (wide_marked b c.in-Ok.marked) c.law.ensures.start c.replace_found.ensures.tries x made.same made.is_run
+            then
+            (simp c.replace_found.ensures.tries.call.at.slots at c.unlink_replaced.ensures.paid);
+      };
+      entry = λ node is s place. entry_since q r (quiet_refl p) then.seen (x.entry old known node is s place);
+    }
+
+pub returns-in-Err-clause-back : goal.returns-in-Err-clause-back
+returns-in-Err-clause-back g c =
+    let back = c.in-Err.ensures.back in
+    record {
+      given = back;
+      same = rw c.in-Err.is at c.replace_found.ensures.by;
+      had = rw c.in-Err.is at c.replace_found.ensures.had;
+      few = c.replace_found.ensures.tries.few;
+    }

@@ -1,12 +1,20 @@
-use Rattle.vbr_list.proofs.Names.{ℕ, Some, arith, sym, subst, ◌∙◌}
-use Rattle.vbr_list.proofs.Names.{begins_refl, IsStart, none_on, Start}
+use Rattle.vbr_list.proofs.Names.{◌≡◌, ℕ, true, false, Option, Some, None, ap, arith, sym, subst, ◌∙◌}
+use Rattle.vbr_list.proofs.Names.{begins_refl, Ghosts, IsStart, none_on, quiet_on, Start}
+use Rattle.vbr_list.specs.look_ups.Telling.{KnowsThere}
+use Rattle.vbr_list.specs.updates.Replacing.{KnowsFoundValue}
+use Rattle.vbr_list.specs.declared.call.PendingCall.{PendingCall}
+use Rattle.vbr_list.specs.declared.found.Found.{Found}
+use Rattle.vbr_list.proofs.look_ups.FoundValues.{asks_read}
+use Rattle.vbr_list.proofs.stores.Settled.{leaves_since, settles_since, stores_since}
+use Rattle.vbr_list.proofs.stores.Stores.{hand_kept}
 use Rattle.vbr_list.specs.named_entries.OtherEntries.{ReplacedEntry, WasOther}
 use Rattle.vbr_list.proofs.pieces.Going.{call_on, within_call}
-use Rattle.vbr_list.proofs.inserts.Linking.{begun, counts_until, has_until, lost_then, none_until, quiet_until}
+use Rattle.vbr_list.proofs.inserts.Linking.{begun, counts_until, has_until, located, none_until, quiet_until}
 use Rattle.vbr_list.proofs.named_entries.OtherEntries.{other_since, was_other}
 use Rattle.vbr_list.proofs.inserts.Preparing.{within_on}
 use Rattle.vbr_list.proofs.named_entries.ReplacedEntries.{entry_since}
-use Rattle.vbr_list.proofs.stores.SettledSoon.{held_finds, held_stores, held_tires, takes_settled}
+use Rattle.vbr_list.proofs.stores.SettledSoon.{held_asked, held_finds, held_lost, held_stores, held_tires}
+use Rattle.vbr_list.proofs.stores.SettledSoon.{takes_settled}
 use Rattle.vbr_list.proofs.pieces.WideWords.{node_bare, node_wide}
 use Rattle.vbr_list.specs.calls.Words.{wide_found}
 use Rattle.vbr_list.proofs.call.PendingCall.replace_entry.Goals as goal
@@ -58,52 +66,123 @@ returns-then-not-is_node_of-clause-kept g c =
           (other_since so.1 (subst W so.0.key was));
     }
 
-pub replace_by_held-requires-clause-hand : goal.replace_by_held-requires-clause-hand
-replace_by_held-requires-clause-hand g c = has_until c.loop-found.invariant.0 c.reach.ensures.goes
+-- ---- this entry is there
 
-pub returns-in-Ok-clause-counts : goal.returns-in-Ok-clause-counts
-returns-in-Ok-clause-counts g c =
+pub read_found-requires-clause-values : goal.read_found-requires-clause-values
+read_found-requires-clause-values g c =
+    let same = (quiet_until c.loop-found.invariant.0 c.reach.ensures.goes).same in
+    ap (λ (d : Start). d.shape.values) same.start ∙ c.requires.values
+
+pub read_found-requires-clause-locates : goal.read_found-requires-clause-locates
+read_found-requires-clause-locates g c =
+    simp c.reach.ensures.goes.call.at.slots
+    (located c.reach.ensures.goes (wide_found c.loop-found.self c.in-Some.found) c.in-Some.ensures.found)
+
+pub loop-found-preserved-in_default-read_found : goal.loop-found-preserved-in_default-read_found
+loop-found-preserved-in_default-read_found g c =
+    let r = c.read_found.ensures in
+    let lost = simp c.reach.ensures.goes.call.at.slots at c.in_default-read_found.ensures.lost in (
+      held_asked 8 (omega arith) {b = c.args.self.now} c.law.ensures c.loop-found.invariant.0 c.reach.ensures.goes
+          (asks_read c.in-Some.found.present r.call r.used r.reads) r.reads.quiet
+          (wide_found c.loop-found.self c.in-Some.found) c.in-Some.ensures.found lost.loses,
+      c.loop-found.invariant.1,
+    )
+
+pub loop-found-smaller-in_default-read_found : goal.loop-found-smaller-in_default-read_found
+loop-found-smaller-in_default-read_found g c =
+    let s = c.reach.ensures.goes in
+    let more = s.more in
+    let then = rw c.in_default-read_found.ensures.lost.present at c.read_found.ensures.used in
+    let same = call_on s.call c.read_found.ensures.call in
+    let budget = same.budget in
+    let high = c.read_found.new.self.within in
+    omega (arith, more, then, budget, high)
+
+-- what was found present has a value there
+value_there : {N : Type 0} {kind : Ghosts N} {c : PendingCall N kind} (found : Found) (there : Option ℕ) →
+    found.present ≡ true → KnowsThere c found there → KnowsFoundValue c found
+value_there found (Some old) present k = (old, k)
+value_there found None present k = absurd (let no : found.present ≡ false = k.is in cc)
+
+pub replace_and_unlink-requires-clause-read : goal.replace_and_unlink-requires-clause-read
+replace_and_unlink-requires-clause-read g c =
+    simp c.read_found.ensures.call.at.slots
+    (value_there {c = c.read_found.new.self} (wide_found c.reach.new.self c.in-Some.found) c.in-Ok.field-0
+    (c.is_node_of.ensures.is c.if-not-is_node_of.false).present c.in-Ok.ensures.found.known)
+
+pub replace_and_unlink-requires-clause-hand : goal.replace_and_unlink-requires-clause-hand
+replace_and_unlink-requires-clause-hand g c =
+    let r = c.read_found.ensures in
+    let asks = asks_read {c = c.reach.new.self} {d = c.read_found.new.self} c.in-Some.found.present r.call r.used
+    r.reads in
+    hand_kept c.loop-found.hand asks.hand (has_until c.loop-found.invariant.0 c.reach.ensures.goes)
+
+pub returns-in-Ok-replace_and_unlink-clause-counts : goal.returns-in-Ok-replace_and_unlink-clause-counts
+returns-in-Ok-replace_and_unlink-clause-counts g c =
     let so = c.loop-found.invariant.0 in
     let went = c.reach.ensures.goes in
-    let x = takes_settled c.replace_by_held.ensures.settles in
+    let r = c.read_found.ensures in
+    let d = c.reach.new.self in
+    let e = c.read_found.new.self in
+    let f = c.replace_and_unlink.new.self in
+    let found = wide_found c.loop-found.self c.in-Some.found in
+    let x = takes_settled (settles_since d e f found c.law-in-loop-found.ensures r.call r.used r.reads
+    c.in-Ok.ensures.found.keeps c.replace_and_unlink.ensures.settles) in
     within_on (counts_until so went) x.counts x.more (within_call (call_on (begun so went) x.call))
 
-pub returns-in-Ok-clause-takes_no_slot : goal.returns-in-Ok-clause-takes_no_slot
-returns-in-Ok-clause-takes_no_slot g c =
-    none_on (none_until c.loop-found.invariant.0 c.reach.ensures.goes) c.replace_by_held.ensures.settles.takes_no_slot
+pub returns-in-Ok-replace_and_unlink-clause-takes_no_slot : goal.returns-in-Ok-replace_and_unlink-clause-takes_no_slot
+returns-in-Ok-replace_and_unlink-clause-takes_no_slot g c =
+    none_on
+    (none_on (none_until c.loop-found.invariant.0 c.reach.ensures.goes) c.read_found.ensures.reads.takes_no_slot)
+    c.replace_and_unlink.ensures.settles.takes_no_slot
 
-pub returns-in-Ok-clause-replaced : goal.returns-in-Ok-clause-replaced
-returns-in-Ok-clause-replaced g c =
+pub returns-in-Ok-replace_and_unlink-clause-replaced : goal.returns-in-Ok-replace_and_unlink-clause-replaced
+returns-in-Ok-replace_and_unlink-clause-replaced g c =
     let so = c.loop-found.invariant.0 in
     let went = c.reach.ensures.goes in
     let b = c.args.self.now in
     let d = c.reach.new.self in
-    let e = c.replace_by_held.new.self in
-    let x = simp c.reach.ensures.goes.call.at.slots at c.in-Ok.ensures.replaced in
+    let e = c.read_found.new.self in
+    let f = c.replace_and_unlink.new.self in
+    let found = wide_found c.loop-found.self c.in-Some.found in
     let node = node_wide c.loop-found.self (c.is_node_of.ensures.is c.if-not-is_node_of.false) in
-    let p = d.at.stepper.now.trace in
-    let q = e.at.stepper.now.trace in
-    let birth = node.birth in
+    let r = simp went.call.at.slots at c.read_found.ensures in
+    let read = simp went.call.at.slots at c.in-Ok.ensures.found in
+    let there = value_there {c = e} found c.in-Ok.field-0 node.present read.known in
+    let x = (simp (r.call.at.slots ∙ went.call.at.slots) at c.in-Ok-replace_and_unlink.ensures.replaced) there.0 there.1
+    in
+    let p = e.at.stepper.now.trace in
+    let q = f.at.stepper.now.trace in
     let K : ℕ → Type 0 =
-    λ k. ReplacedEntry p.start p.seen q.seen p.who c.args.entry.now.slot node.node.birth k x.old in
-    let B : ℕ → Type 0 = λ n. ReplacedEntry p.start p.seen q.seen p.who c.args.entry.now.slot n b.key x.old in
+    λ k. ReplacedEntry p.start p.seen q.seen p.who c.args.entry.now.slot node.node.birth k there.0 in
+    let B : ℕ → Type 0 = λ n. ReplacedEntry p.start p.seen q.seen p.who c.args.entry.now.slot n b.key there.0 in
+    let call = r.call in
     record {
-      old = x.old;
-      stores = held_stores b c.loop-found.self d e c.law.ensures so went (wide_found c.loop-found.self c.in-Some.found)
-          c.in-Some.ensures.found
-          c.replace_by_held.ensures.settles.call c.args.value (Some x.old) c.loop-found.invariant.1 x.stores;
-      gone = entry_since q q (quiet_until so went) (begins_refl q.seen)
-          (subst B birth (subst K (begun so went).key (x.gone node.node node.cur c.args.entry.now.slot node.place)));
+      old = there.0;
+      stores = held_stores b c.loop-found.self d f c.law.ensures so went found c.in-Some.ensures.found
+          (call_on call c.replace_and_unlink.ensures.settles.call) c.args.value (Some there.0) c.loop-found.invariant.1
+          (stores_since d e f found c.law-in-loop-found.ensures call r.used r.reads read.keeps c.args.value there.0
+          c.loop-found.hand x.stores);
+      gone = entry_since q q (quiet_on (quiet_until so went) r.reads.quiet) (begins_refl q.seen)
+          (subst B node.birth (subst K (call_on (begun so went) call).key
+          (x.entry node.node node.cur c.args.entry.now.slot node.place)));
     }
 
 pub loop-found-preserved : goal.loop-found-preserved
 loop-found-preserved g c =
-    let back = simp c.reach.ensures.goes.call.at.slots at c.in-Err.ensures.back in
-    let few = back.settles.few in (
-      lost_then 8 {b = c.args.self.now} c.law.ensures c.loop-found.invariant.0 c.reach.ensures.goes
-          (takes_settled c.replace_by_held.ensures.settles) (omega (arith, few)) back.settles.given.quiet
-          back.settles.given.hand (rw c.in-Err.is at c.replace_by_held.ensures.had)
-          (wide_found c.loop-found.self c.in-Some.found)
-          c.in-Some.ensures.found back.settles.given.loses,
-      back.same ∙ c.loop-found.invariant.1,
-    )
+    let went = c.reach.ensures.goes in
+    let d = c.reach.new.self in
+    let e = c.read_found.new.self in
+    let f = c.replace_and_unlink.new.self in
+    let found = wide_found c.loop-found.self c.in-Some.found in
+    let node = node_wide c.loop-found.self (c.is_node_of.ensures.is c.if-not-is_node_of.false) in
+    let r = simp went.call.at.slots at c.read_found.ensures in
+    let read = simp went.call.at.slots at c.in-Ok.ensures.found in
+    let there = value_there {c = e} found c.in-Ok.field-0 node.present read.known in
+    let back = simp (r.call.at.slots ∙ went.call.at.slots) at c.in-Err.ensures.back in
+    let law = c.law-in-loop-found.ensures in
+    held_lost 8 {b = c.args.self.now} c.law.ensures c.loop-found.invariant.0 went found c.in-Some.ensures.found
+    c.loop-found.invariant.1
+    (settles_since d e f found law r.call r.used r.reads read.keeps c.replace_and_unlink.ensures.settles)
+    (leaves_since d e f found law r.call r.used r.reads read.keeps true c.loop-found.hand c.in-Err.back (Some there.0)
+    (λ none. absurd (cc)) there.1.is back)

@@ -1,0 +1,247 @@
+use Rattle.vbr_list.proofs.Names.{None, refl, Some, ap, arith, ◌∙◌}
+use Rattle.vbr_list.proofs.Names.{had_on, none_on, quiet_on, Start}
+use Rattle.vbr_list.specs.updates.Preparing.{TellsOther}
+use Rattle.vbr_list.proofs.pieces.Going.{call_on, within_call}
+use Rattle.vbr_list.proofs.inserts.Linking.{begun, counts_until, had_until, has_until, located, none_until, quiet_until}
+use Rattle.vbr_list.proofs.inserts.Preparing.{within_on}
+use Rattle.vbr_list.proofs.stores.HeldStores.{absent_none, counts_changed, had_changed, knows_old}
+use Rattle.vbr_list.proofs.stores.HeldStores.{none_changed, stored_as, three_lost, tired_out, told_other}
+use Rattle.vbr_list.proofs.stores.Settled.{changes_since, each_lost, leaves_since, settles_since}
+use Rattle.vbr_list.proofs.stores.SettledSoon.{had_asked, held_asked, held_lost, takes_asked}
+use Rattle.vbr_list.proofs.stores.Stores.{hand_kept}
+use Rattle.vbr_list.specs.calls.Words.{wide_found}
+use Rattle.vbr_list.proofs.call.PendingCall.store_held.Goals as goal
+
+-- ---- no steps are left
+
+pub returns-in_default-clause-counts : goal.returns-in_default-clause-counts
+returns-in_default-clause-counts g c = counts_until c.loop-found.invariant.0 c.reach.ensures.goes
+
+pub returns-in_default-clause-takes_no_slot : goal.returns-in_default-clause-takes_no_slot
+returns-in_default-clause-takes_no_slot g c = none_until c.loop-found.invariant.0 c.reach.ensures.goes
+
+pub returns-in_default-clause-had : goal.returns-in_default-clause-had
+returns-in_default-clause-had g c = had_until c.loop-found.invariant.0 c.reach.ensures.goes
+
+pub returns-in_default-clause-kept : goal.returns-in_default-clause-kept
+returns-in_default-clause-kept g c =
+    let so = c.loop-found.invariant.0 in
+    let went = c.reach.ensures.goes in
+    record {
+      same = c.loop-found.invariant.1;
+      has = has_until so went;
+      says = tired_out c.args.value c.args.wanted c.args.self.now c.loop-found.self c.reach.new.self c.law.ensures went
+          c.args.gives so c.in_default.ensures.tired;
+    }
+
+-- ---- what was there is asked
+
+pub ask-requires-clause-asked : goal.ask-requires-clause-asked
+ask-requires-clause-asked g c =
+    let same = (quiet_until c.loop-found.invariant.0 c.reach.ensures.goes).same in
+    record {
+      values = λ gives. ap (λ (d : Start). d.shape.values) same.start ∙ c.requires.asked.values gives;
+      absent = c.requires.asked.absent;
+    }
+
+pub ask-requires-clause-locates : goal.ask-requires-clause-locates
+ask-requires-clause-locates g c =
+    simp c.reach.ensures.goes.call.at.slots
+    (located c.reach.ensures.goes (wide_found c.loop-found.self c.in-Some.found) c.in-Some.ensures.found)
+
+pub loop-found-preserved-in_default-ask : goal.loop-found-preserved-in_default-ask
+loop-found-preserved-in_default-ask g c =
+    let lost = simp c.reach.ensures.goes.call.at.slots at c.in_default-ask.ensures.lost in (
+      held_asked (each_lost c.args.gives) (three_lost c.args.gives) {b = c.args.self.now} c.law.ensures
+          c.loop-found.invariant.0 c.reach.ensures.goes c.ask.ensures.asks lost.quiet
+          (wide_found c.loop-found.self c.in-Some.found) c.in-Some.ensures.found lost.loses,
+      c.loop-found.invariant.1,
+    )
+
+pub loop-found-smaller-in_default-ask : goal.loop-found-smaller-in_default-ask
+loop-found-smaller-in_default-ask g c =
+    let s = c.reach.ensures.goes in
+    let more = s.more in
+    let then = c.in_default-ask.ensures.lost.more in
+    let same = call_on s.call c.ask.ensures.asks.call in
+    let budget = same.budget in
+    let high = c.ask.new.self.within in
+    omega (arith, more, then, budget, high)
+
+pub returns-in-Err-clause-counts : goal.returns-in-Err-clause-counts
+returns-in-Err-clause-counts g c =
+    let so = c.loop-found.invariant.0 in
+    let went = c.reach.ensures.goes in
+    let x = takes_asked c.ask.ensures.asks in
+    within_on (counts_until so went) x.counts x.more (within_call (call_on (begun so went) x.call))
+
+pub returns-in-Err-clause-takes_no_slot : goal.returns-in-Err-clause-takes_no_slot
+returns-in-Err-clause-takes_no_slot g c =
+    none_on (none_until c.loop-found.invariant.0 c.reach.ensures.goes) c.ask.ensures.asks.hand.takes_no_slot
+
+pub returns-in-Err-clause-had : goal.returns-in-Err-clause-had
+returns-in-Err-clause-had g c =
+    had_on c.args.self.now.at.stepper.now c.reach.new.self.at.stepper.now c.ask.new.self.at.stepper.now
+    (had_until c.loop-found.invariant.0 c.reach.ensures.goes) (had_asked c.ask.ensures.asks)
+
+pub returns-in-Err-clause-kept : goal.returns-in-Err-clause-kept
+returns-in-Err-clause-kept g c =
+    let so = c.loop-found.invariant.0 in
+    let went = c.reach.ensures.goes in
+    let asks = c.ask.ensures.asks in
+    let d = c.reach.new.self in
+    let e = c.ask.new.self in
+    let f = wide_found c.loop-found.self c.in-Some.found in
+    let told : TellsOther c.args.gives c.args.wanted d e c.in-Err.there =
+    rw c.in-Err.is at (simp went.call.at.slots at c.in-Ok.ensures.told) in
+    record {
+      same = c.loop-found.invariant.1;
+      has = hand_kept c.loop-found.hand asks.hand (has_until so went);
+      says = told_other c.args.value c.args.wanted c.args.self.now c.loop-found.self d c.law.ensures went
+          c.args.gives so f c.in-Some.ensures.found e asks c.in-Err.there told;
+    }
+
+-- ---- the key is absent, as it is wanted
+
+pub link_found-requires-clause-locates : goal.link_found-requires-clause-locates
+link_found-requires-clause-locates g c =
+    let x = rw c.in-Ok-asked.is at (simp c.reach.ensures.goes.call.at.slots at c.in-Ok.ensures.told) in
+    simp (c.ask.ensures.asks.call.at.slots ∙ c.reach.ensures.goes.call.at.slots) x.locates
+
+pub link_found-requires-clause-absent : goal.link_found-requires-clause-absent
+link_found-requires-clause-absent g c =
+    let x = rw c.in-None.is at (rw c.in-Ok-asked.is at c.in-Ok.ensures.told) in x.known
+
+pub link_found-requires-clause-hand : goal.link_found-requires-clause-hand
+link_found-requires-clause-hand g c =
+    hand_kept c.loop-found.hand c.ask.ensures.asks.hand (has_until c.loop-found.invariant.0 c.reach.ensures.goes)
+
+pub returns-in-Ok-link_found-clause-counts : goal.returns-in-Ok-link_found-clause-counts
+returns-in-Ok-link_found-clause-counts g c =
+    counts_changed c.loop-found.invariant.0 c.reach.ensures.goes c.ask.ensures.asks c.link_found.ensures.settles
+
+pub returns-in-Ok-link_found-clause-takes_no_slot : goal.returns-in-Ok-link_found-clause-takes_no_slot
+returns-in-Ok-link_found-clause-takes_no_slot g c =
+    none_changed c.loop-found.invariant.0 c.reach.ensures.goes c.ask.ensures.asks c.link_found.ensures.settles
+
+pub returns-in-Ok-link_found-clause-had : goal.returns-in-Ok-link_found-clause-had
+returns-in-Ok-link_found-clause-had g c =
+    had_changed c.loop-found.invariant.0 c.reach.ensures.goes c.ask.ensures.asks c.link_found.new.self.at.stepper.now
+    c.in-Ok-link_found.ensures.linked.had
+
+pub returns-in-Ok-link_found-clause-stored : goal.returns-in-Ok-link_found-clause-stored
+returns-in-Ok-link_found-clause-stored g c =
+    let went = c.reach.ensures.goes in
+    let d = c.reach.new.self in
+    let e = c.ask.new.self in
+    let f = c.link_found.new.self in
+    let found = wide_found c.loop-found.self c.in-Some.found in
+    let x = rw c.in-None.is at (rw c.in-Ok-asked.is at (simp went.call.at.slots at c.in-Ok.ensures.told)) in
+    let call = c.ask.ensures.asks.call in
+    stored_as c.args.value c.args.wanted c.args.self.now c.loop-found.self d c.law.ensures went c.args.gives
+    c.loop-found.invariant.0 found c.in-Some.ensures.found c.loop-found.invariant.1 f
+    (call_on call c.link_found.ensures.settles.call) c.requires.asked.values None x.is (λ none. refl)
+    (changes_since d e f found c.law-in-loop-found.ensures call x.used x.read x.keeps c.args.value c.loop-found.hand
+    None x.known c.in-Ok-link_found.ensures.linked)
+
+pub loop-found-preserved-in-Err-link_found : goal.loop-found-preserved-in-Err-link_found
+loop-found-preserved-in-Err-link_found g c =
+    let went = c.reach.ensures.goes in
+    let d = c.reach.new.self in
+    let e = c.ask.new.self in
+    let f = c.link_found.new.self in
+    let found = wide_found c.loop-found.self c.in-Some.found in
+    let x = rw c.in-None.is at (rw c.in-Ok-asked.is at (simp went.call.at.slots at c.in-Ok.ensures.told)) in
+    let call = c.ask.ensures.asks.call in
+    let back = simp (call.at.slots ∙ went.call.at.slots) at c.in-Err-link_found.ensures.back in
+    let law = c.law-in-loop-found.ensures in
+    held_lost (each_lost c.args.gives) {b = c.args.self.now} c.law.ensures c.loop-found.invariant.0 went found
+    c.in-Some.ensures.found c.loop-found.invariant.1
+    (settles_since d e f found law call x.used x.read x.keeps c.link_found.ensures.settles)
+    (leaves_since d e f found law call x.used x.read x.keeps c.args.gives c.loop-found.hand c.in-Err-link_found.back
+    None (λ none. refl) x.known back)
+
+-- ---- a value is there, as it is wanted
+
+pub replace_and_unlink-requires-clause-read : goal.replace_and_unlink-requires-clause-read
+replace_and_unlink-requires-clause-read g c =
+    let went = c.reach.ensures.goes in
+    let found = wide_found c.loop-found.self c.in-Some.found in
+    let old = c.in-Some-there.field-0 in
+    let x = rw c.in-Some-there.is at (rw c.in-Ok-asked.is at (simp went.call.at.slots at c.in-Ok.ensures.told)) in
+    let same = (quiet_on (quiet_until c.loop-found.invariant.0 went) x.read.quiet).same in
+    let asked = c.requires.asked in
+    simp (c.ask.ensures.asks.call.at.slots ∙ went.call.at.slots) (
+      old,
+      knows_old {d = c.reach.new.self} {e = c.ask.new.self} c.args.wanted found c.args.gives old asked.absent
+          (λ gives. ap (λ (d : Start). d.shape.values) same.start ∙ asked.values gives) x,
+    )
+
+pub replace_and_unlink-requires-clause-hand : goal.replace_and_unlink-requires-clause-hand
+replace_and_unlink-requires-clause-hand g c =
+    hand_kept c.loop-found.hand c.ask.ensures.asks.hand (has_until c.loop-found.invariant.0 c.reach.ensures.goes)
+
+pub returns-in-Ok-replace_and_unlink-clause-counts : goal.returns-in-Ok-replace_and_unlink-clause-counts
+returns-in-Ok-replace_and_unlink-clause-counts g c =
+    counts_changed c.loop-found.invariant.0 c.reach.ensures.goes c.ask.ensures.asks
+    c.replace_and_unlink.ensures.settles
+
+pub returns-in-Ok-replace_and_unlink-clause-takes_no_slot : goal.returns-in-Ok-replace_and_unlink-clause-takes_no_slot
+returns-in-Ok-replace_and_unlink-clause-takes_no_slot g c =
+    none_changed c.loop-found.invariant.0 c.reach.ensures.goes c.ask.ensures.asks c.replace_and_unlink.ensures.settles
+
+pub returns-in-Ok-replace_and_unlink-clause-had : goal.returns-in-Ok-replace_and_unlink-clause-had
+returns-in-Ok-replace_and_unlink-clause-had g c =
+    let went = c.reach.ensures.goes in
+    let found = wide_found c.loop-found.self c.in-Some.found in
+    let old = c.in-Some-there.field-0 in
+    let x = rw c.in-Some-there.is at (rw c.in-Ok-asked.is at (simp went.call.at.slots at c.in-Ok.ensures.told)) in
+    let same = (quiet_on (quiet_until c.loop-found.invariant.0 went) x.read.quiet).same in
+    let asked = c.requires.asked in
+    let known = knows_old {d = c.reach.new.self} {e = c.ask.new.self} c.args.wanted found c.args.gives old asked.absent
+    (λ gives. ap (λ (d : Start). d.shape.values) same.start ∙ asked.values gives) x in
+    let replaced = simp (c.ask.ensures.asks.call.at.slots ∙ went.call.at.slots) at
+    c.in-Ok-replace_and_unlink.ensures.replaced in
+    had_changed c.loop-found.invariant.0 went c.ask.ensures.asks c.replace_and_unlink.new.self.at.stepper.now
+    (replaced old known).stores.had
+
+pub returns-in-Ok-replace_and_unlink-clause-stored : goal.returns-in-Ok-replace_and_unlink-clause-stored
+returns-in-Ok-replace_and_unlink-clause-stored g c =
+    let went = c.reach.ensures.goes in
+    let d = c.reach.new.self in
+    let e = c.ask.new.self in
+    let f = c.replace_and_unlink.new.self in
+    let found = wide_found c.loop-found.self c.in-Some.found in
+    let old = c.in-Some-there.field-0 in
+    let x = rw c.in-Some-there.is at (rw c.in-Ok-asked.is at (simp went.call.at.slots at c.in-Ok.ensures.told)) in
+    let same = (quiet_on (quiet_until c.loop-found.invariant.0 went) x.read.quiet).same in
+    let asked = c.requires.asked in
+    let known = knows_old {d = d} {e = e} c.args.wanted found c.args.gives old asked.absent
+    (λ gives. ap (λ (d : Start). d.shape.values) same.start ∙ asked.values gives) x in
+    let call = c.ask.ensures.asks.call in
+    let replaced = simp (call.at.slots ∙ went.call.at.slots) at c.in-Ok-replace_and_unlink.ensures.replaced in
+    let none = absent_none c.args.gives c.args.wanted (Some old) asked.absent x.is in
+    rw c.in-Some-there.is (stored_as c.args.value c.args.wanted c.args.self.now c.loop-found.self d c.law.ensures went
+    c.args.gives c.loop-found.invariant.0 found c.in-Some.ensures.found c.loop-found.invariant.1 f
+    (call_on call c.replace_and_unlink.ensures.settles.call) asked.values (Some old) x.is none
+    (changes_since d e f found c.law-in-loop-found.ensures call x.used x.read x.keeps c.args.value c.loop-found.hand
+    (Some old) x.known (replaced old known).stores))
+
+pub loop-found-preserved : goal.loop-found-preserved
+loop-found-preserved g c =
+    let went = c.reach.ensures.goes in
+    let d = c.reach.new.self in
+    let e = c.ask.new.self in
+    let f = c.replace_and_unlink.new.self in
+    let found = wide_found c.loop-found.self c.in-Some.found in
+    let old = c.in-Some-there.field-0 in
+    let x = rw c.in-Some-there.is at (rw c.in-Ok-asked.is at (simp went.call.at.slots at c.in-Ok.ensures.told)) in
+    let call = c.ask.ensures.asks.call in
+    let back = simp (call.at.slots ∙ went.call.at.slots) at c.in-Err-replace_and_unlink.ensures.back in
+    let none = absent_none c.args.gives c.args.wanted (Some old) c.requires.asked.absent x.is in
+    let law = c.law-in-loop-found.ensures in
+    held_lost (each_lost c.args.gives) {b = c.args.self.now} c.law.ensures c.loop-found.invariant.0 went found
+    c.in-Some.ensures.found c.loop-found.invariant.1
+    (settles_since d e f found law call x.used x.read x.keeps c.replace_and_unlink.ensures.settles)
+    (leaves_since d e f found law call x.used x.read x.keeps c.args.gives c.loop-found.hand
+    c.in-Err-replace_and_unlink.back (Some old) none x.known back)
