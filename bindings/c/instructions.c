@@ -1,8 +1,10 @@
-/* Calls of one kind, whose instructions valgrind's callgrind counts: instructions KIND. Without KIND it lists the kinds, and makes
-   calls of each. It measures, and claims nothing but that each call answers as it should. bench/instructions makes the table.
+/* Calls of one kind, whose instructions valgrind's callgrind counts: instructions KIND [KEYS BUCKETS]. Without KIND it lists the
+   kinds, and makes calls of each. It measures, and claims nothing but that each call answers as it should. bench/instructions makes
+   the table.
 
-   A set and a map have 10,000 even keys in 8,192 buckets, with seed 7. They have one handle each, so a run is as the one before. What
-   is counted is `measured` with all that it calls: some ten instructions of each call are its own. */
+   A set and a map have so many even keys in so many buckets, 10,000 in 8,192 where they aren't given, with seed 7. They have one handle
+   each, so a run is as the one before. What is counted is `measured` with all that it calls: some ten instructions of each call are
+   its own. */
 #include "vbr.h"
 #include "vbr_records.h"
 
@@ -12,7 +14,9 @@
 
 #define CHECK(x) do { if (!(x)) { fprintf(stderr, "instructions.c:%d: FAILED: %s\n", __LINE__, #x); exit(1); } } while (0)
 
-enum { KEYS = 10000, BUCKETS = 8192, SLOTS = KEYS + 6384, CALLS = 5000, BATCH = 64 };
+enum { KEYS = 10000, BUCKETS = 8192, MORE_SLOTS = 6384, CALLS = 5000, BATCH = 64 };
+
+static uint32_t many = KEYS, buckets = BUCKETS;
 
 static vbr_handle set;
 static vbr_map_handle map;
@@ -30,6 +34,7 @@ OF(next, vbr_next(&set, &cursor, &key_told))
 OF(next_at, vbr_next_at(&set, &cursor, &key_told, &at))
 OF(insert, vbr_insert(&set, key))
 OF(removes, vbr_remove(&set, key))
+OF(insert_and_remove, vbr_insert(&set, key) == VBR_YES ? vbr_remove(&set, key) : VBR_NO)
 OF(hold, vbr_hold(&set, &slot))
 OF(let_go, vbr_let_go(&set))
 OF(insert_held, vbr_insert_held(&set, key))
@@ -42,6 +47,7 @@ OF(map_next, vbr_map_next(&map, &cursor, &entry))
 OF(map_next_at, vbr_map_next_at(&map, &cursor, &key_told, &at))
 OF(map_insert, vbr_map_insert(&map, key, key))
 OF(map_remove, vbr_map_remove(&map, key, &value))
+OF(map_insert_and_remove, vbr_map_insert(&map, key, key) == VBR_YES ? vbr_map_remove(&map, key, &value) : VBR_NO)
 OF(map_replace, vbr_map_replace(&map, key, key + 1, &value))
 OF(map_put, vbr_map_put(&map, key, key + 1, &value))
 OF(map_get_or_insert, vbr_map_get_or_insert(&map, key, key, &value))
@@ -92,6 +98,7 @@ static const struct kind {
     {"insert of a key that is there", insert, 0, NOTHING, VBR_NO},
     {"remove", removes, 0, NOTHING, VBR_YES},
     {"remove of an absent key", removes, 1, NOTHING, VBR_NO},
+    {"insert and remove", insert_and_remove, 1, NOTHING, VBR_YES},
     {"hold", hold, 0, LETS_GO, VBR_YES},
     {"let_go", let_go, 0, HOLDS, VBR_YES},
     {"insert_held", insert_held, 1, HOLDS, VBR_YES},
@@ -108,6 +115,7 @@ static const struct kind {
     {"map_insert of a key that is there", map_insert, 0, NOTHING, VBR_NO},
     {"map_remove", map_remove, 0, NOTHING, VBR_YES},
     {"map_remove of an absent key", map_remove, 1, NOTHING, VBR_NO},
+    {"map_insert and map_remove", map_insert_and_remove, 1, NOTHING, VBR_YES},
     {"map_replace", map_replace, 0, NOTHING, VBR_YES},
     {"map_put", map_put, 0, NOTHING, VBR_YES},
     {"map_put of an absent key", map_put, 1, NOTHING, VBR_NO},
@@ -128,12 +136,12 @@ static const struct kind {
 enum { KINDS = sizeof kinds / sizeof *kinds };
 
 /* Keys in an order that isn't theirs: each once. */
-static uint64_t key_of(uint64_t i) { return 2 * (i * 7919 % KEYS); }
+static uint64_t key_of(uint64_t i) { return 2 * (i * 7919 % many); }
 
 static void opens(void) {
-    CHECK(vbr_open_seeded(&set, 1, SLOTS, BUCKETS, VBR_MAX_EPOCH, 7, &key_told, 0) == VBR_OK);
-    CHECK(vbr_map_open_seeded(&map, 1, SLOTS, BUCKETS, VBR_MAX_EPOCH, 7, &entry, 0) == VBR_OK);
-    for (uint64_t i = 0; i < KEYS; i++) {
+    CHECK(vbr_open_seeded(&set, 1, many + MORE_SLOTS, buckets, VBR_MAX_EPOCH, 7, &key_told, 0) == VBR_OK);
+    CHECK(vbr_map_open_seeded(&map, 1, many + MORE_SLOTS, buckets, VBR_MAX_EPOCH, 7, &entry, 0) == VBR_OK);
+    for (uint64_t i = 0; i < many; i++) {
         uint64_t key = key_of(i);
         CHECK(vbr_insert(&set, key) == VBR_YES && vbr_map_insert(&map, key, key) == VBR_YES);
         CHECK(vbr_get_entry(&set, key, &of_key[key]) == VBR_YES && vbr_map_get_entry(&map, key, &of_map_key[key]) == VBR_YES);
@@ -159,6 +167,11 @@ static void calls(const struct kind *kind) {
 }
 
 int main(int argc, char **argv) {
+    if (argc > 3) {
+        many = (uint32_t)strtoul(argv[2], NULL, 10);
+        buckets = (uint32_t)strtoul(argv[3], NULL, 10);
+        CHECK(0 < many && many <= KEYS);
+    }
     for (int i = 0; i < KINDS; i++) {
         if (argc < 2) puts(kinds[i].name);
         if (argc < 2 || strcmp(argv[1], kinds[i].name) == 0) calls(&kinds[i]);

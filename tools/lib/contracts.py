@@ -15,8 +15,8 @@ OPEN = []
 # load each, by its README.
 ON_SHARED_WORDS = {
     "stepping.rt": {
-        "load_at": "load",
-        "load": "load",
+        "load_link_at": "load",
+        "load_word": "load",
         "read_epoch_as": "load",
         "store": "store",
         "store_at": "store",

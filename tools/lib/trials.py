@@ -27,6 +27,7 @@ def long(library):
         trial("faults", ["tests/faults"]),
         trial("kept-inputs", ["tests/fuzz/run", "--kept"], library),
         trial("inputs", ["tests/fuzz/run", "300000", "20000"], "kept-inputs"),
+        trial("instructions", ["bench/instructions", "--gate"], library),
     ]
 
 

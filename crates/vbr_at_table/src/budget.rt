@@ -9,5 +9,5 @@ pub const PIECE: u32 = 8;
 pub fn affords(budget: u32, used: u32) -> bool
     ensures { IsTrue result ↔ (used + PIECE ≤ budget) }
 {
-    u64::from(used) + u64::from(PIECE) <= u64::from(budget)
+    used < budget.saturating_sub(PIECE - 1)
 }

@@ -60,16 +60,15 @@ pub fn first<N: Nodes>(
 {
     at.law();
     let place = At::Head(bucket);
-    let before = at.epoch();
-    let (word, now) = at.read_link(place);
-    if now != before {
-        return Err(Rollback::EpochMoved { now });
+    let (word, read) = at.read_link(place);
+    if !read.stays {
+        return Err(Rollback::EpochMoved { now: read.epoch });
     }
     Ok(Held {
         at: place,
         birth: 0,
         word,
-        epoch: now,
+        epoch: read.epoch,
     })
 }
 
@@ -91,16 +90,15 @@ pub fn next<N: Nodes>(at: &mut AtTable<'_, N>, held: &Held) -> Result<Option<Hel
     let Some(slot) = decode(held.word, at.slots.layout()).slot else {
         return Ok(None);
     };
-    let before = at.epoch();
-    let (birth, word, now) = at.read_node(slot);
-    if now != before {
-        return Err(Rollback::EpochMoved { now });
+    let (birth, word, read) = at.read_node(slot);
+    if !read.stays {
+        return Err(Rollback::EpochMoved { now: read.epoch });
     }
     Ok(Some(Held {
         at: At::Slot(slot),
         birth,
         word,
-        epoch: now,
+        epoch: read.epoch,
     }))
 }
 
@@ -120,10 +118,9 @@ pub fn key_of<N: Nodes>(at: &mut AtTable<'_, N>, node: &Held) -> Result<u64, Rol
     let At::Slot(slot) = node.at else {
         unreachable!()
     };
-    let before = at.epoch();
-    let (key, now) = at.read_key(slot);
-    if now != before {
-        return Err(Rollback::EpochMoved { now });
+    let (key, read) = at.read_key(slot);
+    if !read.stays {
+        return Err(Rollback::EpochMoved { now: read.epoch });
     }
     Ok(key)
 }
@@ -145,10 +142,9 @@ pub fn value_of<N: Nodes>(at: &mut AtTable<'_, N>, node: &Held) -> Result<u64, R
     let At::Slot(slot) = node.at else {
         unreachable!()
     };
-    let before = at.epoch();
-    let (value, now) = at.read_value(slot);
-    if now != before {
-        return Err(Rollback::EpochMoved { now });
+    let (value, read) = at.read_value(slot);
+    if !read.stays {
+        return Err(Rollback::EpochMoved { now: read.epoch });
     }
     Ok(value)
 }

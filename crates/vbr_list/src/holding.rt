@@ -1,4 +1,4 @@
-//! Inserts by a slot that the pass has in hand already.
+//! Inserts, puts and replacements by a slot that the pass has in hand already.
 ghost use Rattle.std.specs.Prelude.{◌≡◌, false, true, IfOk, IfErr, None};
 ghost use Rattle.vbr_at_table.specs.pools.GivingBack.{PutsBack};
 ghost use Rattle.vbr_at_table.specs.hands.KeptSlots.{TakesNoSlot};

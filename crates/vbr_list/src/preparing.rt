@@ -3,7 +3,7 @@
 ghost use Rattle.std.specs.Prelude.{◌≡◌, false, None, IfOk, IfErr, IfNone, IfSome};
 ghost use Rattle.vbr_list.specs.updates.Inserting.{Prepares, TriesFor};
 ghost use Rattle.vbr_list.specs.calls.Pieces.{HasRoomForPiece, pass_in};
-ghost use Rattle.vbr_list.specs.updates.Preparing.{AskLoses, Asks, GivesOrInserts, AsksTold, IsMet, IsPrepared, Meeting, MeetTires, PreparesNone, has_wanted};
+ghost use Rattle.vbr_list.specs.updates.Preparing.{Asks, GivesOrInserts, IsMet, IsPrepared, Meeting, MeetTires, PreparesNone, ReadsWanted, SaysUnmet, has_wanted};
 ghost use Rattle.vbr_list.specs.traversals.Traversing.{LocatesFor};
 ghost use Rattle.vbr_list.specs.calls.Words.{wide_found};
 
@@ -11,7 +11,7 @@ use crate::call::PendingCall;
 use crate::found::Found;
 use crate::wanted::Wanted;
 use vbr_at_table::budget::affords;
-use vbr_at_table::{Hand, Refusal, Rollback};
+use vbr_at_table::{Hand, Refusal};
 use vbr_words::Nodes;
 
 /// How a call without a slot in hand found its key.
@@ -21,6 +21,15 @@ pub(crate) enum Met {
     AsWanted,
     /// Otherwise, and it is answered: with what was there, whose value is 0 where none is given.
     Otherwise(Option<u64>),
+}
+
+/// Why a call changed nothing at the place that it found.
+#[derive(Clone, Copy)]
+pub(crate) enum Unmet {
+    /// What is there isn't as it is wanted, and the call was answered with it, as by [`Met::Otherwise`].
+    Otherwise(Option<u64>),
+    /// What was found has changed since, and no call was made.
+    Changed,
 }
 
 /// What a call has before it changes anything.
@@ -45,38 +54,44 @@ fn has_wanted(wanted: Wanted, present: bool) -> bool
 }
 
 impl<N: Nodes> PendingCall<'_, N> {
-    /// Reads what was there: gives it where it is as wanted, else answers a get with it, which is the error. A
-    /// call that gives nothing wants the key absent, and reads nothing: it is answered no where the key is there.
+    /// Reads what was there: returns it where it is as wanted, and else answers a get with it. A call that gives
+    /// nothing wants the key absent, and reads nothing: it is answered no where the key is there.
     #[inline(always)]
     pub(crate) fn ask(
         &mut self,
         found: &Found,
         wanted: Wanted,
         gives: bool,
-    ) -> Result<Result<Option<u64>, Option<u64>>, Rollback>
+    ) -> Result<Option<u64>, Unmet>
         requires asked { GivesOrInserts gives wanted self.old }
         requires locates { LocatesFor self.old (wide_found self.old found.now) }
         requires room { HasRoomForPiece self.old }
         ensures asks { Asks self.old self.new }
-        ensures told { IfOk result
-            (AsksTold gives wanted self.old self.new (wide_found self.old found.now)) }
-        ensures lost { IfErr result
-            (λ _. AskLoses self.old self.new (wide_found self.old found.now)) }
+        ensures wanted { IfOk result
+            (ReadsWanted wanted self.old self.new (wide_found self.old found.now)) }
+        ensures unmet { IfErr result
+            (SaysUnmet gives wanted self.old self.new (wide_found self.old found.now)) }
     {
         self.at.law();
         if !gives {
             if !found.present {
-                return Ok(Ok(None));
+                return Ok(None);
             }
-            self.answer_no(found)?;
-            return Ok(Err(Some(0)));
+            let Ok(()) = self.answer_no(found) else {
+                return Err(Unmet::Changed);
+            };
+            return Err(Unmet::Otherwise(Some(0)));
         }
-        let there = self.read_found(found)?;
+        let Ok(there) = self.read_found(found) else {
+            return Err(Unmet::Changed);
+        };
         if wanted.wants(there) {
-            return Ok(Ok(there));
+            return Ok(there);
         }
-        self.tell_found(found, there)?;
-        Ok(Err(there))
+        let Ok(()) = self.tell_found(found, there) else {
+            return Err(Unmet::Changed);
+        };
+        Err(Unmet::Otherwise(there))
     }
 
     // Looks for the key until it is found as it is wanted, or the call was answered, as it is otherwise;
@@ -102,12 +117,12 @@ impl<N: Nodes> PendingCall<'_, N> {
             if !affords(self.budget, self.used) {
                 return None;
             }
-            let Ok(asked) = self.ask(&found, wanted, gives) else {
-                continue;
-            };
-            match asked {
+            match self.ask(&found, wanted, gives) {
                 Ok(_) => return Some(Met::AsWanted),
-                Err(there) => return Some(Met::Otherwise(there)),
+                Err(unmet) => match unmet {
+                    Unmet::Otherwise(there) => return Some(Met::Otherwise(there)),
+                    Unmet::Changed => {}
+                },
             }
         }
     }

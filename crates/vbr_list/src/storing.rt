@@ -16,7 +16,7 @@ ghost use Rattle.vbr_list.specs.calls.Words.{wide_found};
 
 use crate::call::{PendingCall, begin};
 use crate::found::Found;
-use crate::preparing::Prepared;
+use crate::preparing::{Prepared, Unmet};
 use crate::valuing::steps_to_update;
 use crate::wanted::Wanted;
 use vbr_at_table::{Hand, Refusal, give_back, update};
@@ -113,12 +113,12 @@ impl<N: Nodes> PendingCall<'_, N> {
                 return Err((hand, Unstored::OutOfSteps { used: self.used }));
             };
             self.at.law();
-            let Ok(asked) = self.ask(&found, wanted, gives) else {
-                continue;
-            };
-            let there = match asked {
+            let there = match self.ask(&found, wanted, gives) {
                 Ok(there) => there,
-                Err(there) => return Err((hand, Unstored::Otherwise(there))),
+                Err(unmet) => match unmet {
+                    Unmet::Otherwise(there) => return Err((hand, Unstored::Otherwise(there))),
+                    Unmet::Changed => continue,
+                },
             };
             match there {
                 None => match self.link_found(&found, value, hand) {

@@ -35,6 +35,7 @@ pub use at_table::AtTable;
 pub use close_error::CloseError;
 pub use opening::{MAX_MANY_PASSES, MAX_PASSES, OpenError, OpenManyError};
 pub use pass::Pass;
+pub use runner::EpochRead;
 pub use seen::Seen;
 pub use slots::Slots;
 pub use stepper::Stepper;

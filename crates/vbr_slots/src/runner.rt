@@ -1,5 +1,5 @@
 //! The seat of a pass at its table: what a step alone needs of the pass.
-ghost use Rattle.std.specs.Prelude.{◌≡◌};
+ghost use Rattle.std.specs.Prelude.{◌≡◌, ◌↔◌, IsTrue};
 ghost use Rattle.vbr_slots.specs.views.Views.{epoch_after, knows};
 
 use crate::rule::{Opening, Witness};
@@ -52,13 +52,25 @@ pub(crate) fn keep_epoch(epoch: &mut u64, step: Step, found: u64)
     }
 }
 
-// Keeps the epoch that was found, where the last one read was this. Nothing is stored where it stayed.
+/// The epoch that a pass read after its loads.
+#[derive(Clone, Copy, Debug, PartialEq, Eq)]
+pub struct EpochRead {
+    /// The epoch.
+    pub epoch: u64,
+    /// Whether it is the epoch that the pass had read before. Then what it loaded in between is checked.
+    pub stays: bool,
+}
+
+// Keeps the epoch that was found, and says whether it is the one that was kept. Nothing is stored where it
+// stayed.
 #[inline]
-pub(crate) fn keep_epoch_found(epoch: &mut u64, before: u64, found: u64)
-    requires { before ≡ epoch.old }
-    ensures { epoch.new ≡ found }
+pub(crate) fn keep_epoch_found(epoch: &mut u64, found: u64) -> bool
+    ensures kept { epoch.new ≡ found }
+    ensures stays { IsTrue result ↔ (found ≡ epoch.old) }
 {
-    if before != found {
+    let stays = *epoch == found;
+    if !stays {
         *epoch = found;
     }
+    stays
 }

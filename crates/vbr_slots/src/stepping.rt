@@ -3,7 +3,7 @@
 //
 // A step is given to the table as an event: each of these functions takes it as its type argument, which
 // the caller picks.
-ghost use Rattle.std.specs.Prelude.{◌≡◌, ℕ, ◌+◌, ◌<◌, ◌≤◌, ◌^◌};
+ghost use Rattle.std.specs.Prelude.{◌≡◌, ◌↔◌, ℕ, ◌+◌, ◌<◌, ◌≤◌, ◌^◌, IsTrue};
 ghost use Rattle.vbr_machine.specs.Acceptance.{Accepts};
 ghost use Rattle.vbr_machine.specs.Machine.{Load, Store, Exchange, FetchOr, FetchAnd, access_of, place_of_step};
 ghost use Rattle.vbr_machine.specs.Runs.{Begins, BeginsFor};
@@ -18,7 +18,7 @@ ghost use Rattle.vbr_slots.specs.words.Words.{IsPlain};
 ghost use Rattle.vbr_slots.specs.words.WideWords.{wide_in};
 
 use crate::rule::{Both, Catches, Does, DoesAtLink, First, Naming, Note, Whole};
-use crate::runner::{Runner, keep_epoch, keep_epoch_found};
+use crate::runner::{EpochRead, Runner, keep_epoch, keep_epoch_found};
 use crate::seen::Seen;
 use crate::slots::Slots;
 use crate::stepper::Stepper;
@@ -63,34 +63,56 @@ impl<N: Nodes> Slots<N> {
         ensures step { Did step stepper.old.trace stepper.new.trace (wide_in self.now result) }
         ensures pool { KeepsPool stepper.old stepper.new }
     {
+        let word = link_index_in::<N>(&self.opening.shape, holder);
+        self.load_link_at::<E>(stepper, step, holder, word)
+    }
+
+    // One load of the link word with this index, which is the step. The stepper's own pool and hand stay.
+    #[inline]
+    pub(crate) fn load_link_at<E: Naming>(
+        &self,
+        stepper: &mut Stepper,
+        step: Step,
+        holder: At,
+        word: usize,
+    ) -> u64
+        requires named { NamesStep E.event E.opening stepper.old.trace self.now step }
+        requires own { IsOf stepper.old.trace self.now }
+        requires accepted { Accepts self.now.start (knows stepper.old.trace) step }
+        requires place { places.place_of holder ≡ place_of_step step }
+        requires index { word ≡ places.index_of self.now.start.shape (places.place_of holder) }
+        requires access { access_of (knows stepper.old.trace) step ≡ Load }
+        ensures step { Did step stepper.old.trace stepper.new.trace (wide_in self.now result) }
+        ensures pool { KeepsPool stepper.old stepper.new }
+    {
         let runner = &mut stepper.runner;
         let _ = &runner.epoch;
-        let word = link_index_in::<N>(&self.opening.shape, holder);
         self.table
             .shared
             .load::<DoesAtLink<E>>(&mut runner.seat, word)
     }
 
-    // One load of a link word, and one of the epoch: two steps. The stepper's pass read `before` last.
+    // One load of a link word, and one of the epoch: two steps.
     #[inline]
     pub(crate) fn load_at_and_epoch(
         &self,
         stepper: &mut Stepper,
-        before: u64,
         step: Step,
         holder: At,
-    ) -> (u64, u64)
+    ) -> (u64, EpochRead)
         requires own { IsOf stepper.old.trace self.now }
-        requires before { before ≡ (knows stepper.old.trace).epoch }
         requires accepted { Accepts self.now.start (knows stepper.old.trace) step }
         requires place { places.place_of holder ≡ place_of_step step }
         requires access { access_of (knows stepper.old.trace) step ≡ Load }
         requires stays { (found epoch : ℕ) → epoch_after step found epoch ≡ epoch }
-        ensures { Reads step stepper.old stepper.new (wide_in self.now result.0) result.1 }
+        ensures reads { Reads step stepper.old stepper.new
+            (wide_in self.now result.0) result.1.epoch }
+        ensures stays { IsTrue result.1.stays ↔
+            (result.1.epoch ≡ (knows stepper.old.trace).epoch) }
     {
         let found = self.load_at::<Brand>(stepper, step, holder);
-        let epoch = self.read_epoch_as::<Brand>(&mut stepper.runner, before);
-        (found, epoch)
+        let read = self.read_epoch_as::<Brand>(&mut stepper.runner);
+        (found, read)
     }
 
     // One load, which is the step. The stepper's own pool and hand stay.
@@ -105,51 +127,65 @@ impl<N: Nodes> Slots<N> {
         ensures step { Did step stepper.old.trace stepper.new.trace result }
         ensures pool { KeepsPool stepper.old stepper.new }
     {
-        let runner = &mut stepper.runner;
         let word = place_index_in::<N>(&self.opening.shape, place);
+        self.load_word::<E>(stepper, step, word)
+    }
+
+    // One load of the word with this index, which is the step. The stepper's own pool and hand stay.
+    #[inline]
+    pub(crate) fn load_word<E: Naming>(&self, stepper: &mut Stepper, step: Step, word: usize) -> u64
+        requires named { NamesStep E.event E.opening stepper.old.trace self.now step }
+        requires own { IsOf stepper.old.trace self.now }
+        requires accepted { Accepts self.now.start (knows stepper.old.trace) step }
+        requires index { word ≡ places.index_of self.now.start.shape (place_of_step step) }
+        requires plain { IsPlain (place_of_step step) }
+        requires access { access_of (knows stepper.old.trace) step ≡ Load }
+        ensures step { Did step stepper.old.trace stepper.new.trace result }
+        ensures pool { KeepsPool stepper.old stepper.new }
+    {
+        let runner = &mut stepper.runner;
         let found = self.table.shared.load::<Does<E>>(&mut runner.seat, word);
         keep_epoch(&mut runner.epoch, step, found);
         found
     }
 
-    // One load of the epoch, which is the step. The runner read `before` last, which its caller looks up
-    // before the loads that come first: so what the caller compares with that is compared once.
+    // One load of the epoch, which is the step. The epoch that the runner read before is compared where it
+    // stands, after the load.
     #[inline]
-    fn read_epoch_as<E: Naming>(&self, runner: &mut Runner, before: u64) -> u64
+    pub(crate) fn read_epoch_as<E: Naming>(&self, runner: &mut Runner) -> EpochRead
         requires named { NamesStep E.event E.opening runner.old self.now ReadEpoch }
         requires own { IsOf runner.old self.now }
         requires accepted { Accepts self.now.start (knows runner.old) ReadEpoch }
-        requires before { before ≡ (knows runner.old).epoch }
-        ensures { Did ReadEpoch runner.old runner.new result }
+        ensures step { Did ReadEpoch runner.old runner.new result.epoch }
+        ensures stays { IsTrue result.stays ↔ (result.epoch ≡ (knows runner.old).epoch) }
     {
         let word = place_index_in::<N>(&self.opening.shape, Place::Epoch);
-        let found = self.table.shared.load::<Does<E>>(&mut runner.seat, word);
-        keep_epoch_found(&mut runner.epoch, before, found);
-        found
+        let epoch = self.table.shared.load::<Does<E>>(&mut runner.seat, word);
+        let stays = keep_epoch_found(&mut runner.epoch, epoch);
+        EpochRead { epoch, stays }
     }
 
-    // One load of another word than the epoch, and one of the epoch: two steps. The stepper's pass read
-    // `before` last.
+    // One load of another word than the epoch, and one of the epoch: two steps.
     #[inline]
     pub(crate) fn load_and_epoch(
         &self,
         stepper: &mut Stepper,
-        before: u64,
         step: Step,
         place: Place,
-    ) -> (u64, u64)
+    ) -> (u64, EpochRead)
         requires own { IsOf stepper.old.trace self.now }
-        requires before { before ≡ (knows stepper.old.trace).epoch }
         requires accepted { Accepts self.now.start (knows stepper.old.trace) step }
         requires place { place ≡ place_of_step step }
         requires plain { IsPlain place }
         requires access { access_of (knows stepper.old.trace) step ≡ Load }
         requires stays { (found epoch : ℕ) → epoch_after step found epoch ≡ epoch }
-        ensures { Reads step stepper.old stepper.new result.0 result.1 }
+        ensures reads { Reads step stepper.old stepper.new result.0 result.1.epoch }
+        ensures stays { IsTrue result.1.stays ↔
+            (result.1.epoch ≡ (knows stepper.old.trace).epoch) }
     {
         let found = self.load::<Brand>(stepper, step, place);
-        let epoch = self.read_epoch_as::<Brand>(&mut stepper.runner, before);
-        (found, epoch)
+        let read = self.read_epoch_as::<Brand>(&mut stepper.runner);
+        (found, read)
     }
 
     // One store of a word, which is the step.

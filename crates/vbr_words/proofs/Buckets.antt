@@ -1,11 +1,7 @@
 -- The bucket of a key, where keys are spread and where they aren't.
-use Rattle.std.proofs.Common.{◌≡◌, ℕ, Bool, true, false, ◌-◌, ◌*◌, ◌/◌, ◌%◌, ◌^◌, ◌<◌, ◌==◌, Option, None, Some}
-use Rattle.std.proofs.Common.{refl, ap, sym, subst, arith}
-use Rattle.std.specs.Int.{trailing_zeros, w32}
-use Rattle.std.specs.Prelude.{count_ones, if◌then◌else◌}
-use Rattle.std.proofs.lemmas.Bool.Decides.{nat_tests}
+use Rattle.std.proofs.Common.{◌≡◌, ℕ, ◌*◌, ◌/◌, ◌%◌, ◌^◌, ◌<◌, Option, None, Some, refl, ap, sym, subst, arith}
 use Rattle.std.proofs.Math.Nat.{div-lt_iff_lt-mul, mul-lt-mul_of_pos_right}
-use Rattle.vbr_words.specs.Buckets.{bucket_among, bucket_of, mixed, shift_for}
+use Rattle.vbr_words.specs.Buckets.{bucket_among, bucket_of, mixed}
 use Rattle.vbr_words.specs.Dimensions.{Dimensions}
 
 -- where keys are spread
@@ -34,16 +30,3 @@ bucket_of-lt shape key some = go shape.spread refl
         subst (λ (n : ℕ). n < shape.buckets) (bucket_of-spread shape key multiplier e)
         (part_low (mixed multiplier key) shape.buckets (omega arith) some)
     go None e = subst (λ (n : ℕ). n < shape.buckets) (bucket_of-modulo shape key e) (omega arith)
-
--- mixed bits are shifted where the number of buckets is a power of two
-pub shift_is : (buckets : ℕ) → 0 < shift_for buckets →
-    (count_ones buckets ≡ 1) × (shift_for buckets ≡ 32 - trailing_zeros w32 buckets)
-shift_is buckets some = go (count_ones buckets == 1) refl
-  where
-    by_test : Bool → ℕ
-    by_test test = if test then 32 - trailing_zeros w32 buckets else 0
-
-    go : (test : Bool) → (count_ones buckets == 1) ≡ test →
-        (count_ones buckets ≡ 1) × (shift_for buckets ≡ 32 - trailing_zeros w32 buckets)
-    go true e = (grind (arith, nat_tests, e), ap by_test e)
-    go false e = let none : shift_for buckets ≡ 0 = ap by_test e in absurd (omega (arith, some, none))

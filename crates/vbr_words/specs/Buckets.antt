@@ -1,6 +1,5 @@
 -- Which bucket a key belongs to.
-use Rattle.std.specs.Prelude.{◌≡◌, ℕ, ◌+◌, ◌-◌, ◌*◌, ◌/◌, ◌%◌, ◌^◌, ◌==◌, Option, None, Some, count_ones, if◌then◌else◌}
-use Rattle.std.specs.Int.{trailing_zeros, w32}
+use Rattle.std.specs.Prelude.{◌≡◌, ℕ, ◌+◌, ◌*◌, ◌/◌, ◌%◌, ◌^◌, Option, None, Some}
 use Rattle.vbr_words.specs.Dimensions.{Dimensions}
 use Rattle.vbr_words.specs.declared.shape.TheConstants.{MIXER}
 
@@ -16,10 +15,6 @@ IsOdd (Some multiplier) = multiplier % 2 ≡ 1
 -- a key's bits mixed: the upper half of its product with an odd number, modulo 2^64 (multiplicative hashing, Knuth 1973)
 abbrev pub mixed : ℕ → ℕ → ℕ
 mixed multiplier key = key * multiplier % 2 ^ 64 / 2 ^ 32
-
--- by how many bits mixed bits are shifted to give a part of so many buckets: 0 where these are no power of two
-abbrev pub shift_for : ℕ → ℕ
-shift_for buckets = if count_ones buckets == 1 then 32 - trailing_zeros w32 buckets else 0
 
 -- the bucket among so many: the key modulo their number; where keys are spread, the part of the buckets that its mixed bits are of 2^32
 abbrev pub bucket_among : ℕ → Option ℕ → ℕ → ℕ

@@ -2,7 +2,7 @@
 //! have values.
 ghost use Rattle.std.specs.Prelude.{◌≡◌, ◌+◌, ◌*◌, ◌/◌, ◌<◌, ◌≤◌, ◌%◌, ◌^◌, ◌⊎◌, true, false, None, Some, IfSome, MatchOption, MatchResult, is_some};
 ghost use Rattle.vbr_words.specs.declared.shape.TheConstants.{MAX_SPREAD_BUCKETS};
-ghost use Rattle.vbr_words.specs.Buckets.{bucket_of, mixed, multiplier_of, shift_for};
+ghost use Rattle.vbr_words.specs.Buckets.{bucket_of, mixed, multiplier_of};
 ghost use Rattle.vbr_words.specs.Dimensions.{IsShape};
 ghost use Rattle.vbr_words.specs.Shapes.{last_epoch_for, shape_error};
 ghost use Rattle.vbr_words.specs.Packing.{max_epoch, slot_bits};
@@ -40,8 +40,6 @@ pub struct Shape {
     last_epoch: u64,
     spread: Option<u64>,
     values: bool,
-    // by how many bits the mixed bits of a key are shifted to give its bucket; 0: the buckets are no power of two
-    shift: u8,
     layout: Layout,
 }
 
@@ -49,7 +47,7 @@ impl Model for Shape {
     ghost use Rattle.std.specs.Prelude.{◌≡◌};
     ghost use Rattle.std.proofs.Common.{sym};
     ghost use Rattle.vbr_words.specs.Dimensions.{Dimensions, IsShape};
-    ghost use Rattle.vbr_words.specs.Buckets.{IsOdd, shift_for};
+    ghost use Rattle.vbr_words.specs.Buckets.{IsOdd};
     ghost use Rattle.vbr_words.specs.Packing.{slot_bits};
 
     ghost Value = { Dimensions };
@@ -68,7 +66,7 @@ impl Model for Shape {
       spread = s.spread;
       last_epoch = s.last_epoch;
       values = s.values;
-    }) × (s.layout ≡ slot_bits s.slots) × (s.shift ≡ shift_for s.buckets) };
+    }) × (s.layout ≡ slot_bits s.slots) };
 
     ghost inverse = { λ d. record {
       slots = d.slots;
@@ -76,7 +74,6 @@ impl Model for Shape {
       last_epoch = d.last_epoch;
       spread = d.spread;
       values = d.values;
-      shift = shift_for d.buckets;
       layout = slot_bits d.slots;
     } };
 
@@ -86,7 +83,6 @@ impl Model for Shape {
       last_epoch = a.last_epoch;
       spread = a.spread;
       values = a.values;
-      shift = sym h.3 i;
       layout = sym h.2 i;
     } };
 }
@@ -174,7 +170,6 @@ impl Shape {
             last_epoch,
             spread: None,
             values: false,
-            shift: shift_for(buckets),
             layout: Layout::of(slots),
         })
     }
@@ -209,7 +204,6 @@ impl Shape {
         Ok(Shape {
             buckets,
             spread: Some(multiplier_of(seed)),
-            shift: shift_for(buckets),
             ..self
         })
     }
@@ -309,7 +303,7 @@ impl Shape {
     {
         let buckets = u64::from(self.buckets);
         if let Some(multiplier) = self.spread {
-            part_of(mixed(multiplier, key), self.buckets, self.shift)
+            part_of(mixed(multiplier, key), self.buckets)
         } else if buckets.is_power_of_two() {
             (key & (buckets - 1)) as u32
         } else {
@@ -346,30 +340,13 @@ pub fn shape_word(shape: &Shape) -> u64
     u64::from(shape.slots) + shape.layout.mark() * shape.last_epoch
 }
 
-// By how many bits mixed bits are shifted where the number of buckets is a power of two; 0 where it isn't.
-fn shift_for(buckets: u32) -> u8
-    ensures { result ≡ shift_for buckets }
-{
-    if buckets.is_power_of_two() {
-        (32 - buckets.trailing_zeros()) as u8
-    } else {
-        0
-    }
-}
-
-// The part of so many buckets that mixed bits are of 2^32. A shift finds it where the number of buckets is a
-// power of two.
+// The part of so many buckets that mixed bits are of 2^32: a product and a shift, whatever the number of buckets.
 #[inline]
-fn part_of(bits: u64, buckets: u32, shift: u8) -> u32
+fn part_of(bits: u64, buckets: u32) -> u32
     requires half { bits < 2 ^ 32 }
-    requires shift { shift ≡ shift_for buckets }
     ensures part { result ≡ bits * buckets / 2 ^ 32 }
 {
-    if shift > 0 {
-        (bits >> shift) as u32
-    } else {
-        (bits * u64::from(buckets) >> 32) as u32
-    }
+    (bits * u64::from(buckets) >> 32) as u32
 }
 
 // The bits of a key, mixed: the upper half of a product.

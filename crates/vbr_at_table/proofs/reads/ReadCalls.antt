@@ -1,5 +1,6 @@
 -- Steps that read, one after another, as what a call tells that reads.
-use Rattle.std.proofs.Common.{◌≡◌, ◌≢◌, ℕ, ◌+◌, false, [], Option, Some, None, refl, sym, ap, ◌∙◌, subst}
+use Rattle.std.proofs.Common.{◌≡◌, ◌≢◌, ◌↔◌, ℕ, ◌+◌, Bool, IsTrue, not, true, false, [], Option, Some, None}
+use Rattle.std.proofs.Common.{refl, sym, ap, ◌∙◌, subst}
 use Rattle.vbr_machine.specs.Start.{Start, IsStart}
 use Rattle.vbr_words.specs.Words.{link_of}
 use Rattle.vbr_words.specs.declared.place.At.{At}
@@ -210,8 +211,15 @@ value_told {p} {q} {s} {value} place is x same =
 
 -- ---- the epoch has moved
 
-pub apart : {a b e : ℕ} → a ≢ b → b ≡ e → a ≢ e
-apart ne is = λ x. ne (x ∙ sym is)
+-- where it doesn't stay it is another one
+pub apart : {stays : Bool} {now before : ℕ} → (IsTrue stays ↔ (now ≡ before)) → not stays ≡ true → now ≢ before
+apart {stays = true} told other = λ same. absurd (cc)
+apart {stays = false} told other = λ same. absurd (let no : false ≡ true = told.1 same in cc)
+
+-- where it stays it is the one before
+pub stayed : {stays : Bool} {now before : ℕ} → (IsTrue stays ↔ (now ≡ before)) → not stays ≡ false → now ≡ before
+stayed {stays = true} told kept = told.0 refl
+stayed {stays = false} told kept = absurd (cc)
 
 pub has_moved : (p : Trace) {q r : Trace} {epoch : ℕ} → Keeps (knows p) (knows q) → Did ReadEpoch q r epoch →
     epoch ≢ (knows p).epoch → IsMoved p r (EpochMoved epoch)

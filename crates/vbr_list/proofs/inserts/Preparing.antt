@@ -1,10 +1,10 @@
 -- The steps of an insert, and what its refusals say.
-use Rattle.vbr_list.proofs.Names.{◌≡◌, ◌≢◌, ℕ, ◌+◌, ◌-◌, ◌<◌, ◌≤◌, Bool, true, false, List, [], ◌∷◌, length, Result, Ok}
+use Rattle.vbr_list.proofs.Names.{◌≡◌, ◌≢◌, ℕ, ◌+◌, ◌-◌, ◌<◌, ◌≤◌, true, false, List, [], ◌∷◌, length, Result, Ok}
 use Rattle.vbr_list.proofs.Names.{Err, inl, inr, refl, sym, ◌∙◌, subst, arith, IfOk, IfErr, is_err}
 use Rattle.vbr_list.proofs.Names.{Begins, counts_on, CountsSteps, EpochSpent, Ghosts, had_grown, had_on, in_need_after}
 use Rattle.vbr_list.proofs.Names.{IsRun, IsSame, none_in_need}
-use Rattle.vbr_list.proofs.Names.{IsSpent, LeavesRoom, Made, made_on, missed_after, needed_after, NoSlot, Op}
-use Rattle.vbr_list.proofs.Names.{OutOfSteps, PassView, Quiet, Refusal, set_call, shared_taken, shares_more}
+use Rattle.vbr_list.proofs.Names.{IsSpent, LeavesRoom, Made, made_on, missed_after, needed_after, NoSlot}
+use Rattle.vbr_list.proofs.Names.{OutOfSteps, PassView, Quiet, Refusal, shared_taken, shares_more}
 use Rattle.vbr_list.proofs.Names.{slots_kept_on, some_grown, Start, TakesNoSlot, took_all, TookWithin, Trace}
 use Rattle.vbr_list.proofs.Names.{TriesNoFlag, TriesOnlyWhere, TriesWhereEmpty}
 use Rattle.vbr_machine.specs.declared.history.Call.{Call as ListedCall}
@@ -156,11 +156,6 @@ pub within_most : {p q : Trace} {since budget most : ℕ} → CountsWithin p q 0
 within_most {p} {q} {since} x le = record { steps = since; within = le; took = took_all x.counts }
 
 -- ---- an answer
-
-pub made_since : {p q r : Trace} {op : Op} {key : ℕ} {reply : Bool} → Quiet p q →
-    Made (set_call q.who op key reply) q r → Made (set_call p.who op key reply) p r
-made_since {p} {q} {r} {op} {key} {reply} quiet made =
-    let P : ℕ → Type 0 = λ who. Made (set_call who op key reply) p r in subst P quiet.same.who (made_on quiet made)
 
 pub if_failed : {T E : Type 0} {P : Type 0} (x : Result T E) → is_err x ≡ true → IfErr x (λ _. P) → P
 if_failed x e p = grind arith

@@ -1,5 +1,5 @@
 -- What an insert or a store does before it changes anything: it finds its key as it is wanted and takes a slot, or is answered. Only contracts of private functions cite this.
-use Rattle.std.specs.Prelude.{◌≡◌, ℕ, ◌+◌, ◌<◌, ◌≤◌, Bool, true, false, not, Option, None, Result, Ok, Err}
+use Rattle.std.specs.Prelude.{◌≡◌, ℕ, ◌+◌, ◌<◌, ◌≤◌, Bool, true, false, not, Option, None}
 use Rattle.vbr_words.specs.declared.nodes.Nodes.{Ghosts}
 use Rattle.vbr_machine.specs.History.{set_call}
 use Rattle.vbr_machine.specs.declared.history.Call.{Call}
@@ -26,6 +26,8 @@ use Rattle.vbr_list.specs.declared.preparing.Met.{Met}
 use Rattle.vbr_list.specs.declared.preparing.Met.TheVariants.{AsWanted, Otherwise}
 use Rattle.vbr_list.specs.declared.preparing.Prepared.{Prepared}
 use Rattle.vbr_list.specs.declared.preparing.Prepared.TheVariants.{Ready, Answered}
+use Rattle.vbr_list.specs.declared.preparing.Unmet.{Unmet}
+use Rattle.vbr_list.specs.declared.preparing.Unmet.TheVariants as unmet
 use Rattle.vbr_list.specs.declared.wanted.Wanted.{Wanted}
 use Rattle.vbr_list.specs.declared.wanted.Wanted.TheVariants.{Absent, Present, Anything, Value}
 use Rattle.vbr_list.specs.calls.Told.{given_call}
@@ -72,16 +74,16 @@ pub record TellsOther {N : Type 0} {kind : Ghosts N} (gives : Bool) (wanted : Wa
   pub told : Made (told_otherwise gives (trace_in c).who c.key there) (trace_in c) (trace_in d)
   pub is_not : wants wanted there ≡ false
 
--- the one or the other
-abbrev pub AsksTold : {N : Type 0} {kind : Ghosts N} → Bool → Wanted → PendingCall N kind → PendingCall N kind → Found → Result (Option ℕ) (Option ℕ) → Type 0
-AsksTold gives wanted c d found (Ok there) = ReadsWanted wanted c d found there
-AsksTold gives wanted c d found (Err there) = TellsOther gives wanted c d there
-
 -- neither, in one step or more, as what was found is lost
 pub record AskLoses {N : Type 0} {kind : Ghosts N} (c d : PendingCall N kind) (found : Found) : Type 0 where
   pub quiet : Quiet (trace_in c) (trace_in d)
   pub loses : LosesFound (trace_in c) (trace_in d) found
   pub more : c.used < d.used
+
+-- why nothing is to be changed at the place that was found
+abbrev pub SaysUnmet : {N : Type 0} {kind : Ghosts N} → Bool → Wanted → PendingCall N kind → PendingCall N kind → Found → Unmet → Type 0
+SaysUnmet gives wanted c d found (unmet.Otherwise there) = TellsOther gives wanted c d there
+SaysUnmet gives wanted c d found unmet.Changed = AskLoses c d found
 
 -- searches that may answer the call: their steps are within the budget, and the slot in hand stays
 pub record Meeting {N : Type 0} {kind : Ghosts N} (c d : PendingCall N kind) : Type 0 where

@@ -3,7 +3,7 @@ use Rattle.std.proofs.Common.{◌≡◌, ℕ, Bool, true, false, refl, sym, ap, 
 use Rattle.std.proofs.lemmas.Bool.{cases_Bool}
 use Rattle.std.proofs.lemmas.Bool.Decides.{nat_tests}
 use prog.Atomic.{either}
-use Rattle.std.specs.Prelude.{◌==◌}
+use Rattle.std.specs.Prelude.{◌==◌, ◌↔◌}
 use Rattle.vbr_words.specs.Flags.{has_flag}
 use Rattle.vbr_machine.specs.Knowledge.{Know}
 use Rattle.vbr_machine.specs.Learning.{learn, read_epoch}
@@ -50,6 +50,10 @@ epoch_read : (found : ℕ) (know : Know) → (read_epoch know found).epoch ≡ f
 epoch_read found know =
     ⊎_elim (λ (t : (found == know.epoch) ≡ true). rw t (grind (arith, nat_tests)))
     (λ (t : (found == know.epoch) ≡ false). rw t refl) (cases_Bool (found == know.epoch))
+
+-- whether an epoch stays, said of an equal one
+pub stays_beside : {P : Type 0} {epoch one other : ℕ} → (P ↔ (epoch ≡ one)) → one ≡ other → P ↔ (epoch ≡ other)
+stays_beside is same = ((λ p. is.0 p ∙ same), (λ e. is.1 (e ∙ sym same)))
 
 -- the epoch that a pass knows after a step
 pub epoch_learned : (step : Step) (r stamp : ℕ) (know : Know) →

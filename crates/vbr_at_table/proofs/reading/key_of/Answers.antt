@@ -1,7 +1,6 @@
-use Rattle.std.proofs.Common.{◌∙◌}
 use Rattle.vbr_at_table.specs.reads.Held.{said}
 use Rattle.vbr_at_table.proofs.steps.Accepted.{node_in, node_found}
-use Rattle.vbr_at_table.proofs.reads.ReadCalls.{apart, key_told, load_in_two, load_rolls}
+use Rattle.vbr_at_table.proofs.reads.ReadCalls.{apart, key_told, load_in_two, load_rolls, stayed}
 use Rattle.vbr_at_table.proofs.reads.ReadSteps.{loads_key}
 use Rattle.vbr_at_table.proofs.reading.key_of.Goals as goal
 
@@ -16,17 +15,17 @@ read_key-key-requires-clause-held g c =
     node_found c.args.at.now.stepper.now c.law.ensures (said c.args.at.now.slots.now c.args.node.now) c.in-Slot.slot
     c.requires.held c.in-Slot.is
 
-pub returns-then-now-before-clause-reads : goal.returns-then-now-before-clause-reads
-returns-then-now-before-clause-reads g c = load_in_two c.law.ensures (loads_key _ _) c.read_key-key.ensures.reads
+pub returns-then-not-read-clause-reads : goal.returns-then-not-read-clause-reads
+returns-then-not-read-clause-reads g c = load_in_two c.law.ensures (loads_key _ _) c.read_key-key.ensures.reads
 
 pub returns-clause-reads : goal.returns-clause-reads
 returns-clause-reads g c = load_in_two c.law.ensures (loads_key _ _) c.read_key-key.ensures.reads
 
-pub returns-then-now-before-clause-moved : goal.returns-then-now-before-clause-moved
-returns-then-now-before-clause-moved g c =
+pub returns-then-not-read-clause-moved : goal.returns-then-not-read-clause-moved
+returns-then-not-read-clause-moved g c =
     load_rolls c.law.ensures (loads_key _ _) c.read_key-key.ensures.reads
-    (apart c.if-now-before.true c.epoch-before.ensures)
+    (apart c.read_key-key.ensures.stays c.if-not-read.true)
 
 pub returns-clause-key : goal.returns-clause-key
 returns-clause-key g c = key_told c.args.node.now.at c.law.ensures c.in-Slot.is c.read_key-key.ensures.reads
-    (c.if-now-before.false ∙ c.epoch-before.ensures)
+    (stayed c.read_key-key.ensures.stays c.if-not-read.false)

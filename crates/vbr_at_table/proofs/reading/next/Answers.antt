@@ -1,10 +1,10 @@
-use Rattle.std.proofs.Common.{ℕ, Option, sym, ◌∙◌, subst}
+use Rattle.std.proofs.Common.{ℕ, Option, sym, subst}
 use Rattle.vbr_words.specs.Words.{link_of}
 use Rattle.vbr_at_table.specs.reads.Held.{said}
 use Rattle.vbr_at_table.specs.reads.Reading.{ReadsIn}
 use Rattle.vbr_at_table.specs.costs.StepCosts.{next_steps}
 use Rattle.vbr_at_table.proofs.steps.Accepted.{named_in, named_found}
-use Rattle.vbr_at_table.proofs.reads.ReadCalls.{apart, node_in_three, node_rolls, node_told, reads_none}
+use Rattle.vbr_at_table.proofs.reads.ReadCalls.{apart, node_in_three, node_rolls, node_told, reads_none, stayed}
 use Rattle.vbr_at_table.proofs.steps.SaidWords.{said_names}
 use Rattle.vbr_at_table.proofs.reading.next.Given.{Over}
 use Rattle.vbr_at_table.proofs.reading.next.Goals.{After-read_node-birth}
@@ -38,19 +38,19 @@ in_three g c =
     λ slot. ReadsIn c.args.at.now.stepper.now c.read_node-birth.new.self.stepper.now (next_steps slot) in
     subst P (sym names) (node_in_three c.law.ensures c.read_node-birth.ensures.reads)
 
-pub returns-then-now-before-clause-reads : goal.returns-then-now-before-clause-reads
-returns-then-now-before-clause-reads g c =
-    in_three g (goal.at.returns-then-now-before-clause-reads g c).After-read_node-birth
+pub returns-then-not-read-clause-reads : goal.returns-then-not-read-clause-reads
+returns-then-not-read-clause-reads g c =
+    in_three g (goal.at.returns-then-not-read-clause-reads g c).After-read_node-birth
 
 pub returns-clause-reads : goal.returns-clause-reads
 returns-clause-reads g c = in_three g (goal.at.returns-clause-reads g c).After-read_node-birth
 
-pub returns-then-now-before-clause-moved : goal.returns-then-now-before-clause-moved
-returns-then-now-before-clause-moved g c =
-    node_rolls c.law.ensures c.read_node-birth.ensures.reads (apart c.if-now-before.true c.epoch-before.ensures)
+pub returns-then-not-read-clause-moved : goal.returns-then-not-read-clause-moved
+returns-then-not-read-clause-moved g c =
+    node_rolls c.law.ensures c.read_node-birth.ensures.reads (apart c.read_node-birth.ensures.stays c.if-not-read.true)
 
 pub returns-clause-next : goal.returns-clause-next
 returns-clause-next g c = node_told (said c.args.at.now.slots.now c.args.held.now) c.law.ensures c.requires.held
     (said_names _ _ c.args.held.now.word _ _ c.layout.ensures.layout c.decode.ensures.link c.in-Some.is)
     c.read_node-birth.ensures.reads
-    (c.if-now-before.false ∙ c.epoch-before.ensures)
+    (stayed c.read_node-birth.ensures.stays c.if-not-read.false)

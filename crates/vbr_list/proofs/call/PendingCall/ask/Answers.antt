@@ -7,7 +7,6 @@ use Rattle.vbr_list.specs.updates.Wanted.{wants}
 use Rattle.vbr_list.specs.declared.wanted.Wanted.{Wanted}
 use Rattle.vbr_list.proofs.look_ups.FoundValues.{asks_one, asks_read, asks_then, tells_since}
 use Rattle.vbr_list.proofs.look_ups.ReadFirst.{found_lost_since}
-use Rattle.vbr_list.proofs.inserts.Sufficing.{any_error}
 use Rattle.vbr_list.proofs.pieces.Going.{call_refl, keeps_still}
 use Rattle.vbr_list.proofs.pieces.KeptHands.{hand_refl}
 use Rattle.vbr_list.specs.calls.Words.{wide_found}
@@ -25,8 +24,8 @@ returns-then-not-found-clause-asks g c = record {
   few = omega arith;
 }
 
-pub returns-then-not-found-clause-told : goal.returns-then-not-found-clause-told
-returns-then-not-found-clause-told g c =
+pub returns-then-not-found-clause-wanted : goal.returns-then-not-found-clause-wanted
+returns-then-not-found-clause-wanted g c =
     let absent = c.if-not-found.true in
     let W : Wanted → Type 0 = λ wanted. wants wanted None ≡ true in
     let R : Bool → Type 0 =
@@ -41,23 +40,22 @@ returns-then-not-found-clause-told g c =
       is = subst W (sym (c.requires.asked.absent c.if-not-gives.true)) refl;
     }
 
-pub returns-in_err-answer_no-clause-asks : goal.returns-in_err-answer_no-clause-asks
-returns-in_err-answer_no-clause-asks g c =
+pub returns-in_default-clause-asks : goal.returns-in_default-clause-asks
+returns-in_default-clause-asks g c =
     let d = c.answer_no.ensures in asks_one d.call d.used d.keeps
 
-pub returns-in_err-answer_no-clause-lost : goal.returns-in_err-answer_no-clause-lost
-returns-in_err-answer_no-clause-lost g c =
-    let lost = c.in_err-answer_no.ensures.rolls in
+pub returns-in_default-clause-unmet : goal.returns-in_default-clause-unmet
+returns-in_default-clause-unmet g c =
+    let lost = c.in_default.ensures.rolls in
     let used = c.answer_no.ensures.used in
-    any_error c.from_residual.result
-    (λ rollback. record { quiet = lost.quiet; loses = lost.loses; more = omega (arith, used) })
+    record { quiet = lost.quiet; loses = lost.loses; more = omega (arith, used) }
 
 pub returns-then-not-gives-clause-asks : goal.returns-then-not-gives-clause-asks
 returns-then-not-gives-clause-asks g c =
     let d = c.answer_no.ensures in asks_one d.call d.used d.keeps
 
-pub returns-then-not-gives-clause-told : goal.returns-then-not-gives-clause-told
-returns-then-not-gives-clause-told g c =
+pub returns-then-not-gives-clause-unmet : goal.returns-then-not-gives-clause-unmet
+returns-then-not-gives-clause-unmet g c =
     let b = c.args.self.now in
     let p = b.at.stepper.now.trace in
     let q = c.answer_no.new.self.at.stepper.now.trace in
@@ -67,7 +65,7 @@ returns-then-not-gives-clause-told g c =
     let W : Wanted → Type 0 = λ wanted. wants wanted (Some 0) ≡ false in
     record {
       told = subst T (sym c.if-not-gives.true)
-          (subst M c.if-not-found.false c.in_ok-answer_no.ensures.made);
+          (subst M c.if-not-found.false c.in-Ok.ensures.made);
       is_not = subst W (sym absent) refl;
     }
 
@@ -76,54 +74,50 @@ returns-then-not-gives-clause-told g c =
 pub read_found-requires-clause-values : goal.read_found-requires-clause-values
 read_found-requires-clause-values g c = c.requires.asked.values c.if-not-gives.false
 
-pub returns-in_err-there-clause-asks : goal.returns-in_err-there-clause-asks
-returns-in_err-there-clause-asks g c =
+pub returns-in_default-read_found-clause-asks : goal.returns-in_default-read_found-clause-asks
+returns-in_default-read_found-clause-asks g c =
     let r = c.read_found.ensures in asks_read c.args.found.now.present r.call r.used r.reads
 
-pub returns-in_err-there-clause-lost : goal.returns-in_err-there-clause-lost
-returns-in_err-there-clause-lost g c =
-    let lost = c.in_err-there.ensures.lost in
+pub returns-in_default-read_found-clause-unmet : goal.returns-in_default-read_found-clause-unmet
+returns-in_default-read_found-clause-unmet g c =
+    let lost = c.in_default-read_found.ensures.lost in
     let used = rw lost.present at c.read_found.ensures.used in
-    any_error c.from_residual-in_err-there.result
-    (λ rollback.
-    record { quiet = c.read_found.ensures.reads.quiet; loses = lost.loses; more = omega (arith, used) })
+    record { quiet = c.read_found.ensures.reads.quiet; loses = lost.loses; more = omega (arith, used) }
 
 pub returns-then-wants-clause-asks : goal.returns-then-wants-clause-asks
 returns-then-wants-clause-asks g c =
     let r = c.read_found.ensures in asks_read c.args.found.now.present r.call r.used r.reads
 
-pub returns-then-wants-clause-told : goal.returns-then-wants-clause-told
-returns-then-wants-clause-told g c =
+pub returns-then-wants-clause-wanted : goal.returns-then-wants-clause-wanted
+returns-then-wants-clause-wanted g c =
     let r = c.read_found.ensures in
     record {
       read = r.reads;
       used = r.used;
-      keeps = c.in_ok-there.ensures.found.keeps;
-      locates = c.in_ok-there.ensures.found.known.locates;
-      known = c.in_ok-there.ensures.found.known.is;
+      keeps = c.in-Ok-read_found.ensures.found.keeps;
+      locates = c.in-Ok-read_found.ensures.found.known.locates;
+      known = c.in-Ok-read_found.ensures.found.known.is;
       is = sym c.wants.ensures ∙ c.if-wants.true;
     }
 
-pub returns-in_err-tell_found-clause-asks : goal.returns-in_err-tell_found-clause-asks
-returns-in_err-tell_found-clause-asks g c =
+pub returns-in_default-tell_found-clause-asks : goal.returns-in_default-tell_found-clause-asks
+returns-in_default-tell_found-clause-asks g c =
     let r = c.read_found.ensures in
     let t = c.tell_found.ensures in
     asks_then c.args.found.now.present r.call r.used r.reads t.call t.used t.keeps
 
-pub returns-in_err-tell_found-clause-lost : goal.returns-in_err-tell_found-clause-lost
-returns-in_err-tell_found-clause-lost g c =
+pub returns-in_default-tell_found-clause-unmet : goal.returns-in_default-tell_found-clause-unmet
+returns-in_default-tell_found-clause-unmet g c =
     let r = c.read_found.ensures in
-    let lost = simp r.call.at.slots at c.in_err-tell_found.ensures.lost in
+    let lost = simp r.call.at.slots at c.in_default-tell_found.ensures.lost in
     let used = r.used in
     let one = c.tell_found.ensures.used in
-    any_error c.from_residual-in_err-tell_found.result
-    (λ rollback.
     record {
       quiet = quiet_on r.reads.quiet lost.quiet;
       loses = found_lost_since (wide_found c.args.self.now c.args.found.now) c.law.ensures r.reads
-          c.in_ok-there.ensures.found.keeps lost.loses;
+          c.in-Ok-read_found.ensures.found.keeps lost.loses;
       more = omega (arith, used, one);
-    })
+    }
 
 pub returns-clause-asks : goal.returns-clause-asks
 returns-clause-asks g c =
@@ -131,15 +125,16 @@ returns-clause-asks g c =
     let t = c.tell_found.ensures in
     asks_then c.args.found.now.present r.call r.used r.reads t.call t.used t.keeps
 
-pub returns-clause-told : goal.returns-clause-told
-returns-clause-told g c =
+pub returns-clause-unmet : goal.returns-clause-unmet
+returns-clause-unmet g c =
     let r = c.read_found.ensures in
     let p = c.args.self.now.at.stepper.now.trace in
     let q = c.tell_found.new.self.at.stepper.now.trace in
-    let T : Bool → Type 0 = λ gives. Made (told_otherwise gives p.who c.args.self.now.key c.in_ok-there.there) p q in
+    let there = c.in-Ok-read_found.there in
+    let T : Bool → Type 0 = λ gives. Made (told_otherwise gives p.who c.args.self.now.key there) p q in
     record {
       told = subst T (sym c.if-not-gives.false)
-          (tells_since c.args.self.now c.read_found.new.self c.tell_found.new.self c.in_ok-there.there r.call.key
-          r.reads.quiet c.in_ok-tell_found.ensures.told);
+          (tells_since c.args.self.now c.read_found.new.self c.tell_found.new.self c.in-Ok-read_found.there r.call.key
+          r.reads.quiet c.in-Ok-tell_found.ensures.told);
       is_not = sym c.wants.ensures ∙ c.if-wants.false;
     }

@@ -1,7 +1,7 @@
-use Rattle.vbr_list.proofs.Names.{◌≡◌, ◌+◌, true, false, sym, ap, ◌∙◌, subst, arith, ◌<◌}
+use Rattle.vbr_list.proofs.Names.{◌≡◌, ◌+◌, true, sym, ap, ◌∙◌, subst, arith, ◌<◌}
 use Rattle.vbr_list.proofs.Names.{counts_none, Ghosts, knows, PassLaw, PIECE, quiet_on, quiet_refl, Start}
 use Rattle.vbr_list.specs.calls.Pieces.{GoesOn, pass_in, trace_in}
-use Rattle.vbr_list.specs.updates.Preparing.{Asks, MeetTires, Meeting, ReadsWanted, TellsOther, has_wanted}
+use Rattle.vbr_list.specs.updates.Preparing.{AskLoses, Asks, MeetTires, Meeting, ReadsWanted, TellsOther, has_wanted}
 use Rattle.vbr_list.specs.traversals.Searching.{TraversesAgain}
 use Rattle.vbr_list.specs.updates.Wanted.{WasWanted, steps_to_compare}
 use Rattle.vbr_list.specs.declared.call.PendingCall.{PendingCall}
@@ -33,7 +33,7 @@ ask-requires-clause-locates g c = simp c.search.ensures.goes.call.at.slots
 pub loop-found-preserved : goal.loop-found-preserved
 loop-found-preserved g c =
     let a = c.ask.ensures.asks in
-    let lost = simp c.search.ensures.goes.call.at.slots at c.in_default-ask.ensures.lost in
+    let lost = simp c.search.ensures.goes.call.at.slots at (rw c.in-Changed.is at c.in-Err.ensures.unmet) in
     let few = a.few in
     searched_more c.law.ensures c.loop-found.invariant c.search.ensures.goes
     (wide_found c.loop-found.self c.in-Some.found) c.in-Some.ensures.found
@@ -43,7 +43,9 @@ pub loop-found-smaller : goal.loop-found-smaller
 loop-found-smaller g c =
     let s = c.search.ensures.goes in
     let more = s.more in
-    let then = c.in_default-ask.ensures.lost.more in
+    let lost : AskLoses c.search.new.self c.ask.new.self (wide_found c.search.new.self c.in-Some.found) =
+    rw c.in-Changed.is at c.in-Err.ensures.unmet in
+    let then = lost.more in
     let same = call_on s.call c.ask.ensures.asks.call in
     let budget = same.budget in
     let high = c.ask.new.self.within in
@@ -100,12 +102,12 @@ meets_asked law so went a =
       hand = hand_on gone.goes.hand a.hand;
     }
 
-pub returns-in-Ok-asked-clause-meets : goal.returns-in-Ok-asked-clause-meets
-returns-in-Ok-asked-clause-meets g c =
+pub returns-in-Ok-clause-meets : goal.returns-in-Ok-clause-meets
+returns-in-Ok-clause-meets g c =
     meets_asked c.law.ensures c.loop-found.invariant c.search.ensures.goes c.ask.ensures.asks
 
-pub returns-in-Err-clause-meets : goal.returns-in-Err-clause-meets
-returns-in-Err-clause-meets g c =
+pub returns-in-Otherwise-clause-meets : goal.returns-in-Otherwise-clause-meets
+returns-in-Otherwise-clause-meets g c =
     meets_asked c.law.ensures c.loop-found.invariant c.search.ensures.goes c.ask.ensures.asks
 
 -- the budget had no room for one more piece
@@ -148,44 +150,45 @@ returns-then-has_wanted-clause-met g c =
           c.search.new.self.used 0 (steps_to_compare c.args.wanted + 3) (omega arith) (omega arith);
     }
 
-pub returns-in-Ok-asked-clause-met : goal.returns-in-Ok-asked-clause-met
-returns-in-Ok-asked-clause-met g c =
+pub returns-in-Ok-clause-met : goal.returns-in-Ok-clause-met
+returns-in-Ok-clause-met g c =
     let gone = searched_on c.law.ensures c.loop-found.invariant c.search.ensures.goes in
     let b = c.args.self.now in
     let e = c.ask.new.self in
     let wanted = c.args.wanted in
     let found = wide_found c.loop-found.self c.in-Some.found in
     let there = found_in c.law.ensures c.loop-found.invariant c.search.ensures.goes found c.in-Some.ensures.found in
-    let x : ReadsWanted wanted c.search.new.self e found c.in-Ok-asked.field-0 =
-    rw c.in-Ok-asked.is at (simp c.search.ensures.goes.call.at.slots at c.in-Ok.ensures.told) in
+    let x : ReadsWanted wanted c.search.new.self e found c.in-Ok.field-0 =
+    simp c.search.ensures.goes.call.at.slots at c.in-Ok.ensures.wanted in
     let quiet = x.read.quiet in
     let whole = quiet_on gone.goes.quiet quiet in
     let other = sym c.has_wanted.ensures ∙ c.if-has_wanted.false in
-    let values = asked_values (knows e.at.stepper.now.trace) c.args.gives wanted found c.in-Ok-asked.field-0
+    let values = asked_values (knows e.at.stepper.now.trace) c.args.gives wanted found c.in-Ok.field-0
     c.requires.asked.values c.requires.asked.absent other x.is x.known in
-    let compared = compare_few (knows e.at.stepper.now.trace) found wanted c.in-Ok-asked.field-0 other x.is x.known in
+    let compared = compare_few (knows e.at.stepper.now.trace) found wanted c.in-Ok.field-0 other x.is x.known in
     let used = x.used in
     record {
       quiet = whole;
-      was = was_compared b.key found wanted c.in-Ok-asked.field-0 c.law.ensures.start whole.same quiet x.keeps values
+      was = was_compared b.key found wanted c.in-Ok.field-0 c.law.ensures.start whole.same quiet x.keeps values
           there other x.is x.known;
       searches = searched_until c.law.ensures gone quiet (steps_to_compare wanted + 3) (omega arith)
           (searched_for c.law.ensures c.loop-found.invariant c.search.ensures.goes c.in-Some.ensures.found.traverses
           e.used (steps_to_compare wanted) (steps_to_compare wanted + 3) (omega (arith, compared, used)) (omega arith));
     }
 
-pub returns-in-Err-clause-met : goal.returns-in-Err-clause-met
-returns-in-Err-clause-met g c =
+pub returns-in-Otherwise-clause-met : goal.returns-in-Otherwise-clause-met
+returns-in-Otherwise-clause-met g c =
     let gone = searched_on c.law.ensures c.loop-found.invariant c.search.ensures.goes in
     let d = c.search.new.self in
     let e = c.ask.new.self in
     let found = wide_found c.loop-found.self c.in-Some.found in
     let few = c.ask.ensures.asks.few in
-    let x : TellsOther c.args.gives c.args.wanted d e c.in-Err.there =
-    rw c.in-Err.is at (simp c.search.ensures.goes.call.at.slots at c.in-Ok.ensures.told) in
+    let x : TellsOther c.args.gives c.args.wanted d e c.in-Otherwise.there =
+    rw c.in-Otherwise.is at c.in-Err.ensures.unmet in
     record {
       tells = record {
-        told = otherwise_since c.args.gives c.args.self.now d e c.in-Err.there gone.call.key gone.goes.quiet x.told;
+        told = otherwise_since c.args.gives c.args.self.now d e c.in-Otherwise.there gone.call.key gone.goes.quiet
+            x.told;
         is_not = x.is_not;
       };
       searched = record {

@@ -1,6 +1,6 @@
 use Rattle.vbr_list.proofs.Names.{None, refl, Some, ap, arith, ◌∙◌}
 use Rattle.vbr_list.proofs.Names.{had_on, none_on, quiet_on, Start}
-use Rattle.vbr_list.specs.updates.Preparing.{TellsOther}
+use Rattle.vbr_list.specs.updates.Preparing.{AskLoses, TellsOther}
 use Rattle.vbr_list.proofs.pieces.Going.{call_on, within_call}
 use Rattle.vbr_list.proofs.inserts.Linking.{begun, counts_until, had_until, has_until, located, none_until, quiet_until}
 use Rattle.vbr_list.proofs.inserts.Preparing.{within_on}
@@ -49,68 +49,70 @@ ask-requires-clause-locates g c =
     simp c.reach.ensures.goes.call.at.slots
     (located c.reach.ensures.goes (wide_found c.loop-found.self c.in-Some.found) c.in-Some.ensures.found)
 
-pub loop-found-preserved-in_default-ask : goal.loop-found-preserved-in_default-ask
-loop-found-preserved-in_default-ask g c =
-    let lost = simp c.reach.ensures.goes.call.at.slots at c.in_default-ask.ensures.lost in (
+pub loop-found-preserved-in-Changed : goal.loop-found-preserved-in-Changed
+loop-found-preserved-in-Changed g c =
+    let lost = simp c.reach.ensures.goes.call.at.slots at (rw c.in-Changed.is at c.in-Err.ensures.unmet) in (
       held_asked (each_lost c.args.gives) (three_lost c.args.gives) {b = c.args.self.now} c.law.ensures
           c.loop-found.invariant.0 c.reach.ensures.goes c.ask.ensures.asks lost.quiet
           (wide_found c.loop-found.self c.in-Some.found) c.in-Some.ensures.found lost.loses,
       c.loop-found.invariant.1,
     )
 
-pub loop-found-smaller-in_default-ask : goal.loop-found-smaller-in_default-ask
-loop-found-smaller-in_default-ask g c =
+pub loop-found-smaller-in-Changed : goal.loop-found-smaller-in-Changed
+loop-found-smaller-in-Changed g c =
     let s = c.reach.ensures.goes in
     let more = s.more in
-    let then = c.in_default-ask.ensures.lost.more in
+    let lost : AskLoses c.reach.new.self c.ask.new.self (wide_found c.reach.new.self c.in-Some.found) =
+    rw c.in-Changed.is at c.in-Err.ensures.unmet in
+    let then = lost.more in
     let same = call_on s.call c.ask.ensures.asks.call in
     let budget = same.budget in
     let high = c.ask.new.self.within in
     omega (arith, more, then, budget, high)
 
-pub returns-in-Err-clause-counts : goal.returns-in-Err-clause-counts
-returns-in-Err-clause-counts g c =
+pub returns-in-Otherwise-clause-counts : goal.returns-in-Otherwise-clause-counts
+returns-in-Otherwise-clause-counts g c =
     let so = c.loop-found.invariant.0 in
     let went = c.reach.ensures.goes in
     let x = takes_asked c.ask.ensures.asks in
     within_on (counts_until so went) x.counts x.more (within_call (call_on (begun so went) x.call))
 
-pub returns-in-Err-clause-takes_no_slot : goal.returns-in-Err-clause-takes_no_slot
-returns-in-Err-clause-takes_no_slot g c =
+pub returns-in-Otherwise-clause-takes_no_slot : goal.returns-in-Otherwise-clause-takes_no_slot
+returns-in-Otherwise-clause-takes_no_slot g c =
     none_on (none_until c.loop-found.invariant.0 c.reach.ensures.goes) c.ask.ensures.asks.hand.takes_no_slot
 
-pub returns-in-Err-clause-had : goal.returns-in-Err-clause-had
-returns-in-Err-clause-had g c =
+pub returns-in-Otherwise-clause-had : goal.returns-in-Otherwise-clause-had
+returns-in-Otherwise-clause-had g c =
     had_on c.args.self.now.at.stepper.now c.reach.new.self.at.stepper.now c.ask.new.self.at.stepper.now
     (had_until c.loop-found.invariant.0 c.reach.ensures.goes) (had_asked c.ask.ensures.asks)
 
-pub returns-in-Err-clause-kept : goal.returns-in-Err-clause-kept
-returns-in-Err-clause-kept g c =
+pub returns-in-Otherwise-clause-kept : goal.returns-in-Otherwise-clause-kept
+returns-in-Otherwise-clause-kept g c =
     let so = c.loop-found.invariant.0 in
     let went = c.reach.ensures.goes in
     let asks = c.ask.ensures.asks in
     let d = c.reach.new.self in
     let e = c.ask.new.self in
     let f = wide_found c.loop-found.self c.in-Some.found in
-    let told : TellsOther c.args.gives c.args.wanted d e c.in-Err.there =
-    rw c.in-Err.is at (simp went.call.at.slots at c.in-Ok.ensures.told) in
+    let told : TellsOther c.args.gives c.args.wanted d e c.in-Otherwise.there =
+    rw c.in-Otherwise.is at c.in-Err.ensures.unmet in
     record {
       same = c.loop-found.invariant.1;
       has = hand_kept c.loop-found.hand asks.hand (has_until so went);
       says = told_other c.args.value c.args.wanted c.args.self.now c.loop-found.self d c.law.ensures went
-          c.args.gives so f c.in-Some.ensures.found e asks c.in-Err.there told;
+          c.args.gives so f c.in-Some.ensures.found e asks c.in-Otherwise.there told;
     }
 
 -- ---- the key is absent, as it is wanted
 
 pub link_found-requires-clause-locates : goal.link_found-requires-clause-locates
 link_found-requires-clause-locates g c =
-    let x = rw c.in-Ok-asked.is at (simp c.reach.ensures.goes.call.at.slots at c.in-Ok.ensures.told) in
+    let x = simp c.reach.ensures.goes.call.at.slots at c.in-Ok.ensures.wanted in
     simp (c.ask.ensures.asks.call.at.slots ∙ c.reach.ensures.goes.call.at.slots) x.locates
 
 pub link_found-requires-clause-absent : goal.link_found-requires-clause-absent
 link_found-requires-clause-absent g c =
-    let x = rw c.in-None.is at (rw c.in-Ok-asked.is at c.in-Ok.ensures.told) in x.known
+    let x = rw c.in-None.is at c.in-Ok.ensures.wanted in x.known
 
 pub link_found-requires-clause-hand : goal.link_found-requires-clause-hand
 link_found-requires-clause-hand g c =
@@ -136,7 +138,7 @@ returns-in-Ok-link_found-clause-stored g c =
     let e = c.ask.new.self in
     let f = c.link_found.new.self in
     let found = wide_found c.loop-found.self c.in-Some.found in
-    let x = rw c.in-None.is at (rw c.in-Ok-asked.is at (simp went.call.at.slots at c.in-Ok.ensures.told)) in
+    let x = rw c.in-None.is at (simp went.call.at.slots at c.in-Ok.ensures.wanted) in
     let call = c.ask.ensures.asks.call in
     stored_as c.args.value c.args.wanted c.args.self.now c.loop-found.self d c.law.ensures went c.args.gives
     c.loop-found.invariant.0 found c.in-Some.ensures.found c.loop-found.invariant.1 f
@@ -151,7 +153,7 @@ loop-found-preserved-in-Err-link_found g c =
     let e = c.ask.new.self in
     let f = c.link_found.new.self in
     let found = wide_found c.loop-found.self c.in-Some.found in
-    let x = rw c.in-None.is at (rw c.in-Ok-asked.is at (simp went.call.at.slots at c.in-Ok.ensures.told)) in
+    let x = rw c.in-None.is at (simp went.call.at.slots at c.in-Ok.ensures.wanted) in
     let call = c.ask.ensures.asks.call in
     let back = simp (call.at.slots ∙ went.call.at.slots) at c.in-Err-link_found.ensures.back in
     let law = c.law-in-loop-found.ensures in
@@ -168,7 +170,7 @@ replace_and_unlink-requires-clause-read g c =
     let went = c.reach.ensures.goes in
     let found = wide_found c.loop-found.self c.in-Some.found in
     let old = c.in-Some-there.field-0 in
-    let x = rw c.in-Some-there.is at (rw c.in-Ok-asked.is at (simp went.call.at.slots at c.in-Ok.ensures.told)) in
+    let x = rw c.in-Some-there.is at (simp went.call.at.slots at c.in-Ok.ensures.wanted) in
     let same = (quiet_on (quiet_until c.loop-found.invariant.0 went) x.read.quiet).same in
     let asked = c.requires.asked in
     simp (c.ask.ensures.asks.call.at.slots ∙ went.call.at.slots) (
@@ -195,7 +197,7 @@ returns-in-Ok-replace_and_unlink-clause-had g c =
     let went = c.reach.ensures.goes in
     let found = wide_found c.loop-found.self c.in-Some.found in
     let old = c.in-Some-there.field-0 in
-    let x = rw c.in-Some-there.is at (rw c.in-Ok-asked.is at (simp went.call.at.slots at c.in-Ok.ensures.told)) in
+    let x = rw c.in-Some-there.is at (simp went.call.at.slots at c.in-Ok.ensures.wanted) in
     let same = (quiet_on (quiet_until c.loop-found.invariant.0 went) x.read.quiet).same in
     let asked = c.requires.asked in
     let known = knows_old {d = c.reach.new.self} {e = c.ask.new.self} c.args.wanted found c.args.gives old asked.absent
@@ -213,7 +215,7 @@ returns-in-Ok-replace_and_unlink-clause-stored g c =
     let f = c.replace_and_unlink.new.self in
     let found = wide_found c.loop-found.self c.in-Some.found in
     let old = c.in-Some-there.field-0 in
-    let x = rw c.in-Some-there.is at (rw c.in-Ok-asked.is at (simp went.call.at.slots at c.in-Ok.ensures.told)) in
+    let x = rw c.in-Some-there.is at (simp went.call.at.slots at c.in-Ok.ensures.wanted) in
     let same = (quiet_on (quiet_until c.loop-found.invariant.0 went) x.read.quiet).same in
     let asked = c.requires.asked in
     let known = knows_old {d = d} {e = e} c.args.wanted found c.args.gives old asked.absent
@@ -235,7 +237,7 @@ loop-found-preserved g c =
     let f = c.replace_and_unlink.new.self in
     let found = wide_found c.loop-found.self c.in-Some.found in
     let old = c.in-Some-there.field-0 in
-    let x = rw c.in-Some-there.is at (rw c.in-Ok-asked.is at (simp went.call.at.slots at c.in-Ok.ensures.told)) in
+    let x = rw c.in-Some-there.is at (simp went.call.at.slots at c.in-Ok.ensures.wanted) in
     let call = c.ask.ensures.asks.call in
     let back = simp (call.at.slots ∙ went.call.at.slots) at c.in-Err-replace_and_unlink.ensures.back in
     let none = absent_none c.args.gives c.args.wanted (Some old) c.requires.asked.absent x.is in
