@@ -4,7 +4,7 @@ here."""
 import re
 
 # COLUMNS: how many lines may be wider.
-LIMITS = {120: 8, 240: 0}
+LIMITS = {120: 7, 240: 0}
 
 
 def wider(texts):

@@ -35,11 +35,12 @@ pub fn mark<N: Nodes>(at: &mut AtTable<'_, N>, held: &Held) -> Result<Marked, Ro
     let At::Slot(slot) = held.at else {
         unreachable!()
     };
+    let word = with_mark(held.word, at.slots.layout());
     match at.mark(slot, held.word) {
         Ok(()) => Ok(Marked {
             slot,
             birth: held.birth,
-            word: with_mark(held.word, at.slots.layout()),
+            word,
             epoch: held.epoch,
         }),
         Err(found) => Err(Rollback::LostExchange { found }),

@@ -49,10 +49,11 @@ pub fn replace<N: Nodes>(
     let At::Slot(slot) = held.at else {
         unreachable!()
     };
+    let layout = at.slots.layout();
     fill(at, &hand, key, value, held, next_birth);
     at.law();
     let new = hand.slot();
-    let word = marked_link_to(new, held.birth, hand.birth(), at.slots.layout());
+    let word = marked_link_to(new, held.birth, hand.birth(), layout);
     match at.replace(slot, held.word, new, word) {
         Ok(()) => {
             hand.spent_by(at);

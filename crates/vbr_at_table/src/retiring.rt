@@ -27,7 +27,7 @@ pub fn retire<N: Nodes>(at: &mut AtTable<'_, N>, unlinked: Unlinked) -> u32
     at.read_epoch();
     at.store_stamp(slot);
     if kept {
-        at.keep(slot);
+        at.keep_free(slot);
         2
     } else {
         at.raise_outside(slot);

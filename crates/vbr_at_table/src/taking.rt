@@ -1,12 +1,12 @@
 //! Taking a slot for a new incarnation.
-ghost use Rattle.std.specs.Prelude.{◌≡◌, ◌≢◌, ◌≤◌, [], IfOk, IfErr, Some, None};
+ghost use Rattle.std.specs.Prelude.{◌≡◌, ◌≢◌, ◌≤◌, ◌-◌, [], length, get_or, IfOk, IfErr, Some, None};
 ghost use Rattle.vbr_slots.specs.steps.AtTables.{IsSameTable, pass_of, trace_of};
 ghost use Rattle.vbr_slots.specs.steps.Calls.{Took};
-ghost use Rattle.vbr_slots.specs.views.Views.{knows};
+ghost use Rattle.vbr_slots.specs.views.Views.{IsOf, knows};
 ghost use Rattle.vbr_at_table.specs.pools.Pieces.{told_steps};
 ghost use Rattle.vbr_at_table.specs.pools.Pieces.{HasSlots, LooksForSlot, WinsNone};
 ghost use Rattle.vbr_at_table.specs.pools.Pieces.{Chooses, ChoosesNone, IsChosen};
-ghost use Rattle.vbr_at_table.specs.pools.Pieces.{IsScanned, IsStampedBelow, Scans, ScansPart};
+ghost use Rattle.vbr_at_table.specs.pools.Pieces.{IsScanned, IsStampedBelow, IsStampedFrom, Scans, ScansPart};
 ghost use Rattle.vbr_at_table.specs.pools.Pieces.{BearsNone, IsBorn};
 ghost use Rattle.vbr_at_table.specs.pools.Refusals.{RefusesTake};
 ghost use Rattle.vbr_at_table.specs.pools.Taking.{IsTaken, Takes};
@@ -14,7 +14,7 @@ ghost use Rattle.vbr_at_table.specs.pools.Taking.{IsTaken, Takes};
 use crate::budget::affords;
 use crate::hand::Hand;
 use crate::refusal::Refusal;
-use vbr_slots::AtTable;
+use vbr_slots::{AtTable, Slots, Stepper};
 use vbr_words::Nodes;
 use vbr_words::flags::{FLAGS, next_flag};
 
@@ -62,14 +62,12 @@ fn take_on<N: Nodes>(at: &mut AtTable<'_, N>, budget: u32) -> Result<(Hand, u32)
     ensures refused { IfErr result (λ e. RefusesTake (pass_of at.old) (pass_of at.new) budget e.0) }
 {
     let used = win_slot(at, budget)?;
-    let (slot, used) = choose(at, budget, used)?;
-    bear(at, slot, budget, used)
+    let (place, used) = choose(at, budget, used)?;
+    bear(at, place, budget, used)
 }
 
-// Sees to it that the own pool has a slot: if it is empty, takes one out of the shared pool. It goes once
-// round the flag words, and begins with that of the slot that the pass tried last. It probes the first
-// slot of each, and then the lowest whose flag it found there, until the word has none. Returns how many
-// steps were used.
+// Sees to it that the own pool has a slot: if it is empty, takes one out of the shared pool. Returns how
+// many steps were used.
 #[inline(always)]
 fn win_slot<N: Nodes>(at: &mut AtTable<'_, N>, budget: u32) -> Result<u32, (Refusal, u32)>
     requires empty_hand { (pass_of at.old).hand ≡ None }
@@ -78,9 +76,32 @@ fn win_slot<N: Nodes>(at: &mut AtTable<'_, N>, budget: u32) -> Result<u32, (Refu
     ensures won { IfOk result (HasSlots (pass_of at.old) (pass_of at.new) budget) }
     ensures none { IfErr result (WinsNone (pass_of at.old) (pass_of at.new) budget) }
 {
-    if !at.pool().is_empty() {
-        return Ok(0);
+    if at.pool().is_empty() {
+        let slots = at.slots;
+        return win_shared(slots, at.stepper, budget);
     }
+    Ok(0)
+}
+
+// Takes a slot out of the shared pool into the own one, which is empty. It goes once round the flag words,
+// and begins with that of the slot that the pass tried last. It probes the first slot of each, and then the
+// lowest whose flag it found there, until the word has none. Returns how many steps were used. Few calls
+// need it, so it stands apart from them.
+#[cold]
+#[inline(never)]
+fn win_shared<N: Nodes>(
+    slots: &Slots<N>,
+    stepper: &mut Stepper,
+    budget: u32,
+) -> Result<u32, (Refusal, u32)>
+    requires own { IsOf stepper.old.trace slots.now }
+    requires empty_pool { stepper.old.pool ≡ [] }
+    requires empty_hand { stepper.old.hand ≡ None }
+    ensures probes { LooksForSlot stepper.old stepper.new }
+    ensures won { IfOk result (HasSlots stepper.old stepper.new budget) }
+    ensures none { IfErr result (WinsNone stepper.old stepper.new budget) }
+{
+    let mut at = AtTable { slots, stepper };
     at.law();
     // Each probe is a step, and one that is lost shows the flags of sixty-four slots.
     let start = at.last_tried() / FLAGS * FLAGS;
@@ -112,13 +133,13 @@ fn win_slot<N: Nodes>(at: &mut AtTable<'_, N>, budget: u32) -> Result<u32, (Refu
 
 // Reads the epoch and chooses the oldest slot of the own pool that is stamped below it. If there is none,
 // advances the epoch, where it is still that one and not the last, and chooses the oldest slot. Returns
-// the slot, and how many steps were used.
+// the slot with its place in the pool, and how many steps were used.
 #[inline(always)]
 fn choose<N: Nodes>(
     at: &mut AtTable<'_, N>,
     budget: u32,
     used: u32,
-) -> Result<(u32, u32), (Refusal, u32)>
+) -> Result<((usize, u32), u32), (Refusal, u32)>
     requires some { (pass_of at.old).pool ≢ [] }
     requires empty_hand { (pass_of at.old).hand ≡ None }
     requires within { used ≤ budget }
@@ -133,8 +154,8 @@ fn choose<N: Nodes>(
     let epoch = at.read_epoch();
     let (found, used) = scan(at, epoch, budget, used + 1)?;
     at.law();
-    if let Some(slot) = found {
-        return Ok((slot, used));
+    if let Some(place) = found {
+        return Ok((place, used));
     }
     if !affords(budget, used) {
         return Err((Refusal::OutOfSteps { used }, used));
@@ -144,25 +165,62 @@ fn choose<N: Nodes>(
     }
     at.advance(epoch);
     at.read_epoch();
-    Ok((at.pool()[0], used + 2))
+    Ok(((0, at.pool()[0]), used + 2))
 }
 
-// The oldest slot of the own pool that is stamped below an epoch, if there is one, and how many steps
-// were used.
+// The oldest slot of the own pool that is stamped below an epoch, with its place there, if there is one;
+// and how many steps were used. It is the first, but where an epoch hasn't passed since that came.
 #[inline(always)]
 fn scan<N: Nodes>(
     at: &mut AtTable<'_, N>,
     epoch: u64,
     budget: u32,
-    mut used: u32,
-) -> Result<(Option<u32>, u32), (Refusal, u32)>
+    used: u32,
+) -> Result<(Option<(usize, u32)>, u32), (Refusal, u32)>
+    requires some { (pass_of at.old).pool ≢ [] }
     requires within { used ≤ budget }
     ensures table { IsSameTable at.old at.new }
     ensures scans { Scans (pass_of at.old) (pass_of at.new) }
-    ensures scanned { IfOk result (IsScanned (pass_of at.old) (pass_of at.new) epoch budget used) }
-    ensures part { IfErr result (ScansPart (pass_of at.old) (pass_of at.new) budget used) }
+    ensures scanned { IfOk result (IsScanned (pass_of at.old) (pass_of at.new) epoch budget used
+        (length (pass_of at.old).pool)) }
+    ensures part { IfErr result (ScansPart (pass_of at.old) (pass_of at.new) budget used
+        (length (pass_of at.old).pool)) }
 {
-    for i in 0..at.pool().len() {
+    if !affords(budget, used) {
+        return Err((Refusal::OutOfSteps { used }, used));
+    }
+    let slot = at.pool()[0];
+    let stamp = at.load_stamp(slot);
+    if stamp < epoch {
+        return Ok((Some((0, slot)), used + 1));
+    }
+    let slots = at.slots;
+    scan_others(slots, at.stepper, epoch, budget, used + 1)
+}
+
+// As `scan`, from the second slot on, where the first isn't stamped below the epoch. Few calls need it, so it
+// stands apart from them.
+#[cold]
+#[inline(never)]
+fn scan_others<N: Nodes>(
+    slots: &Slots<N>,
+    stepper: &mut Stepper,
+    epoch: u64,
+    budget: u32,
+    mut used: u32,
+) -> Result<(Option<(usize, u32)>, u32), (Refusal, u32)>
+    requires own { IsOf stepper.old.trace slots.now }
+    requires some { stepper.old.pool ≢ [] }
+    requires first { IsStampedFrom stepper.old epoch (get_or stepper.old.pool 0 0) }
+    requires within { used ≤ budget }
+    ensures scans { Scans stepper.old stepper.new }
+    ensures scanned { IfOk result (IsScanned stepper.old stepper.new epoch budget used
+        (length stepper.old.pool - 1)) }
+    ensures part { IfErr result (ScansPart stepper.old stepper.new budget used
+        (length stepper.old.pool - 1)) }
+{
+    let mut at = AtTable { slots, stepper };
+    for i in 1..at.pool().len() {
         if !affords(budget, used) {
             return Err((Refusal::OutOfSteps { used }, used));
         }
@@ -170,7 +228,7 @@ fn scan<N: Nodes>(
         let stamp = at.load_stamp(slot);
         used += 1;
         if stamp < epoch {
-            return Ok((Some(slot), used));
+            return Ok((Some((i, slot)), used));
         }
     }
     Ok((None, used))
@@ -181,22 +239,22 @@ fn scan<N: Nodes>(
 #[inline(always)]
 fn bear<N: Nodes>(
     at: &mut AtTable<'_, N>,
-    slot: u32,
+    place: (usize, u32),
     budget: u32,
     used: u32,
 ) -> Result<(Hand, u32), (Refusal, u32)>
     requires within { used ≤ budget }
-    requires below { IsStampedBelow (pass_of at.old) (knows (trace_of at.old)).epoch (Some slot) }
+    requires below { IsStampedBelow (pass_of at.old) (knows (trace_of at.old)).epoch (Some place) }
     requires empty_hand { (pass_of at.old).hand ≡ None }
     ensures table { IsSameTable at.old at.new }
-    ensures born { IfOk result (IsBorn (pass_of at.old) (pass_of at.new) slot budget used) }
+    ensures born { IfOk result (IsBorn (pass_of at.old) (pass_of at.new) place.1 budget used) }
     ensures none { IfErr result (BearsNone (pass_of at.old) (pass_of at.new) budget used) }
 {
     if !affords(budget, used) {
         return Err((Refusal::OutOfSteps { used }, used));
     }
-    // What is known of the slots of the pool comes with it.
-    let _pool = at.pool();
-    at.store_birth(slot);
-    Ok((Hand::of(slot, at.epoch()), used + 1))
+    at.law();
+    let (index, slot) = place;
+    let birth = at.store_birth_at(index, slot);
+    Ok((Hand::of(slot, birth), used + 1))
 }

@@ -48,9 +48,9 @@ pub fn unlink<N: Nodes>(
         word: marked.word,
         epoch: marked.epoch,
     };
+    let layout = at.slots.layout();
     let next_birth = birth_after(at, &node)?;
     at.law();
-    let layout = at.slots.layout();
     let new = link_to_same(marked.word, pred.birth, next_birth, layout);
     match at.unlink(pred.at, pred.word, marked.slot, new) {
         Ok(()) => {

@@ -109,11 +109,12 @@ pub fn update<N: Nodes>(
         GivesBack (pass_of at.old) (pass_of at.new) (said at.old.slots.now pred.now) hand
         (back.0, said_rollback at.old.slots.now back.1)) }
 {
+    let layout = at.slots.layout();
     let birth = birth_named(at, pred, succ);
     fill(at, &hand, key, value, pred, birth);
     at.law();
     let slot = hand.slot();
-    let new = link_to(Some(slot), pred.birth, hand.birth(), at.slots.layout());
+    let new = link_to(Some(slot), pred.birth, hand.birth(), layout);
     match at.publish(pred.at, pred.word, slot, new) {
         Ok(()) => {
             hand.spent_by(at);

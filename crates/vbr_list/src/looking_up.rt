@@ -1,5 +1,5 @@
 //! Look-ups.
-ghost use Rattle.std.specs.Prelude.{◌≡◌, ◌+◌, ◌≤◌, true, false, None, IfOk, IfErr, is_some};
+ghost use Rattle.std.specs.Prelude.{◌≡◌, ◌+◌, ◌≤◌, true, false, None, IfOk, IfErr};
 ghost use Rattle.vbr_machine.specs.declared.history.Op.TheVariants.{Has};
 ghost use Rattle.vbr_slots.specs.steps.Calls.{OnlyLoads, Took};
 ghost use Rattle.vbr_slots.specs.views.Views.{IsOf};
@@ -9,7 +9,6 @@ ghost use Rattle.vbr_list.specs.declared.looking.Sight.TheVariants.{Present, Abs
 ghost use Rattle.vbr_list.specs.look_ups.LookUpPieces.{GivesNone, GivesValueOf};
 ghost use Rattle.vbr_list.specs.look_ups.LookUpPieces.{IsAskedOf, IsSightFor, LookUpAnswers, LookUpRollsBack, steps_to_answer};
 ghost use Rattle.vbr_list.specs.calls.Pieces.{HasRoomForPiece, Settles, trace_in};
-ghost use Rattle.vbr_list.specs.traversals.Places.{is_present, sighted};
 ghost use Rattle.vbr_list.specs.calls.Told.{given_in, look_up_op};
 ghost use Rattle.vbr_list.specs.calls.Words.{wide_held, wide_sight};
 
@@ -17,33 +16,12 @@ use crate::call::{PendingCall, begin};
 use crate::looking::Sight;
 use crate::valuing::{is_yes, steps_to_value_of, value_if_any};
 use vbr_at_table::budget::affords;
-use vbr_at_table::{Held, Refusal, Rollback, confirm_absent, confirm_look_up, confirm_present};
+use vbr_at_table::{Held, Refusal, Rollback, confirm_absent, confirm_present};
 use vbr_machine::Op;
 use vbr_slots::{Pass, Slots, Stepper};
 use vbr_words::{Entries, Nodes};
 
 impl<N: Nodes> PendingCall<'_, N> {
-    // Answers a look-up by what it came to, in one step, if the link that was read still stands there.
-    #[inline(always)]
-    fn answer_has(&mut self, sight: Sight) -> Result<Option<u64>, Rollback>
-        requires sight { IsSightFor self.old (wide_sight self.old sight) }
-        requires room { HasRoomForPiece self.old }
-        ensures settles { Settles self.old self.new }
-        ensures few { self.new.used ≡ self.old.used + 1 }
-        ensures only_loads { OnlyLoads (trace_in self.old) (trace_in self.new) }
-        ensures answers { IfOk result (LookUpAnswers false self.old self.new) }
-        ensures rolls { IfErr result (LookUpRollsBack self.old self.new
-            (wide_sight self.old sight)) }
-    {
-        let (held, present) = told_by(sight);
-        let outcome = confirm_look_up(&mut self.at, self.key, &held, present);
-        self.used += 1;
-        match outcome {
-            Ok(()) => Ok(without_value(present)),
-            Err(rollback) => Err(rollback),
-        }
-    }
-
     // Answers a get with the value of the node with the key, in two steps for it and one more, if the
     // epoch and the node's link still stand.
     #[inline(always)]
@@ -147,12 +125,9 @@ impl<N: Nodes> PendingCall<'_, N> {
         ensures rolls { IfErr result (LookUpRollsBack self.old self.new
             (wide_sight self.old sight)) }
     {
-        if !gives {
-            return self.answer_has(sight);
-        }
         match sight {
-            Sight::Present(node) => self.give_value(&node),
-            Sight::Absent(pred) => self.give_none(true, &pred),
+            Sight::Present(node) => self.give_node(gives, &node),
+            Sight::Absent(pred) => self.give_none(gives, &pred),
         }
     }
 }
@@ -163,26 +138,6 @@ fn look_up_op(gives: bool) -> Op
     ensures { result ≡ look_up_op gives }
 {
     if gives { Op::Get } else { Op::Has }
-}
-
-// Yes without a value, or no.
-#[inline(always)]
-fn without_value(present: bool) -> Option<u64>
-    ensures { is_some result ≡ present }
-{
-    if present { Some(0) } else { None }
-}
-
-// What is held that tells, and whether it tells that the key is present.
-#[inline(always)]
-fn told_by(sight: Sight) -> (Held, bool)
-    ensures held { result.0 ≡ sighted sight }
-    ensures present { result.1 ≡ is_present sight }
-{
-    match sight {
-        Sight::Present(node) => (node, true),
-        Sight::Absent(pred) => (pred, false),
-    }
 }
 
 /// Whether a key is in the set, in at most `budget` steps. The answer's point is one load, which

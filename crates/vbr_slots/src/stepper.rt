@@ -1,6 +1,6 @@
 //! All that a pass has but the count of its steps: its seat, its own pool and its hand.
 ghost use Rattle.std.specs.List.{position_from};
-ghost use Rattle.std.specs.Prelude.{◌≡◌, ◌==◌, ◌<◌, [], ◌∷◌, ◌++◌, length};
+ghost use Rattle.std.specs.Prelude.{◌≡◌, ◌==◌, ◌<◌, [], ◌∷◌, ◌++◌, length, get_or};
 ghost use Rattle.vbr_slots.specs.pools.Forsaking.{Forsakes};
 ghost use Rattle.vbr_slots.specs.steps.PassLaw.{PassLaw};
 ghost use Rattle.vbr_slots.specs.pools.Pools.{hand_without, without};
@@ -61,6 +61,19 @@ impl Stepper {
         if let Some(index) = position_in(self.pool.as_slice(), slot) {
             self.pool.remove(index);
         }
+    }
+
+    // Takes the slot at a place out of its own pool.
+    #[inline(always)]
+    pub(crate) fn leave_place(&mut self, index: usize, slot: u32)
+        requires place { index < length self.old.pool }
+        requires slot { get_or self.old.pool index 0 ≡ slot }
+        ensures trace { self.new.trace ≡ self.old.trace }
+        ensures pool { self.new.pool ≡ without slot self.old.pool }
+        ensures hand { self.new.hand ≡ self.old.hand }
+    {
+        let _slot = slot;
+        self.pool.remove(index);
     }
 
     // Takes a slot out of its own pool or its hand, wherever it is.

@@ -3,6 +3,7 @@ use Rattle.std.proofs.Common.{◌≡◌, ◌≢◌, ℕ, ◌+◌, ◌<◌, ◌�
 use Rattle.std.proofs.Common.{ap, ◌∙◌, subst, inl, inr, ⊎_elim, arith}
 use Rattle.std.specs.Prelude.{AllPairs}
 use Rattle.std.proofs.lemmas.Bool.{cases_eq}
+use Rattle.std.proofs.lemmas.List.Elements.{Contains-get_or}
 use Rattle.vbr_machine.specs.Acceptance.{MayBear, stamp_in}
 use Rattle.vbr_machine.specs.Knowledge.{Know}
 use Rattle.vbr_machine.specs.Learning.{newborn, birth_in_hand}
@@ -33,8 +34,8 @@ module _ (p q : PassView) (slot : ℕ)
   own_here : (knows q.trace).own slot ≡ born
   own_here = ap (λ (k : Know). k.own slot) d.know ∙ put_here (knows p.trace).own slot born
 
-  same_epoch : (knows q.trace).epoch ≡ (knows p.trace).epoch
-  same_epoch = ap (λ (k : Know). k.epoch) d.know
+  pub epoch_born : (knows q.trace).epoch ≡ (knows p.trace).epoch
+  epoch_born = ap (λ (k : Know). k.epoch) d.know
 
   -- the stamps that the pass knows stay
   stamps_stay : (s : ℕ) → stamp_in ((knows q.trace).own s) ≡ stamp_in ((knows p.trace).own s)
@@ -66,30 +67,31 @@ module _ (p q : PassView) (slot : ℕ)
   outside_born there pool in_hand s none (inr h) =
       none (inl (subst (Contains p.pool) (same_slot (sym in_hand ∙ h)) there))
 
-  pub is_born : (budget used : ℕ) (hand : HandView) → p.hand ≡ None →
-      IsStampedBelow p (knows p.trace).epoch (Some slot) → used + PIECE ≤ budget → length p.pool ≤ 64 →
+  pub is_born : (budget used index : ℕ) (hand : HandView) → p.hand ≡ None →
+      IsStampedBelow p (knows p.trace).epoch (Some (index, slot)) → used + PIECE ≤ budget → length p.pool ≤ 64 →
       AllPairs ◌≢◌ p.pool → q.pool ≡ without slot p.pool → q.hand ≡ Some slot →
       hand ≡ record { slot = slot; birth = (knows q.trace).epoch } → IsBorn p q slot budget used (hand, used + 1)
-  is_born budget used hand empty below room most apart pool in_hand is =
+  is_born budget used index hand empty below room most apart pool in_hand is =
+      let there : Contains p.pool slot = subst (Contains p.pool) below.1 (Contains-get_or p.pool index 0 below.0) in
       subst (λ (h : HandView). IsBorn p q slot budget used (h, used + 1)) (sym is) (record {
         uses = record { counts = counts_one used d; within = omega arith; at_most = omega arith };
         sum = refl;
         slot = refl;
         births = record {
-          in_hand = record { slot = in_hand; birth = ap birth_in_hand own_here ∙ sym same_epoch };
+          in_hand = record { slot = in_hand; birth = ap birth_in_hand own_here ∙ sym epoch_born };
           birth = refl;
-          above = (let s = stamps_stay slot in let e = same_epoch in let b = below.1 in omega arith);
+          above = (let s = stamps_stay slot in let e = epoch_born in let b = below.2 in omega arith);
           rest = pool;
-          room = (let less = without_shorter slot p.pool below.0 in let e = ap length pool in omega arith);
+          room = (let less = without_shorter slot p.pool there in let e = ap length pool in omega arith);
         };
         oldest = record {
-          place = below.2.place;
-          low = below.2.low;
-          is = below.2.is;
+          place = below.3.place;
+          low = below.3.low;
+          is = below.3.is;
           before = λ k less.
               (let s = stamps_stay (get_or p.pool k 0) in
-              let e = same_epoch in
-              let b = below.2.before k less in
+              let e = epoch_born in
+              let b = below.3.before k less in
               omega arith);
         };
         leaves = record {
@@ -98,7 +100,7 @@ module _ (p q : PassView) (slot : ℕ)
             free = free_born empty pool in_hand;
             stamped = did_stamps d refl;
             turn = did_turn d;
-            aside = keeps_aside d (inl below.0) (outside_born below.0 pool in_hand);
+            aside = keeps_aside d (inl there) (outside_born there pool in_hand);
           };
           one = (let few = without_one slot p.pool apart in let e = ap length pool in omega arith);
           flags = same_flags d refl;

@@ -1,6 +1,6 @@
 -- A slot of the own pool is chosen.
 -- The epoch is read, the pool is looked through, and the epoch is advanced if no slot is stamped below it.
-use Rattle.std.proofs.Common.{◌≡◌, ◌≢◌, ℕ, ◌+◌, ◌<◌, ◌≤◌, List, [], ◌∷◌, length, get_or, Option, Some, None, refl, sym}
+use Rattle.std.proofs.Common.{◌≡◌, ◌≢◌, ℕ, ◌+◌, ◌<◌, ◌≤◌, List, [], length, get_or, Option, Some, None, refl, sym}
 use Rattle.std.proofs.Common.{ap, ◌∙◌, subst, inl, inr, arith}
 use Rattle.std.specs.Prelude.{Contains}
 use Rattle.std.proofs.lemmas.List.Elements.{All-contains, Contains-get_or}
@@ -34,13 +34,9 @@ use Rattle.vbr_at_table.proofs.epochs.Advancing.{keeps_known, shared_on, none_on
 use Rattle.vbr_at_table.proofs.epochs.Advancing.{once_before}
 use Rattle.vbr_at_table.proofs.steps.Counting.{counts_none, counts_one, counts_on, uses_on, uses_more}
 use Rattle.vbr_at_table.proofs.flags.FlagsInNeed.{wins_none, wins_none_on, wins_none_refl}
+use Rattle.vbr_at_table.proofs.own_slots.Scanning.{some_slot}
 use Rattle.vbr_at_table.proofs.reads.Shown.{epoch_told}
 use Rattle.vbr_at_table.proofs.epochs.EpochReads.{stamps_reread, stamps_low, read_above}
-
--- a pool with no slot is empty
-some_slot : (pool : List ℕ) → pool ≢ [] → 0 < length pool
-some_slot [] some = absurd (some refl)
-some_slot (x ∷ xs) some = omega arith
 
 -- no slot is lost where the epoch is read and the pool is looked through
 none_read : {p q r : PassView} {e : ℕ} → Did ReadEpoch p.trace q.trace e → KeepsPool p q → TakesNoSlot q r →
@@ -118,21 +114,23 @@ module _ (p q r : PassView) (e budget used : ℕ) (read : Did ReadEpoch p.trace 
   uses_then uses = uses_more (length p.pool + 1) (let e = long in omega arith) (uses_on first uses)
 
   -- the budget had no room to look it through
-  pub short_then : (told : Refusal × ℕ) → ScansPart q r budget (used + 1) told → ChoosesNone p r budget used told
+  pub short_then : (told : Refusal × ℕ) → ScansPart q r budget (used + 1) (length q.pool) told →
+      ChoosesNone p r budget used told
   short_then told part =
       record {
         uses = uses_then part.uses;
         why = subst (IsShortOrSpent r budget told.1) (sym part.why) (refl, part.short);
       }
 
-  module _ (found : Option ℕ) (since : ℕ) (scanned : IsScanned q r e budget (used + 1) (found, since)) where
+  module _ (found : Option (ℕ × ℕ)) (since : ℕ)
+      (scanned : IsScanned q r e budget (used + 1) (length q.pool) (found, since)) where
     uses : Uses p r budget used since (length p.pool + 1)
     uses = uses_then scanned.uses
 
-    pub chosen_then : (slot : ℕ) → found ≡ Some slot → IsChosen p r budget used (slot, since)
-    chosen_then slot is = record {
+    pub chosen_then : (at : ℕ × ℕ) → found ≡ Some at → IsChosen p r budget used (at, since)
+    chosen_then at is = record {
       uses = uses_more (length p.pool + 3) (omega arith) uses;
-      below = subst (λ (x : ℕ × Option ℕ). IsStampedBelow r x.0 x.1) (λ i. (sym last_read i, is i)) scanned.below;
+      below = subst (λ (x : ℕ × Option (ℕ × ℕ)). IsStampedBelow r x.0 x.1) (λ i. (sym last_read i, is i)) scanned.below;
     }
 
     -- or none to advance the epoch
@@ -219,7 +217,7 @@ module _ (p q r : PassView) (e budget used : ℕ) (read : Did ReadEpoch p.trace 
         }
 
         raised_chosen : (pool : List ℕ) → pool ≡ t.pool → p.pool ≢ [] → since + PIECE ≤ budget →
-            IsChosen p t budget used (get_or pool 0 0, since + 2)
+            IsChosen p t budget used ((0, get_or pool 0 0), since + 2)
         raised_chosen pool shown some left =
             let there : pool ≡ r.pool = shown ∙ still.0 ∙ keeps.0 in
             let slot : ℕ = get_or pool 0 0 in
@@ -248,9 +246,14 @@ module _ (p q r : PassView) (e budget used : ℕ) (read : Did ReadEpoch p.trace 
                 within = omega arith;
                 at_most = omega arith;
               };
-              below = (subst (λ (l : List ℕ). Contains l slot) shown has, omega arith, first_one);
+              below = (
+                subst (λ (l : List ℕ). 0 < length l) shown (some_slot pool (λ none. some_then some (sym there ∙ none))),
+                ap (λ (l : List ℕ). get_or l 0 0) (sym shown),
+                omega arith,
+                first_one,
+              );
             }
 
         pub raised_then : (pool : List ℕ) → pool ≡ t.pool → p.pool ≢ [] → since + PIECE ≤ budget →
-            Chooses p t × IsChosen p t budget used (get_or pool 0 0, since + 2)
+            Chooses p t × IsChosen p t budget used ((0, get_or pool 0 0), since + 2)
         raised_then pool shown some left = (raised_chooses some, raised_chosen pool shown some left)

@@ -4,6 +4,7 @@ use Rattle.std.proofs.Common.{◌≡◌, ◌≢◌, ℕ, zero, suc, ◌+◌, ◌
 use Rattle.std.proofs.Common.{Err, refl, sym, ap, ◌∙◌, subst, inl, inr, ⊎_elim, eq-eqb, arith}
 use Rattle.std.specs.Prelude.{◌⊎◌, Contains, IfOk, IfErr, None}
 use Rattle.vbr_slots.specs.declared.pass.TheConstants.{POOL}
+use Rattle.std.proofs.lemmas.List.Elements.{Contains-get_or}
 use Rattle.vbr_machine.specs.Runs.{Begins}
 use Rattle.vbr_slots.specs.steps.Alone.{IsAlone}
 use Rattle.vbr_slots.specs.steps.Calls.{Quiet, Took}
@@ -227,7 +228,13 @@ module _ (p q r : PassView) (budget used : ℕ) (first : LooksForSlot p q) (begu
         record { took = unchosen_took; takes = stops_takes none.uses; taken = tt; refused = unchosen_refused }
 
   -- a slot was chosen, and then an incarnation was to be born there
-  module _ (t : PassView) (slot since : ℕ) (chosen : IsChosen q r budget used (slot, since)) where
+  module _ (t : PassView) (at : ℕ × ℕ) (since : ℕ) (chosen : IsChosen q r budget used (at, since)) where
+    abbrev slot : ℕ
+    slot = at.1
+
+    there : Contains r.pool slot
+    there = subst (Contains r.pool) chosen.below.1 (Contains-get_or r.pool at.0 0 chosen.below.0)
+
     one : (s : ℕ) → Contains (s ∷ []) slot → s ≡ slot
     one s (zero, low, is) = is
     one s (suc k, low, is) = absurd (omega arith)
@@ -245,7 +252,7 @@ module _ (p q r : PassView) (budget used : ℕ) (first : LooksForSlot p q) (begu
         inr (
           x.0,
           subst (CameByFlag p.trace t.trace)
-              (one x.1 (subst (λ (l : List ℕ). Contains l slot) (then.pool.0 ∙ x.2) chosen.below.0))
+              (one x.1 (subst (λ (l : List ℕ). Contains l slot) (then.pool.0 ∙ x.2) there))
               (came_before x.3 (quiet_on then.quiet more)),
         )) begun.won
 
@@ -254,7 +261,7 @@ module _ (p q r : PassView) (budget used : ℕ) (first : LooksForSlot p q) (begu
         ⊎_elim (λ (x : (q.pool ≡ p.pool) × (p.pool ≢ []) × (used ≡ 0)). is ∙ ap (without slot) (then.pool.0 ∙ x.0))
         (λ (x : (p.pool ≡ []) × (s : ℕ) × (q.pool ≡ s ∷ []) × CameByFlag p.trace q.trace s).
         is ∙ ap (without slot) (then.pool.0 ∙ x.2)
-        ∙ gone x.1 (one x.1 (subst (λ (l : List ℕ). Contains l slot) (then.pool.0 ∙ x.2) chosen.below.0))
+        ∙ gone x.1 (one x.1 (subst (λ (l : List ℕ). Contains l slot) (then.pool.0 ∙ x.2) there))
         ∙ sym (ap (without slot) x.0)) begun.won
 
     -- what was used before the birth

@@ -235,27 +235,32 @@ module _ {p q r : PassView} {slot gone e n : ℕ} (is : IsStart p.trace.start) (
 
   -- the slot is kept
   pub retires_kept : {t : PassView} → length p.pool < POOL - 1 → t.trace ≡ r.trace → t.pool ≡ r.pool ++ slot ∷ [] →
-      t.hand ≡ hand_without slot r.hand → Retires p t gone 2
+      t.hand ≡ r.hand → Retires p t gone 2
   retires_kept {t} low seen pool hand =
       let kept = kept_tells p.pool low in
       at_end (record {
         took = took;
         count = sym (ap (λ (b : Bool). cond b 2 3) kept);
         quiet = retired_quiet read stamp;
-        takes_no_slot = kept_none read stamp stays still unlinked_here refl pool hand;
+        takes_no_slot = kept_none read stamp stays still unlinked_here refl pool (hand ∙ sym still_held);
         turn = λ turn. did_stay_turn stamp refl (did_stay_turn read refl turn);
         stamped = stamped read stamp;
         known = known_stamped read stamp ∙ ap (know_retired (knows p.trace) (knows r.trace).epoch slot) (sym kept);
         pool = pool ∙ ap (λ (l : List ℕ). l ++ slot ∷ []) (still.0 ∙ stays.0)
             ∙ sym (ap (λ (b : Bool). cond b (p.pool ++ slot ∷ []) p.pool) kept);
-        hand = hand ∙ ap (hand_without slot) (still.1 ∙ stays.1)
-            ∙ hand_stays slot p.hand
-            (λ h. (hand_alone p.trace.start (knows p.trace) slot p.pool p.hand own h).1
-            (subst (λ (s : ℕ). IsUnlinked ((knows p.trace).own s)) (sym same) unlinked));
+        hand = hand ∙ still.1 ∙ stays.1;
         unchanged = retired_unchanged read stamp;
         alone = λ alone. (retired_leaves is read stamp alone, retired_fresh is read stamp alone);
       })
     where
+      -- the slot isn't in hand
+      still_held : hand_without slot r.hand ≡ r.hand
+      still_held = ap (hand_without slot) (still.1 ∙ stays.1)
+          ∙ hand_stays slot p.hand
+          (λ h. (hand_alone p.trace.start (knows p.trace) slot p.pool p.hand own h).1
+          (subst (λ (s : ℕ). IsUnlinked ((knows p.trace).own s)) (sym same) unlinked))
+          ∙ sym (still.1 ∙ stays.1)
+
       at_end : Retires p (record t { trace = r.trace }) slot 2 → Retires p t gone 2
       at_end x = subst (λ (y : Trace × ℕ). Retires p (record t { trace = y.0 }) y.1 2) (λ i. (sym seen i, same i)) x
 

@@ -1,5 +1,5 @@
 -- What each piece of a call that takes a slot tells. Only contracts of private functions cite this.
-use Rattle.std.specs.Prelude.{◌≡◌, ◌≢◌, ℕ, ◌+◌, ◌<◌, ◌≤◌, ◌⊎◌, [], ◌∷◌, length, All, Contains, Option, Some, None, Result, Ok, Err}
+use Rattle.std.specs.Prelude.{◌≡◌, ◌≢◌, ℕ, ◌+◌, ◌<◌, ◌≤◌, ◌⊎◌, [], ◌∷◌, length, get_or, All, Option, Some, None, Result, Ok, Err}
 use Rattle.vbr_machine.specs.Acceptance.{stamp_in}
 use Rattle.vbr_slots.specs.declared.pass.TheConstants.{POOL}
 use Rattle.vbr_slots.specs.steps.Calls.{Quiet}
@@ -83,21 +83,26 @@ pub record Scans (p q : PassView) : Type 0 where
   pub pool : KeepsPool p q
   pub known : knows q.trace ≡ knows p.trace
 
--- the oldest slot of the own pool that is stamped below an epoch, or that there is none
-abbrev pub IsStampedBelow : PassView → ℕ → Option ℕ → Type 0
-IsStampedBelow q epoch None = All (λ slot. epoch ≤ stamp_in ((knows q.trace).own slot)) q.pool
-IsStampedBelow q epoch (Some slot) = Contains q.pool slot
-    × (stamp_in ((knows q.trace).own slot) < epoch)
-    × IsOldest (knows q.trace) q.pool slot epoch
+-- a slot isn't stamped below an epoch
+abbrev pub IsStampedFrom : PassView → ℕ → ℕ → Type 0
+IsStampedFrom q epoch slot = epoch ≤ stamp_in ((knows q.trace).own slot)
 
--- the own pool was looked through for a slot that is stamped below an epoch
-pub record IsScanned (p q : PassView) (epoch budget before : ℕ) (told : Option ℕ × ℕ) : Type 0 where
-  pub uses : Uses p q budget before told.1 (length p.pool)
+-- the oldest slot of the own pool that is stamped below an epoch, with its place there, or that there is none
+abbrev pub IsStampedBelow : PassView → ℕ → Option (ℕ × ℕ) → Type 0
+IsStampedBelow q epoch None = All (IsStampedFrom q epoch) q.pool
+IsStampedBelow q epoch (Some at) = (at.0 < length q.pool)
+    × (get_or q.pool at.0 0 ≡ at.1)
+    × (stamp_in ((knows q.trace).own at.1) < epoch)
+    × IsOldest (knows q.trace) q.pool at.1 epoch
+
+-- at most so many slots of the own pool were looked at, for one that is stamped below an epoch
+pub record IsScanned (p q : PassView) (epoch budget before most : ℕ) (told : Option (ℕ × ℕ) × ℕ) : Type 0 where
+  pub uses : Uses p q budget before told.1 most
   pub below : IsStampedBelow q epoch told.0
 
--- it was looked through in part, and the budget has no room for more
-abbrev pub ScansPart : PassView → PassView → ℕ → ℕ → Refusal × ℕ → Type 0
-ScansPart p q budget before told = FallsShort p q budget before (length p.pool) told
+-- some were looked at, and the budget has no room for more
+abbrev pub ScansPart : PassView → PassView → ℕ → ℕ → ℕ → Refusal × ℕ → Type 0
+ScansPart p q budget before most told = FallsShort p q budget before most told
 
 -- a slot was to be chosen: no call was made, the pool and the hand stay, no slot was lost or put into the shared pool, none was looked for there, and the epoch was advanced only where it had to be
 pub record Chooses (p q : PassView) : Type 0 where
@@ -109,8 +114,8 @@ pub record Chooses (p q : PassView) : Type 0 where
   pub wins : WinsNoFlag p.trace q.trace
   pub advances : AdvancesWhereNeeded p q
 
--- the slot is the oldest one of the own pool that is stamped below the epoch that the pass read last
-pub record IsChosen (p q : PassView) (budget before : ℕ) (told : ℕ × ℕ) : Type 0 where
+-- the slot, with its place, is the oldest one of the own pool that is stamped below the epoch that the pass read last
+pub record IsChosen (p q : PassView) (budget before : ℕ) (told : (ℕ × ℕ) × ℕ) : Type 0 where
   pub uses : Uses p q budget before told.1 (length p.pool + 3)
   pub below : IsStampedBelow q (knows q.trace).epoch (Some told.0)
 

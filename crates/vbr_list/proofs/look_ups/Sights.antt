@@ -5,27 +5,12 @@ use Rattle.vbr_list.proofs.Names.{set_call, Start}
 use Rattle.vbr_at_table.specs.answers.Answering.{IsAnswered}
 use Rattle.vbr_list.specs.look_ups.LookUpPieces.{LookUpAnswers, steps_to_answer}
 use Rattle.vbr_list.specs.calls.Pieces.{trace_in}
-use Rattle.vbr_list.specs.traversals.Places.{IsSight, sighted, is_present}
 use Rattle.vbr_list.specs.calls.Told.{given_by, kept_call, look_up_op}
 use Rattle.vbr_list.specs.declared.call.PendingCall.{PendingCall}
-use Rattle.vbr_list.specs.declared.looking.Sight.{Sight}
-use Rattle.vbr_list.specs.declared.looking.Sight.TheVariants.{Present, Absent}
 use Rattle.vbr_list.proofs.pieces.Told.{told_bare}
 
 pub keyed_slot : (know : Know) (place : At) (key : ℕ) → KeyAt know place key → IsSlot place
 keyed_slot know place key k = grind arith
-
-module _ (start : Start) (know : Know) (key : ℕ) where
-  pub sight_held : (sight : Sight) → IsSight start know key sight → IsHeld know (sighted sight)
-  sight_held sight s = grind arith
-
-  pub sight_unmarked : (sight : Sight) → IsSight start know key sight → (link_of (sighted sight).word).mark ≡ false
-  sight_unmarked sight s = grind arith
-
-  pub sight_answers : (sight : Sight) → IsSight start know key sight →
-      DecidesKey start know key (sighted sight) (is_present sight)
-  sight_answers (Present node) s = (keyed_slot know node.at key s.2, s.2)
-  sight_answers (Absent pred) s = (s.0.behind, s.1)
 
 -- ---- its answer
 

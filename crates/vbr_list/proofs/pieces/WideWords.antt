@@ -7,7 +7,6 @@ use Rattle.vbr_words.specs.Packing.{slot_bits}
 use Rattle.vbr_slots.specs.declared.at_table.AtTable.{AtTable}
 use Rattle.vbr_slots.specs.steps.AtTables.{IsSameTable}
 use Rattle.vbr_list.specs.named_entries.OtherEntries.{IsNodeOf}
-use Rattle.vbr_list.specs.traversals.Places.{is_present, sighted}
 use Rattle.vbr_list.specs.calls.Words.{wide_found, wide_held, wide_sight}
 use Rattle.vbr_list.specs.declared.call.PendingCall.{PendingCall}
 use Rattle.vbr_list.specs.declared.entries.Entry.{Entry}
@@ -56,17 +55,6 @@ node_bare c found x =
       place = bare.2 ∙ x.place;
       birth = bare.3 ∙ x.birth;
     }
-
--- what tells a look-up's answer is the same place with wide words
-pub wide_sighted : {N : Type 0} {kind : Ghosts N} (c : PendingCall N kind) (sight : Sight) →
-    sighted (wide_sight c sight) ≡ wide_held c (sighted sight)
-wide_sighted c (Present node) = refl
-wide_sighted c (Absent pred) = refl
-
-pub wide_present : {N : Type 0} {kind : Ghosts N} (c : PendingCall N kind) (sight : Sight) →
-    is_present (wide_sight c sight) ≡ is_present sight
-wide_present c (Present node) = refl
-wide_present c (Absent pred) = refl
 
 -- the layout of a table at which a pass went on is that of the table before
 pub layout_at : {N : Type 0} {kind : Ghosts N} {c d : AtTable N kind} {layout : ℕ} →

@@ -46,11 +46,6 @@ abbrev pub sighted : Sight → Held
 sighted (Present node) = node
 sighted (Absent pred) = pred
 
--- whether the key was found
-abbrev pub is_present : Sight → Bool
-is_present (Present node) = true
-is_present (Absent pred) = false
-
 -- what was found tells where the key stands, by what the pass knows
 pub record Locates (start : Start) (know : Know) (key : ℕ) (found : Found) : Type 0 where
   pub pred : IsPred start know key found.pred

@@ -1,6 +1,6 @@
 -- A slot that leaves its pool by its place.
-use Rattle.std.proofs.Common.{◌≡◌, ◌≢◌, ℕ, suc, ◌+◌, ◌<◌, ◌==◌, Bool, true, false, not, List, [], ◌∷◌, length, Option}
-use Rattle.std.proofs.Common.{Some, None, cond, refl, sym, ap, ◌∙◌, subst, eq-eqb, ⊎_elim, arith}
+use Rattle.std.proofs.Common.{◌≡◌, ◌≢◌, ℕ, zero, suc, ◌+◌, ◌<◌, ◌==◌, Bool, true, false, not, List, [], ◌∷◌, length}
+use Rattle.std.proofs.Common.{get_or, Option, Some, None, cond, refl, sym, ap, ◌∙◌, subst, eq-eqb, ⊎_elim, arith}
 use Rattle.std.specs.Prelude.{AllPairs, slice_index_or}
 use Rattle.std.specs.List.{remove, position_from}
 use Rattle.std.proofs.lemmas.Bool.{cases_eq, ne_eqb, true≢false}
@@ -81,3 +81,17 @@ pub stays : (slot : ℕ) (pool seen : List ℕ) (place : Option ℕ) → seen �
     place ≡ position_from (λ x. x == slot) 0 seen → place ≡ None → pool ≡ without slot pool
 stays slot pool seen place is found none =
     sym (not_found slot pool 0 (ap (position_from (λ x. x == slot) 0) (sym is) ∙ sym found ∙ none))
+
+-- the slot at a place of a pool is all that leaves there
+pub at_place : (slot : ℕ) (pool : List ℕ) (index : ℕ) → AllPairs ◌≢◌ pool → index < length pool →
+    get_or pool index 0 ≡ slot → remove pool index ≡ without slot pool
+at_place slot [] index apart low is = absurd (omega (arith, low))
+at_place slot (x ∷ xs) zero apart low is =
+    let t = eq-eqb x slot is in
+    sym (ap (λ (b : Bool). cond (not b) (x ∷ without slot xs) (without slot xs)) t
+    ∙ absent slot xs (λ j d less same. apart 0 (suc j) d (omega arith) (omega (arith, less)) (is ∙ sym same)))
+at_place slot (x ∷ xs) (suc index) apart low is =
+    let below : index < length xs = omega (arith, low) in
+    let other : x ≢ slot = λ same. apart 0 (suc index) 0 (omega arith) (omega (arith, low)) (same ∙ sym is) in
+    ap (λ ys. x ∷ ys) (at_place slot xs index (later x xs apart) below is)
+    ∙ sym (ap (λ (b : Bool). cond (not b) (x ∷ without slot xs) (without slot xs)) (ne_eqb x slot other))

@@ -19,6 +19,12 @@ epoch_of p = (knows p.trace).epoch
 abbrev pub IsKnownStamp : Option Holding → ℕ → Type 0
 IsKnownStamp holding stamp = MayBear holding → stamp ≡ stamp_in holding
 
+-- a new incarnation was born in a slot at the epoch that the pass read last, and is in hand; the pool stays
+pub record BearsOutside (slot : ℕ) (p q : PassView) : Type 0 where
+  pub did : Did (StoreBirth slot (epoch_of p)) p.trace q.trace (epoch_of p)
+  pub pool : q.pool ≡ p.pool
+  pub hand : q.hand ≡ Some slot
+
 -- a new incarnation was born in the slot at the epoch that the pass read last; the slot left the pool, and is in hand
 pub record BearsIn (slot : ℕ) (p q : PassView) : Type 0 where
   pub did : Did (StoreBirth slot (epoch_of p)) p.trace q.trace (epoch_of p)

@@ -1,11 +1,11 @@
 //! The steps that make a new incarnation in a slot of the pass.
-ghost use Rattle.std.specs.Prelude.{◌≡◌, ◌<◌, true, Some};
+ghost use Rattle.std.specs.Prelude.{◌≡◌, ◌<◌, true, Some, None, length, get_or, Contains};
 ghost use Rattle.vbr_words.specs.Words.{link_of};
 ghost use Rattle.vbr_machine.specs.Acceptance.{MayBear, IsNextIn, IsNextHeld, stamp_in};
 ghost use Rattle.vbr_machine.specs.declared.event.Step.TheVariants.{StoreKey, StoreValue, StoreLink};
 ghost use Rattle.vbr_slots.specs.steps.Asked.{IsWritten};
 ghost use Rattle.vbr_slots.specs.steps.AtTables.{IsSameTable, pass_of, trace_of};
-ghost use Rattle.vbr_slots.specs.steps.OwnSlots.{BearsIn, epoch_of, holding_of};
+ghost use Rattle.vbr_slots.specs.steps.OwnSlots.{BearsIn, BearsOutside, epoch_of, holding_of};
 ghost use Rattle.vbr_slots.specs.pools.Pools.{HasRoomFor};
 ghost use Rattle.vbr_slots.specs.views.Views.{Did, KeepsPool, knows};
 ghost use Rattle.vbr_slots.specs.words.WideWords.{wide_at};
@@ -30,11 +30,46 @@ impl<N: Nodes> AtTable<'_, N> {
         ensures step { BearsIn slot (pass_of self.old) (pass_of self.new) }
     {
         self.stepper.leave_pool(slot);
+        self.bear(slot);
+    }
+
+    /// As [`AtTable::store_birth`], for the slot at a place of the own pool, which isn't searched for it.
+    /// Returns the birth.
+    #[inline(always)]
+    pub fn store_birth_at(&mut self, index: usize, slot: u32) -> u64
+        requires place { index < length (pass_of self.old).pool }
+        requires slot { get_or (pass_of self.old).pool index 0 ≡ slot }
+        requires above_stamp { stamp_in (holding_of (pass_of self.old) slot)
+            < epoch_of (pass_of self.old) }
+        requires empty_hand { (pass_of self.old).hand ≡ None }
+        ensures table { IsSameTable self.old self.new }
+        ensures step { BearsIn slot (pass_of self.old) (pass_of self.new) }
+        ensures birth { result ≡ epoch_of (pass_of self.old) }
+    {
+        self.law();
+        self.stepper.leave_place(index, slot);
+        self.bear(slot)
+    }
+
+    // The step of a birth, in a slot that is outside the own pool. Returns the birth.
+    #[inline(always)]
+    fn bear(&mut self, slot: u32) -> u64
+        requires slot { slot < self.old.slots.now.start.shape.slots }
+        requires may_bear { MayBear (holding_of (pass_of self.old) slot) }
+        requires above_stamp { stamp_in (holding_of (pass_of self.old) slot)
+            < epoch_of (pass_of self.old) }
+        requires outside { ¬ (Contains (pass_of self.old).pool slot) }
+        requires hand { HasRoomFor (pass_of self.old).hand slot }
+        ensures table { IsSameTable self.old self.new }
+        ensures step { BearsOutside slot (pass_of self.old) (pass_of self.new) }
+        ensures birth { result ≡ epoch_of (pass_of self.old) }
+    {
         let birth = self.epoch();
         let (slots, stepper) = (self.slots, &mut *self.stepper);
         let step = Step::StoreBirth { slot, birth };
         slots.store::<Brand>(&mut stepper.runner, step, Place::Birth(slot), birth);
         stepper.hand = Some(slot);
+        birth
     }
 
     /// Stores the key of the incarnation in hand, in one step.

@@ -39,12 +39,11 @@ impl<N: Nodes> AtTable<'_, N> {
             expected: wide(expected, slots.layout()),
             slot,
         };
-        let hand = stepper.hand.take();
         let found = slots.exchange_at::<Brand>(&mut stepper.runner, step, pred, expected, new);
         if found == expected {
+            stepper.hand = None;
             return Ok(());
         }
-        stepper.hand = hand;
         Err(found)
     }
 
@@ -103,12 +102,11 @@ impl<N: Nodes> AtTable<'_, N> {
             new,
         };
         let holder = At::Slot(slot);
-        let kept = stepper.hand.take();
         let found = slots.exchange_at::<Brand>(&mut stepper.runner, step, holder, expected, word);
         if found == expected {
+            stepper.hand = None;
             return Ok(());
         }
-        stepper.hand = kept;
         Err(found)
     }
 

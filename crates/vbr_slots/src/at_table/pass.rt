@@ -86,4 +86,21 @@ impl<N: Nodes> AtTable<'_, N> {
         let stepper = &mut *self.stepper;
         put(&mut stepper.pool, &mut stepper.hand, slot);
     }
+
+    /// As [`AtTable::keep`], for a free slot: the hand, which has another or none, stays.
+    #[inline]
+    pub fn keep_free(&mut self, slot: u32)
+        requires slot { slot < (trace_of self.old).start.shape.slots }
+        requires free { IsFree ((knows (trace_of self.old)).own slot) }
+        requires outside { ¬ (Contains (pass_of self.old).pool slot) }
+        requires room { length (pass_of self.old).pool < POOL }
+        ensures table { IsSameTable self.old self.new }
+        ensures trace { trace_of self.new ≡ trace_of self.old }
+        ensures pool { (pass_of self.new).pool ≡ (pass_of self.old).pool ++ slot ∷ [] }
+        ensures hand { (pass_of self.new).hand ≡ (pass_of self.old).hand }
+    {
+        self.law();
+        let stepper = &mut *self.stepper;
+        stepper.pool.push(slot);
+    }
 }

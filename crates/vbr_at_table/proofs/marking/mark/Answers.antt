@@ -1,7 +1,4 @@
-use Rattle.std.proofs.Common.{◌<◌, subst, refl, rules, ap, ◌∙◌}
-use denote.Bor.{Bor}
-use Rattle.vbr_words.specs.Packing.{slot_bits}
-use Rattle.vbr_slots.specs.views.Views.{TableView}
+use Rattle.std.proofs.Common.{◌<◌, subst, refl, rules}
 use Rattle.vbr_machine.specs.Start.{Start}
 use Rattle.vbr_at_table.specs.reads.Held.{said}
 use Rattle.vbr_at_table.proofs.epochs.Advancing.{did_none}
@@ -52,8 +49,7 @@ returns-in-Ok-clause-removed g c = mark_told (said c.args.at.now.slots.now c.arg
     c.law.ensures.is_run
     c.requires.node.held c.in-Slot.is c.in-Ok.ensures.found.did
     (said_marks _ _ c.args.held.now.word _
-    (c.layout.ensures.layout ∙ ap (λ (s : Bor TableView). slot_bits s.now.start.shape.slots) c.mark.ensures.table.slots)
-    c.with_mark.ensures)
+    c.layout.ensures.layout c.with_mark-word.ensures)
 
 pub returns-in-Err-clause-lost : goal.returns-in-Err-clause-lost
 returns-in-Err-clause-lost g c = record {

@@ -14,6 +14,7 @@ use Rattle.vbr_machine.specs.Acceptance.{IsAtIn}
 use Rattle.vbr_words.specs.declared.place.At.{At}
 use Rattle.vbr_machine.specs.Links.{link_to, marked}
 use Rattle.vbr_at_table.proofs.reads.KeptKnowledge.{held_kept, birth_named_kept}
+use Rattle.vbr_at_table.proofs.steps.SaidWords.{layout_on}
 use Rattle.vbr_at_table.proofs.steps.Accepted.{accepted_checked, place_in}
 use Rattle.vbr_at_table.proofs.exchanges.Filled.{filled_there, fits_there, marked_room_there, in_hand_there}
 use Rattle.vbr_at_table.proofs.exchanges.Filled.{valued_there}
@@ -41,7 +42,8 @@ marked_link_to-word-requires g c =
     (word_of (marked (link_to (Some c.slot-new.result) c.args.held.now.birth c.birth.result))) in
     record {
       fits = record { slot = one.slot; version = one.version };
-      room = subst B (sym c.layout.ensures.layout) (subst S c.fill.new.at.own.1
+      room = subst B (sym (layout_on c.layout-layout.ensures.layout c.fill.ensures.table))
+          (subst S c.fill.new.at.own.1
           (marked_room_there filled c.slot-new.ensures c.law.ensures c.requires.hand.slot held c.birth.ensures));
     }
 
@@ -99,7 +101,8 @@ replace-requires-clause-word g c =
     let filled = subst F same c.fill.ensures.fills in
     let W : ℕ → Type 0 = λ b. unpacked b c.marked_link_to-word.result ≡ word_of
     (marked (link_to (Some c.slot-new.result) c.args.held.now.birth c.birth.result)) in
-    let word_is = subst W c.layout.ensures.layout c.marked_link_to-word.ensures.word in
+    let word_is = subst W (layout_on c.layout-layout.ensures.layout c.fill.ensures.table)
+    c.marked_link_to-word.ensures.word in
     replace_writes c.fill.new.at.stepper.now c.law.ensures (said c.fill.new.at.slots.now c.args.held.now) c.in-Slot.slot
     c.slot-new.result c.args.key
     c.args.hand.birth c.args.next_birth
@@ -123,7 +126,8 @@ returns-in-Ok-clause-replaced g c =
     let filled = subst F same c.fill.ensures.fills in
     let L : ℕ → Type 0 = λ b. link_of (unpacked b c.marked_link_to-word.result) ≡ marked
     (link_to (Some c.slot-new.result) c.args.held.now.birth c.birth.result) in
-    let link_is = subst L c.layout.ensures.layout c.marked_link_to-word.ensures.link in
+    let link_is = subst L (layout_on c.layout-layout.ensures.layout c.fill.ensures.table)
+    c.marked_link_to-word.ensures.link in
     let p = c.fill.new.at.stepper.now in
     let k = c.fill.ensures.stores.keeps in
     let has = ap (λ (d : Start). d.shape.values) filled.fills.quiet.same.start

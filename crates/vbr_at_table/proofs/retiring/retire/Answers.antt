@@ -9,8 +9,8 @@ returns-then-kept-clause-retires g c =
     let low : length c.args.at.now.stepper.now.pool < 63 =
     subst (λ (l : List ℕ). length l < 63) c.pool.ensures.pool c.if-kept.true in
     retires_kept c.law.ensures.start c.read_epoch.ensures.step c.store_stamp.ensures.step c.read_epoch.ensures.pool
-    c.store_stamp.ensures.pool c.into_slot-slot.ensures c.law.ensures.own c.requires.unlinked low c.keep.ensures.trace
-    c.keep.ensures.pool c.keep.ensures.hand
+    c.store_stamp.ensures.pool c.into_slot-slot.ensures c.law.ensures.own c.requires.unlinked low
+    c.keep_free.ensures.trace c.keep_free.ensures.pool c.keep_free.ensures.hand
 
 pub returns-else-kept-clause-retires : goal.returns-else-kept-clause-retires
 returns-else-kept-clause-retires g c =
@@ -23,16 +23,21 @@ returns-else-kept-clause-retires g c =
 pub store_stamp-requires-clause-slot : goal.store_stamp-requires-clause-slot
 store_stamp-requires-clause-slot g c =
     let P : Start → Type 0 = λ start. c.into_slot-slot.result < start.shape.slots in
-    subst P (sym (sym c.read_epoch.new.self.own.1 ∙ c.read_epoch.ensures.step.same.1 ∙ c.args.at.now.own.1)) (unlinked_in_table c.law.ensures c.args.at.now.own c.requires.unlinked c.into_slot-slot.ensures)
+    subst P (sym (sym c.read_epoch.new.self.own.1 ∙ c.read_epoch.ensures.step.same.1
+    ∙ c.args.at.now.own.1))
+    (unlinked_in_table c.law.ensures c.args.at.now.own c.requires.unlinked c.into_slot-slot.ensures)
 
-pub keep-requires-clause-slot : goal.keep-requires-clause-slot
-keep-requires-clause-slot g c =
+pub keep_free-requires-clause-slot : goal.keep_free-requires-clause-slot
+keep_free-requires-clause-slot g c =
     let P : Start → Type 0 = λ start. c.into_slot-slot.result < start.shape.slots in
-    subst P (sym (c.store_stamp.ensures.step.same.1 ∙ c.read_epoch.ensures.step.same.1 ∙ c.args.at.now.own.1))
+    subst P (sym (c.store_stamp.ensures.step.same.1 ∙ c.read_epoch.ensures.step.same.1
+    ∙ c.args.at.now.own.1))
     (unlinked_in_table c.law.ensures c.args.at.now.own c.requires.unlinked c.into_slot-slot.ensures)
 
 pub raise_outside-requires-clause-slot : goal.raise_outside-requires-clause-slot
 raise_outside-requires-clause-slot g c =
     let P : Start → Type 0 = λ start. c.into_slot-slot.result < start.shape.slots in
     subst P (sym
-    (sym c.store_stamp.new.self.own.1 ∙ c.store_stamp.ensures.step.same.1 ∙ c.read_epoch.ensures.step.same.1 ∙ c.args.at.now.own.1)) (unlinked_in_table c.law.ensures c.args.at.now.own c.requires.unlinked c.into_slot-slot.ensures)
+    (sym c.store_stamp.new.self.own.1 ∙ c.store_stamp.ensures.step.same.1 ∙ c.read_epoch.ensures.step.same.1
+    ∙ c.args.at.now.own.1))
+    (unlinked_in_table c.law.ensures c.args.at.now.own c.requires.unlinked c.into_slot-slot.ensures)

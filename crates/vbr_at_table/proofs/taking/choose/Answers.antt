@@ -15,7 +15,7 @@ use Rattle.vbr_at_table.proofs.taking.choose.Given.{Over}
 use Rattle.vbr_at_table.proofs.taking.choose.Goals.{After-pool, After-scan}
 use Rattle.vbr_at_table.proofs.taking.choose.Goals as goal
 
-none_left : (o : Option ℕ) → ((x : ℕ) → o ≡ Some x → ⊥) → o ≡ None
+none_left : (o : Option (ℕ × ℕ)) → ((x : ℕ × ℕ) → o ≡ Some x → ⊥) → o ≡ None
 none_left None f = refl
 none_left (Some x) f = absurd (f x refl)
 
@@ -58,7 +58,7 @@ returns-in-Some-clause-chosen g c =
     chosen_then c.args.at.now.stepper.now c.read_epoch-epoch.new.self.stepper.now c.scan.new.at.stepper.now
     c.read_epoch-epoch.result c.args.budget c.args.used c.read_epoch-epoch.ensures.step
     (c.affords.ensures.0 c.if-not-affords.false) c.read_epoch-epoch.ensures.pool c.scan.ensures.scans
-    c.in_ok-found.found c.in_ok-found.used c.in_ok-found.ensures.scanned c.in-Some.slot c.in-Some.is
+    c.in_ok-found.found c.in_ok-found.used c.in_ok-found.ensures.scanned c.in-Some.place c.in-Some.is
 
 pub returns-then-not-affords-2-clause-chooses : goal.returns-then-not-affords-2-clause-chooses
 returns-then-not-affords-2-clause-chooses g c =
@@ -119,7 +119,7 @@ advance-requires-clause-below_last g c =
 raised : (g : Over) (c : After-pool g) →
     Chooses c.args.at.now.stepper.now c.read_epoch.new.self.stepper.now ×
     IsChosen c.args.at.now.stepper.now c.read_epoch.new.self.stepper.now c.args.budget c.args.used
-    (get_or c.pool.result.now 0 0, c.in_ok-found.used + 2)
+    ((0, get_or c.pool.result.now 0 0), c.in_ok-found.used + 2)
 raised g c =
     let raise = tried c.advance.result c.advance.ensures.step in
     raised_then c.args.at.now.stepper.now c.read_epoch-epoch.new.self.stepper.now c.scan.new.at.stepper.now

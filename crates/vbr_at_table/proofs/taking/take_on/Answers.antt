@@ -1,7 +1,7 @@
 use Rattle.std.proofs.lemmas.Result.{err_from_is_err_and}
 use Rattle.vbr_at_table.proofs.own_slots.Takings.{TakesOn, ends, unchosen, unwon}
 use Rattle.vbr_at_table.proofs.taking.take_on.Given.{Over}
-use Rattle.vbr_at_table.proofs.taking.take_on.Goals.{After-bear, After-from_residual, After-from_residual-in_err-slot}
+use Rattle.vbr_at_table.proofs.taking.take_on.Goals.{After-bear, After-from_residual, After-from_residual-in_err-place}
 use Rattle.vbr_at_table.proofs.taking.take_on.Goals as goal
 
 -- ---- no slot was won
@@ -30,26 +30,26 @@ returns-in_err-used-clause-refused g c =
 -- ---- none was chosen
 
 -- then the call tells why none was chosen
-none_chosen : (g : Over) (c : After-from_residual-in_err-slot g) →
-    TakesOn c.args.at.now.stepper.now c.choose.new.at.stepper.now c.args.budget c.from_residual-in_err-slot.result
+none_chosen : (g : Over) (c : After-from_residual-in_err-place g) →
+    TakesOn c.args.at.now.stepper.now c.choose.new.at.stepper.now c.args.budget c.from_residual-in_err-place.result
 none_chosen g c =
-    let p = err_from_is_err_and c.from_residual-in_err-slot.result c.from_residual-in_err-slot.ensures.1 in
+    let p = err_from_is_err_and c.from_residual-in_err-place.result c.from_residual-in_err-place.ensures.1 in
     rw (p.1, p.2)
     (unchosen c.args.at.now.stepper.now c.win_slot.new.at.stepper.now c.choose.new.at.stepper.now c.args.budget
     c.in_ok-used.used c.win_slot.ensures.probes c.in_ok-used.ensures.won c.choose.ensures.chooses _
-    c.in_err-slot.ensures.none)
+    c.in_err-place.ensures.none)
 
-pub returns-in_err-slot-clause-took : goal.returns-in_err-slot-clause-took
-returns-in_err-slot-clause-took g c =
-    (none_chosen g (goal.at.returns-in_err-slot-clause-took g c).After-from_residual-in_err-slot).took
+pub returns-in_err-place-clause-took : goal.returns-in_err-place-clause-took
+returns-in_err-place-clause-took g c =
+    (none_chosen g (goal.at.returns-in_err-place-clause-took g c).After-from_residual-in_err-place).took
 
-pub returns-in_err-slot-clause-takes : goal.returns-in_err-slot-clause-takes
-returns-in_err-slot-clause-takes g c =
-    (none_chosen g (goal.at.returns-in_err-slot-clause-takes g c).After-from_residual-in_err-slot).takes
+pub returns-in_err-place-clause-takes : goal.returns-in_err-place-clause-takes
+returns-in_err-place-clause-takes g c =
+    (none_chosen g (goal.at.returns-in_err-place-clause-takes g c).After-from_residual-in_err-place).takes
 
-pub returns-in_err-slot-clause-refused : goal.returns-in_err-slot-clause-refused
-returns-in_err-slot-clause-refused g c =
-    (none_chosen g (goal.at.returns-in_err-slot-clause-refused g c).After-from_residual-in_err-slot).refused
+pub returns-in_err-place-clause-refused : goal.returns-in_err-place-clause-refused
+returns-in_err-place-clause-refused g c =
+    (none_chosen g (goal.at.returns-in_err-place-clause-refused g c).After-from_residual-in_err-place).refused
 
 -- ---- one was chosen
 
@@ -59,7 +59,7 @@ ended : (g : Over) (c : After-bear g) →
 ended g c =
     ends c.args.at.now.stepper.now c.win_slot.new.at.stepper.now c.choose.new.at.stepper.now c.args.budget
     c.in_ok-used.used c.win_slot.ensures.probes c.in_ok-used.ensures.won c.choose.ensures.chooses
-    c.bear.new.at.stepper.now c.in_ok-slot.slot c.in_ok-slot.used c.in_ok-slot.ensures.chosen c.bear.result
+    c.bear.new.at.stepper.now c.in_ok-place.place c.in_ok-place.used c.in_ok-place.ensures.chosen c.bear.result
     c.bear.ensures.born c.bear.ensures.none
 
 pub returns-clause-took : goal.returns-clause-took

@@ -16,7 +16,7 @@ use Rattle.vbr_at_table.specs.declared.rollback.Rollback.TheVariants.{LostExchan
 use Rattle.vbr_at_table.proofs.steps.Accepted.{accepted_checked}
 use Rattle.vbr_at_table.proofs.reads.KeptKnowledge.{held_kept, marked_kept}
 use Rattle.vbr_at_table.proofs.exchanges.Unlinks.{unlink_quiet, accepted, written, written_fits, written_has_room}
-use Rattle.vbr_at_table.proofs.steps.SaidWords.{said_link}
+use Rattle.vbr_at_table.proofs.steps.SaidWords.{layout_on, said_link}
 use Rattle.vbr_slots.proofs.Lemmas.{quiet_on}
 use Rattle.vbr_at_table.proofs.exchanges.ExchangeCalls.{none_unlinked, unlink_lost, unlink_told}
 use Rattle.vbr_at_table.proofs.unlinking.unlink.Given.{Over}
@@ -26,6 +26,7 @@ use Rattle.vbr_at_table.proofs.unlinking.unlink.Goals as goal
 pub link_to_same-new-requires : goal.link_to_same-new-requires
 link_to_same-new-requires g c =
     let same = sym c.birth_after.ensures.table.slots in
+    let layout = layout_on c.layout-layout.ensures.layout c.birth_after.ensures.table in
     let U : Bor TableView → Type 0 = λ s. IsUnmarked (knows c.args.at.now.stepper.now.trace)
     (said s.now c.args.pred.now) in
     let unmarked = subst U same c.requires.pred in
@@ -49,9 +50,9 @@ link_to_same-new-requires g c =
           c.in_ok-next_birth.next_birth (held_kept (said c.birth_after.new.at.slots.now c.args.pred.now) read.keeps
           unmarked.held)
           (marked_kept (said_marked c.birth_after.new.at.slots.now c.args.marked) read.keeps is_marked)
-          (said_link _ _ c.args.marked.word _ c.layout-layout.ensures.layout refl) read.birth
+          (said_link _ _ c.args.marked.word _ layout refl) read.birth
           (kept_fits c.layout-layout.result c.args.marked.word c.layout-layout.ensures.few);
-      room = subst B (sym c.layout-layout.ensures.layout)
+      room = subst B (sym layout)
           (subst S c.birth_after.new.at.own.1
           (written_has_room c.birth_after.new.at.stepper.now c.law.ensures
           (said c.birth_after.new.at.slots.now c.args.pred.now)
@@ -60,7 +61,7 @@ link_to_same-new-requires g c =
           c.in_ok-next_birth.next_birth (held_kept (said c.birth_after.new.at.slots.now c.args.pred.now) read.keeps
           unmarked.held)
           (marked_kept (said_marked c.birth_after.new.at.slots.now c.args.marked) read.keeps is_marked)
-          (said_link _ _ c.args.marked.word _ c.layout-layout.ensures.layout refl) read.birth));
+          (said_link _ _ c.args.marked.word _ layout refl) read.birth));
     }
 
 -- the machine accepts the unlinking
@@ -69,6 +70,7 @@ is_accepted : (g : Over) (c : After-link_to_same-new g) →
     (Unlink c.args.pred.now.at (said c.birth_after.new.at.slots.now c.args.pred.now).word c.args.marked.slot)
 is_accepted g c =
     let same = sym c.birth_after.ensures.table.slots in
+    let layout = layout_on c.layout-layout.ensures.layout c.birth_after.ensures.table in
     let U : Bor TableView → Type 0 = λ s. IsUnmarked (knows c.args.at.now.stepper.now.trace)
     (said s.now c.args.pred.now) in
     let unmarked = subst U same c.requires.pred in
@@ -86,7 +88,7 @@ is_accepted g c =
     c.in_ok-next_birth.next_birth (held_kept (said c.birth_after.new.at.slots.now c.args.pred.now) read.keeps
     unmarked.held)
     (marked_kept (said_marked c.birth_after.new.at.slots.now c.args.marked) read.keeps is_marked)
-    (said_link _ _ c.args.marked.word _ c.layout-layout.ensures.layout refl) read.birth
+    (said_link _ _ c.args.marked.word _ layout refl) read.birth
     unmarked.unmarked names
 
 pub unlink-requires-clause-pred : goal.unlink-requires-clause-pred
@@ -109,6 +111,7 @@ unlink-requires-clause-checked g c =
 pub unlink-requires-clause-new : goal.unlink-requires-clause-new
 unlink-requires-clause-new g c =
     let same = sym c.birth_after.ensures.table.slots in
+    let layout = layout_on c.layout-layout.ensures.layout c.birth_after.ensures.table in
     let U : Bor TableView → Type 0 = λ s. IsUnmarked (knows c.args.at.now.stepper.now.trace)
     (said s.now c.args.pred.now) in
     let unmarked = subst U same c.requires.pred in
@@ -124,8 +127,8 @@ unlink-requires-clause-new g c =
     let L : ℕ → Type 0 = λ b. link_of (unpacked b c.link_to_same-new.result) ≡ link_to
     (kept_link c.layout-layout.result c.args.marked.word).slot
     c.args.pred.now.birth c.in_ok-next_birth.next_birth in
-    let word_is = subst W c.layout-layout.ensures.layout c.link_to_same-new.ensures.word in
-    let link_is = subst L c.layout-layout.ensures.layout c.link_to_same-new.ensures.link in
+    let word_is = subst W layout c.link_to_same-new.ensures.word in
+    let link_is = subst L layout c.link_to_same-new.ensures.link in
     let b = c.in_ok-next_birth.ensures in
     word_is
     ∙ ap word_of
@@ -134,7 +137,7 @@ unlink-requires-clause-new g c =
     c.in_ok-next_birth.next_birth (held_kept (said c.birth_after.new.at.slots.now c.args.pred.now) read.keeps
     unmarked.held)
     (marked_kept (said_marked c.birth_after.new.at.slots.now c.args.marked) read.keeps is_marked)
-    (said_link _ _ c.args.marked.word _ c.layout-layout.ensures.layout refl) read.birth))
+    (said_link _ _ c.args.marked.word _ layout refl) read.birth))
 
 pub returns-in-Ok-clause-stays : goal.returns-in-Ok-clause-stays
 returns-in-Ok-clause-stays g c =
@@ -147,6 +150,7 @@ returns-in-Err-clause-stays g c =
 pub returns-in-Ok-clause-unlinked : goal.returns-in-Ok-clause-unlinked
 returns-in-Ok-clause-unlinked g c =
     let same = sym c.birth_after.ensures.table.slots in
+    let layout = layout_on c.layout-layout.ensures.layout c.birth_after.ensures.table in
     let U : Bor TableView → Type 0 = λ s. IsUnmarked (knows c.args.at.now.stepper.now.trace)
     (said s.now c.args.pred.now) in
     let unmarked = subst U same c.requires.pred in
@@ -164,8 +168,8 @@ returns-in-Ok-clause-unlinked g c =
     let L : ℕ → Type 0 = λ b. link_of (unpacked b c.link_to_same-new.result) ≡ link_to
     (kept_link c.layout-layout.result c.args.marked.word).slot
     c.args.pred.now.birth c.in_ok-next_birth.next_birth in
-    let word_is = subst W c.layout-layout.ensures.layout c.link_to_same-new.ensures.word in
-    let link_is = subst L c.layout-layout.ensures.layout c.link_to_same-new.ensures.link in
+    let word_is = subst W layout c.link_to_same-new.ensures.word in
+    let link_is = subst L layout c.link_to_same-new.ensures.link in
     let b = c.in_ok-next_birth.ensures in
     let P : Bor TableView → Type 0 = λ s. UnlinksNode c.args.at.now.stepper.now c.unlink.new.self.stepper.now
     (said s.now c.args.pred.now) (said_marked s.now c.args.marked)
@@ -175,7 +179,7 @@ returns-in-Ok-clause-unlinked g c =
     (said_marked c.birth_after.new.at.slots.now c.args.marked) (kept_link c.layout-layout.result c.args.marked.word)
     c.in_ok-next_birth.next_birth
     c.law.ensures b.reads
-    read unmarked is_marked names (said_link _ _ c.args.marked.word _ c.layout-layout.ensures.layout
+    read unmarked is_marked names (said_link _ _ c.args.marked.word _ layout
     refl) c.by-unlinked.result
     (unpacked (slot_bits c.birth_after.new.at.slots.now.start.shape.slots) c.link_to_same-new.result) (search rules)
     link_is
@@ -185,6 +189,7 @@ returns-in-Ok-clause-unlinked g c =
 pub returns-in-Err-clause-failed : goal.returns-in-Err-clause-failed
 returns-in-Err-clause-failed g c =
     let same = sym c.birth_after.ensures.table.slots in
+    let layout = layout_on c.layout-layout.ensures.layout c.birth_after.ensures.table in
     let U : Bor TableView → Type 0 = λ s. IsUnmarked (knows c.args.at.now.stepper.now.trace)
     (said s.now c.args.pred.now) in
     let unmarked = subst U same c.requires.pred in
@@ -204,7 +209,7 @@ returns-in-Err-clause-failed g c =
     (said_marked c.birth_after.new.at.slots.now c.args.marked) (kept_link c.layout-layout.result c.args.marked.word)
     c.in_ok-next_birth.next_birth
     c.law.ensures b.reads
-    read unmarked is_marked names (said_link _ _ c.args.marked.word _ c.layout-layout.ensures.layout
+    read unmarked is_marked names (said_link _ _ c.args.marked.word _ layout
     refl) c.in-Err.ensures.other.did
     c.in-Err.ensures.other.unexpected c.in-Err.ensures.other.keeps)
 

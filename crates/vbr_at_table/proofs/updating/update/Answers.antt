@@ -9,6 +9,7 @@ use Rattle.vbr_machine.specs.Acceptance.{IsAtIn}
 use Rattle.vbr_machine.specs.Membership.{BirthNamed, StandsBehind}
 use Rattle.vbr_slots.specs.views.Views.{TableView, knows}
 use Rattle.vbr_at_table.proofs.reads.KeptKnowledge.{held_kept, birth_named_kept, behind_kept, before_kept}
+use Rattle.vbr_at_table.proofs.steps.SaidWords.{layout_on}
 use Rattle.vbr_at_table.proofs.exchanges.WonExchanges.{publish_lost_keeps}
 use Rattle.vbr_at_table.proofs.steps.Accepted.{accepted_checked, place_in}
 use Rattle.vbr_at_table.proofs.exchanges.Filled.{filled_there, fits_there, room_there, in_hand_there, publish_accepted}
@@ -42,7 +43,8 @@ link_to-new-requires g c =
     IsPackable b (word_of (link_to (Some c.slot-slot.result) c.args.pred.now.birth c.birth.result)) in
     record {
       fits = fits_there filled c.slot-slot.ensures c.law.ensures c.requires.hand.slot held c.birth.ensures;
-      room = subst B (sym c.layout.ensures.layout) (subst S c.fill.new.at.own.1
+      room = subst B (sym (layout_on c.layout-layout.ensures.layout c.fill.ensures.table))
+          (subst S c.fill.new.at.own.1
           (room_there filled c.slot-slot.ensures c.law.ensures c.requires.hand.slot held c.birth.ensures));
     }
 
@@ -101,7 +103,8 @@ publish-requires-clause-new g c =
     c.slot-slot.result c.args.key
     c.args.hand.birth c.birth_named-birth.result
     (held_kept (said c.fill.new.at.slots.now c.args.pred.now) c.fill.ensures.stores.keeps gap.held)
-    (filled_there filled c.slot-slot.ensures) (subst W c.layout.ensures.layout c.link_to-new.ensures.word)
+    (filled_there filled c.slot-slot.ensures)
+    (subst W (layout_on c.layout-layout.ensures.layout c.fill.ensures.table) c.link_to-new.ensures.word)
     c.birth.ensures
 
 pub returns-in-Ok-clause-stores : goal.returns-in-Ok-clause-stores

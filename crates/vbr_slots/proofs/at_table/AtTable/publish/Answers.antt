@@ -10,8 +10,8 @@ pub invariant_of-stepper : goal.invariant_of-stepper
 invariant_of-stepper g c = well_after c.stepper.inside c.exchange_at-found.ensures refl (search rules)
     c.stepper.invariant
 
-pub invariant_of-stepper-2 : goal.invariant_of-stepper-2
-invariant_of-stepper-2 g c =
+pub invariant_of-stepper-else-found-expected : goal.invariant_of-stepper-else-found-expected
+invariant_of-stepper-else-found-expected g c =
     let table = c.args.self.now.slots.now in
     let wide = named_as table c.layout.result c.args.expected c.wide.result c.layout.ensures.layout
     c.wide.ensures.word in
