@@ -40,7 +40,7 @@ help:
 	@echo '    ANEW=1               also what an earlier gate on this machine passed, of the same text'
 	@echo 'make man                 write the man pages: target/man'
 	@echo 'make docs                write the man pages, and the pages of doxygen and rustdoc where these are installed'
-	@echo 'make docs-check          see that the documents are true to the tree, and that contracts have their form'
+	@echo 'make docs-check          see that documents are true to the tree, that contracts have their form, and that files are as tools/interface makes them'
 	@echo 'make clients             build and run the clients in C and Rust over the library'
 	@echo 'make faults              refuse memory call by call, and try the program in a shell: statuses, streams, memory'
 	@echo 'make soak                a thousand million calls of four threads on set after set, and as many on maps, each answer balanced;'
@@ -151,15 +151,18 @@ prebuilt: both
 docs-check:
 	@tools/needs docs-check
 	@tools/docs-check
+	@tools/interface --gate
 
 check:
 	@tools/needs check
 	@tools/docs-check
+	@tools/interface --gate
 	@tools/check
 
 test:
 	@tools/needs test
 	@tools/docs-check
+	@tools/interface --gate
 	@tools/layout
 	@tools/test
 
@@ -167,6 +170,7 @@ gate:
 	@tools/needs gate
 	@rm -f target/libvbr.so* # rt ci takes no links, and the library is built anew
 	@tools/docs-check
+	@tools/interface --gate
 	@tools/layout
 	@RT_JOBS="$${RT_JOBS:-$$(getconf _NPROCESSORS_ONLN)}" $(RT) ci $(if $(filter 1,$(ANEW)),--anew)
 	@tools/after-gate

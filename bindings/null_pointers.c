@@ -11,42 +11,49 @@ enum { VBR_NO_HANDLE = -4 }; /* of vbr.h */
 
 typedef unsigned long word;
 
-int close_handle(void *handle, void *keys, word room, void *report);
-int vbr_close(void *handle, void *keys, word room, void *report);
+/* What follows is made of bindings/interface/vbr.h.in by tools/interface. */
+
+void has_all_keys(void *handle, const word *keys, word count, int *answers, word answer_count, unsigned steps);
+void vbr_has_all_within(void *handle, const word *keys, word count, int *answers, unsigned steps);
+int close_handle(void *handle, word *keys, word room, void *report);
+int vbr_close(void *handle, word *keys, word room, void *report);
 void drop_handle(void *handle);
 void vbr_drop(void *handle);
-int map_close_handle(void *handle, void *entries, word room, void *report);
-int vbr_map_close(void *handle, void *entries, word room, void *report);
-void map_drop_handle(void *handle);
-void vbr_map_drop(void *handle);
-int map_get_found(void *handle, word key, word *value, unsigned steps);
-int vbr_map_get_within(void *handle, word key, word *value, unsigned steps);
 int map_remove_found(void *handle, word key, word *value, unsigned steps);
 int vbr_map_remove_within(void *handle, word key, word *value, unsigned steps);
+int map_get_found(void *handle, word key, word *value, unsigned steps);
+int vbr_map_get_within(void *handle, word key, word *value, unsigned steps);
 int map_replace_found(void *handle, word key, word value, word *found, unsigned steps);
 int vbr_map_replace_within(void *handle, word key, word value, word *found, unsigned steps);
 int map_put_found(void *handle, word key, word value, word *found, unsigned steps);
 int vbr_map_put_within(void *handle, word key, word value, word *found, unsigned steps);
-int map_put_held_found(void *handle, word key, word value, word *found, unsigned steps);
-int vbr_map_put_held_within(void *handle, word key, word value, word *found, unsigned steps);
 int map_get_or_insert_found(void *handle, word key, word value, word *found, unsigned steps);
 int vbr_map_get_or_insert_within(void *handle, word key, word value, word *found, unsigned steps);
 int map_compare_exchange_found(void *handle, word key, word expected, word value, word *found, unsigned steps);
 int vbr_map_compare_exchange_within(void *handle, word key, word expected, word value, word *found, unsigned steps);
 int map_remove_if_found(void *handle, word key, word expected, word *found, unsigned steps);
 int vbr_map_remove_if_within(void *handle, word key, word expected, word *found, unsigned steps);
-void has_all_keys(void *handle, const word *keys, word count, int *answers, word answer_count, unsigned steps);
-void vbr_has_all_within(void *handle, const word *keys, word count, int *answers, unsigned steps);
 void map_has_all_keys(void *handle, const word *keys, word count, int *answers, word answer_count, unsigned steps);
 void vbr_map_has_all_within(void *handle, const word *keys, word count, int *answers, unsigned steps);
 void map_get_all_keys(void *handle, const word *keys, word count, void *found, word found_count, unsigned steps);
 void vbr_map_get_all_within(void *handle, const word *keys, word count, void *found, unsigned steps);
-int report_keys_slots(void *handles, word count, void *keys, word room, void *slots, word slot_room, void *report);
-int vbr_report_slots(void *handles, word count, void *keys, void *slots, word room, void *report);
-int map_report_entries_slots(void *handles, word count, void *entries, word room, void *slots, word slot_room, void *report);
-int vbr_map_report_slots(void *handles, word count, void *entries, void *slots, word room, void *report);
+int map_close_handle(void *handle, void *entries, word room, void *report);
+int vbr_map_close(void *handle, void *entries, word room, void *report);
+void map_drop_handle(void *handle);
+void vbr_map_drop(void *handle);
+int map_put_held_found(void *handle, word key, word value, word *found, unsigned steps);
+int vbr_map_put_held_within(void *handle, word key, word value, word *found, unsigned steps);
+int report_keys_slots(void *handles, word count, word *keys, word room, unsigned *slots, word slot_room, void *report);
+int vbr_report_slots(void *handles, word count, word *keys, unsigned *slots, word room, void *report);
+int map_report_entries_slots(void *handles, word count, void *entries, word room, unsigned *slots, word slot_room, void *report);
+int vbr_map_report_slots(void *handles, word count, void *entries, unsigned *slots, word room, void *report);
 
-int vbr_close(void *handle, void *keys, word room, void *report)
+void vbr_has_all_within(void *handle, const word *keys, word count, int *answers, unsigned steps)
+{
+    if (count) has_all_keys(handle, keys, count, answers, count, steps);
+}
+
+int vbr_close(void *handle, word *keys, word room, void *report)
 {
     return handle ? close_handle(handle, keys, room, report) : VBR_NO_HANDLE;
 }
@@ -56,26 +63,16 @@ void vbr_drop(void *handle)
     if (handle) drop_handle(handle);
 }
 
-int vbr_map_close(void *handle, void *entries, word room, void *report)
+int vbr_map_remove_within(void *handle, word key, word *value, unsigned steps)
 {
-    return handle ? map_close_handle(handle, entries, room, report) : VBR_NO_HANDLE;
-}
-
-void vbr_map_drop(void *handle)
-{
-    if (handle) map_drop_handle(handle);
+    if (value) return map_remove_found(handle, key, value, steps);
+    return map_remove_found(handle, key, &(word){0}, steps);
 }
 
 int vbr_map_get_within(void *handle, word key, word *value, unsigned steps)
 {
     if (value) return map_get_found(handle, key, value, steps);
     return map_get_found(handle, key, &(word){0}, steps);
-}
-
-int vbr_map_remove_within(void *handle, word key, word *value, unsigned steps)
-{
-    if (value) return map_remove_found(handle, key, value, steps);
-    return map_remove_found(handle, key, &(word){0}, steps);
 }
 
 int vbr_map_replace_within(void *handle, word key, word value, word *found, unsigned steps)
@@ -86,11 +83,6 @@ int vbr_map_replace_within(void *handle, word key, word value, word *found, unsi
 int vbr_map_put_within(void *handle, word key, word value, word *found, unsigned steps)
 {
     return map_put_found(handle, key, value, found ? found : &(word){0}, steps);
-}
-
-int vbr_map_put_held_within(void *handle, word key, word value, word *found, unsigned steps)
-{
-    return map_put_held_found(handle, key, value, found ? found : &(word){0}, steps);
 }
 
 int vbr_map_get_or_insert_within(void *handle, word key, word value, word *found, unsigned steps)
@@ -108,11 +100,6 @@ int vbr_map_remove_if_within(void *handle, word key, word expected, word *found,
     return map_remove_if_found(handle, key, expected, found ? found : &(word){0}, steps);
 }
 
-void vbr_has_all_within(void *handle, const word *keys, word count, int *answers, unsigned steps)
-{
-    if (count) has_all_keys(handle, keys, count, answers, count, steps);
-}
-
 void vbr_map_has_all_within(void *handle, const word *keys, word count, int *answers, unsigned steps)
 {
     if (count) map_has_all_keys(handle, keys, count, answers, count, steps);
@@ -123,12 +110,27 @@ void vbr_map_get_all_within(void *handle, const word *keys, word count, void *fo
     if (count) map_get_all_keys(handle, keys, count, found, count, steps);
 }
 
-int vbr_report_slots(void *handles, word count, void *keys, void *slots, word room, void *report)
+int vbr_map_close(void *handle, void *entries, word room, void *report)
+{
+    return handle ? map_close_handle(handle, entries, room, report) : VBR_NO_HANDLE;
+}
+
+void vbr_map_drop(void *handle)
+{
+    if (handle) map_drop_handle(handle);
+}
+
+int vbr_map_put_held_within(void *handle, word key, word value, word *found, unsigned steps)
+{
+    return map_put_held_found(handle, key, value, found ? found : &(word){0}, steps);
+}
+
+int vbr_report_slots(void *handles, word count, word *keys, unsigned *slots, word room, void *report)
 {
     return report_keys_slots(handles, count, keys, room, slots, room, report);
 }
 
-int vbr_map_report_slots(void *handles, word count, void *entries, void *slots, word room, void *report)
+int vbr_map_report_slots(void *handles, word count, void *entries, unsigned *slots, word room, void *report)
 {
     return map_report_entries_slots(handles, count, entries, room, slots, room, report);
 }

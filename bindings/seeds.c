@@ -8,24 +8,7 @@ typedef unsigned long word;
 long getrandom(void *bytes, word count, unsigned flags);
 int clock_gettime(int clock, void *now);
 
-int vbr_open_seeded(void *handles, word count, unsigned slots, unsigned buckets, word last_epoch, word seed, const void *keys, word key_count);
-int vbr_map_open_seeded(void *handles, word count, unsigned slots, unsigned buckets, word last_epoch, word seed, const void *entries, word entry_count);
-int vbr_open_many_seeded(void *handles, word count, unsigned slots, unsigned buckets, word last_epoch, word seed, const void *keys, word key_count);
-int vbr_map_open_many_seeded(void *handles, word count, unsigned slots, unsigned buckets, word last_epoch, word seed, const void *entries, word entry_count);
-int vbr_renew_all_seeded(void *handles, word count, unsigned slots, unsigned buckets, word last_epoch, word seed);
-int vbr_map_renew_all_seeded(void *handles, word count, unsigned slots, unsigned buckets, word last_epoch, word seed);
-word vbr_seed(void *handle);
-word vbr_map_seed(void *handle);
-
 word vbr_random_seed(void);
-int vbr_open(void *handles, word count, unsigned slots, unsigned buckets, word last_epoch);
-int vbr_open_with(void *handles, word count, unsigned slots, unsigned buckets, word last_epoch, const void *keys, word key_count);
-int vbr_open_many(void *handles, word count, unsigned slots, unsigned buckets, word last_epoch, const void *keys, word key_count);
-int vbr_renew_all(void *handles, word count, unsigned slots, unsigned buckets, word last_epoch);
-int vbr_map_open(void *handles, word count, unsigned slots, unsigned buckets, word last_epoch);
-int vbr_map_open_with(void *handles, word count, unsigned slots, unsigned buckets, word last_epoch, const void *entries, word entry_count);
-int vbr_map_open_many(void *handles, word count, unsigned slots, unsigned buckets, word last_epoch, const void *entries, word entry_count);
-int vbr_map_renew_all(void *handles, word count, unsigned slots, unsigned buckets, word last_epoch);
 
 enum { AT_ONCE = 1, SINCE_BOOT = 1 }; /* GRND_NONBLOCK and CLOCK_MONOTONIC of the kernel's interface */
 
@@ -46,17 +29,36 @@ word vbr_random_seed(void)
     return mixed(mixed(now[0] * 1000000000 + now[1]) + (word)&seed);
 }
 
+/* What follows is made of bindings/interface/vbr.h.in by tools/interface. */
+
+int vbr_open_seeded(void *handles, word count, unsigned slots, unsigned buckets, word last_epoch, word seed, const word *keys, word key_count);
+int vbr_open_many_seeded(void *handles, word count, unsigned slots, unsigned buckets, word last_epoch, word seed, const word *keys, word key_count);
+word vbr_seed(const void *handle);
+int vbr_renew_all_seeded(void *handles, word count, unsigned slots, unsigned buckets, word last_epoch, word seed);
+int vbr_map_open_seeded(void *handles, word count, unsigned slots, unsigned buckets, word last_epoch, word seed, const void *entries, word entry_count);
+int vbr_map_open_many_seeded(void *handles, word count, unsigned slots, unsigned buckets, word last_epoch, word seed, const void *entries, word entry_count);
+word vbr_map_seed(const void *handle);
+int vbr_map_renew_all_seeded(void *handles, word count, unsigned slots, unsigned buckets, word last_epoch, word seed);
+int vbr_open(void *handles, word count, unsigned slots, unsigned buckets, word last_epoch);
+int vbr_open_with(void *handles, word count, unsigned slots, unsigned buckets, word last_epoch, const word *keys, word key_count);
+int vbr_open_many(void *handles, word count, unsigned slots, unsigned buckets, word last_epoch, const word *keys, word key_count);
+int vbr_renew_all(void *handles, word count, unsigned slots, unsigned buckets, word last_epoch);
+int vbr_map_open(void *handles, word count, unsigned slots, unsigned buckets, word last_epoch);
+int vbr_map_open_with(void *handles, word count, unsigned slots, unsigned buckets, word last_epoch, const void *entries, word entry_count);
+int vbr_map_open_many(void *handles, word count, unsigned slots, unsigned buckets, word last_epoch, const void *entries, word entry_count);
+int vbr_map_renew_all(void *handles, word count, unsigned slots, unsigned buckets, word last_epoch);
+
 int vbr_open(void *handles, word count, unsigned slots, unsigned buckets, word last_epoch)
 {
     return vbr_open_seeded(handles, count, slots, buckets, last_epoch, vbr_random_seed(), &(word){0}, 0);
 }
 
-int vbr_open_with(void *handles, word count, unsigned slots, unsigned buckets, word last_epoch, const void *keys, word key_count)
+int vbr_open_with(void *handles, word count, unsigned slots, unsigned buckets, word last_epoch, const word *keys, word key_count)
 {
     return vbr_open_seeded(handles, count, slots, buckets, last_epoch, vbr_random_seed(), keys, key_count);
 }
 
-int vbr_open_many(void *handles, word count, unsigned slots, unsigned buckets, word last_epoch, const void *keys, word key_count)
+int vbr_open_many(void *handles, word count, unsigned slots, unsigned buckets, word last_epoch, const word *keys, word key_count)
 {
     return vbr_open_many_seeded(handles, count, slots, buckets, last_epoch, vbr_random_seed(), keys, key_count);
 }

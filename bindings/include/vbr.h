@@ -227,8 +227,8 @@ VBR_NODISCARD vbr_answer vbr_open(vbr_handle *handles, size_t count, uint32_t sl
 
        static const uint64_t some[3] = {2, 5, 9};
        if (vbr_open_with(handle, 2, 1024 + 2 * 64, 1024, VBR_MAX_EPOCH, some, 3) != VBR_OK) return 1; */
-VBR_NODISCARD vbr_answer vbr_open_with(vbr_handle *handles, size_t count, uint32_t slots, uint32_t buckets,
-                                       uint64_t last_epoch, const uint64_t *keys, size_t key_count) VBR_NOEXCEPT VBR_NONNULL;
+VBR_NODISCARD vbr_answer vbr_open_with(vbr_handle *handles, size_t count, uint32_t slots, uint32_t buckets, uint64_t last_epoch,
+                                       const uint64_t *keys, size_t key_count) VBR_NOEXCEPT VBR_NONNULL;
 
 /* Opens a set as vbr_open_with does, of `key_count` keys, which may be none, with its keys spread over the buckets by this seed:
    VBR_OK. What it answers else is what vbr_open_with answers, and means the same. With the same seed and number of buckets each key
@@ -253,15 +253,16 @@ VBR_NODISCARD uint64_t vbr_random_seed(void) VBR_NOEXCEPT;
 
        static vbr_handle many[1000];
        if (vbr_open_many(many, 1000, 1024 + 1000 * 64, 1024, VBR_MAX_EPOCH, some, 3) != VBR_OK) return 1; */
-VBR_NODISCARD vbr_answer vbr_open_many(vbr_handle *handles, size_t count, uint32_t slots, uint32_t buckets,
-                                       uint64_t last_epoch, const uint64_t *keys, size_t key_count) VBR_NOEXCEPT VBR_NONNULL;
+VBR_NODISCARD vbr_answer vbr_open_many(vbr_handle *handles, size_t count, uint32_t slots, uint32_t buckets, uint64_t last_epoch,
+                                       const uint64_t *keys, size_t key_count) VBR_NOEXCEPT VBR_NONNULL;
 
 /* Opens a set as vbr_open_many does, with its keys spread by this seed, as vbr_open_seeded.
 
        static vbr_handle seeded[1000];
        if (vbr_open_many_seeded(seeded, 1000, 1024 + 1000 * 64, 1024, VBR_MAX_EPOCH, 7, some, 3) != VBR_OK) return 1; */
-VBR_NODISCARD vbr_answer vbr_open_many_seeded(vbr_handle *handles, size_t count, uint32_t slots, uint32_t buckets, uint64_t last_epoch,
-                                              uint64_t seed, const uint64_t *keys, size_t key_count) VBR_NOEXCEPT VBR_NONNULL;
+VBR_NODISCARD vbr_answer vbr_open_many_seeded(vbr_handle *handles, size_t count, uint32_t slots, uint32_t buckets,
+                                              uint64_t last_epoch, uint64_t seed, const uint64_t *keys,
+                                              size_t key_count) VBR_NOEXCEPT VBR_NONNULL;
 
 /* Calls on keys */
 
@@ -434,10 +435,9 @@ VBR_NODISCARD vbr_answer vbr_close(vbr_handle *handle, uint64_t *keys, size_t ro
 
 /* Closes a set by all `count` handles that were opened with it, in any order, and leaves them empty: VBR_YES, with the report and
    its keys, as vbr_close writes them. No other thread is in a call on one of them. The keys are what all calls on these handles
-   leave. It takes the memory of a close. Else the handles stay as they were, by the first of these tests that fails:
-   VBR_NO_HANDLE, one is empty; VBR_MISSING, they are fewer than were opened, or count is 0; VBR_MIXED, two are of different sets;
-   VBR_NO_MEMORY; VBR_NO_ROOM, as in a close. Handles of different sets are found by a probe, which is tested and not proved: do
-   not rely on it.
+   leave. It takes the memory of a close. Else the handles stay as they were, by the first of these tests that fails: VBR_NO_HANDLE,
+   one is empty; VBR_MISSING, they are fewer than were opened, or count is 0; VBR_MIXED, two are of different sets; VBR_NO_MEMORY;
+   VBR_NO_ROOM, as in a close. Handles of different sets are found by a probe, which is tested and not proved: do not rely on it.
 
        vbr_answer closed = vbr_close_all(handle, 2, keys, 8, &report); // VBR_YES: report.live is 3, keys are 2, 5, 9 */
 VBR_NODISCARD vbr_answer vbr_close_all(vbr_handle *handles, size_t count, uint64_t *keys, size_t room,
@@ -513,7 +513,8 @@ typedef struct vbr_entry {
 /* Opening a map */
 
 /* Opens an empty map and fills `count` handles, which are empty, so each is {0}, or has a budget: VBR_OK. Else VBR_IN_USE,
-   VBR_BAD_SHAPE, VBR_BAD_COUNT or VBR_NO_MEMORY, tested in this order, and the handles are as they were.
+   VBR_BAD_SHAPE, VBR_BAD_COUNT or VBR_NO_MEMORY, tested in this order, and the handles are as they were. Each handle takes its
+   reserve, as vbr_reserve says.
 
        vbr_map_handle map[2] = {{0}};
        if (vbr_map_open(map, 2, 1024 + 2 * 64, 1024, VBR_MAX_EPOCH) != VBR_OK) return 1; */
@@ -559,9 +560,9 @@ VBR_NODISCARD vbr_answer vbr_map_open_many_seeded(vbr_map_handle *handles, size_
 /* Calls on keys and their values */
 
 /* Adds a key with its value: VBR_YES if the key was absent, VBR_NO if it was there; then it keeps the value that it has. Else
-   VBR_OUT_OF_STEPS, VBR_NO_SLOT, VBR_EPOCH_SPENT, VBR_HELD or VBR_NO_HANDLE. At VBR_NO_SLOT have other handles give their slots back
-   (vbr_map_spare), remove keys, or make it again. Where it adds the key, the handle then fills its reserve, as vbr_reserve says.
-   So do vbr_map_put and vbr_map_get_or_insert. It takes no memory and never waits.
+   VBR_OUT_OF_STEPS, VBR_NO_SLOT, VBR_EPOCH_SPENT, VBR_HELD or VBR_NO_HANDLE. At VBR_NO_SLOT have other handles give their slots
+   back (vbr_map_spare), remove keys, or make it again. Where it adds the key, the handle then fills its reserve for the next
+   inserts, as vbr_reserve says. So do vbr_map_put and vbr_map_get_or_insert. It takes no memory and never waits.
 
        if (vbr_map_insert(&map[0], 5, 70) == VBR_YES) added++; // this call stored 70 for 5 */
 VBR_NODISCARD static inline vbr_answer vbr_map_insert(vbr_map_handle *handle, uint64_t key,
@@ -668,9 +669,8 @@ VBR_NODISCARD static inline vbr_answer vbr_map_compare_exchange(vbr_map_handle *
    the budget of the handle. What it answers is what vbr_map_compare_exchange answers.
 
        told = vbr_map_compare_exchange_within(&map[0], 7, 72, 74, NULL, 500); // at most 500 steps */
-VBR_NODISCARD vbr_answer vbr_map_compare_exchange_within(vbr_map_handle *handle, uint64_t key, uint64_t expected,
-                                                         uint64_t value, uint64_t *found,
-                                                         uint32_t steps) VBR_NOEXCEPT VBR_NONNULL_FIRST;
+VBR_NODISCARD vbr_answer vbr_map_compare_exchange_within(vbr_map_handle *handle, uint64_t key, uint64_t expected, uint64_t value,
+                                                         uint64_t *found, uint32_t steps) VBR_NOEXCEPT VBR_NONNULL_FIRST;
 
 /* Takes a key out if it has the value that is expected: VBR_YES if it had, and it is then absent; VBR_OTHER if it is there with
    another value; VBR_NO if it is absent. With VBR_OTHER and VBR_NO nothing was changed. Else VBR_OUT_OF_STEPS or VBR_NO_HANDLE.
@@ -689,7 +689,7 @@ VBR_NODISCARD vbr_answer vbr_map_remove_if_within(vbr_map_handle *handle, uint64
                                                   uint32_t steps) VBR_NOEXCEPT VBR_NONNULL_FIRST;
 
 /* Looks a key up without its value: VBR_YES if it is there, VBR_NO if it is absent. Else VBR_OUT_OF_STEPS or VBR_NO_HANDLE. Its
-   steps are loads, two less than those of vbr_map_get. It takes no memory, and never waits.
+   steps are loads, two less than those of vbr_map_get. It takes no memory and never waits.
 
        if (vbr_map_has(&map[0], 5) == VBR_YES) there++; // 5 was there during the call */
 VBR_NODISCARD static inline vbr_answer vbr_map_has(vbr_map_handle *handle, uint64_t key) VBR_NOEXCEPT VBR_NONNULL;
@@ -803,12 +803,13 @@ uint32_t vbr_map_reserve(vbr_map_handle *handle, uint32_t wanted) VBR_NOEXCEPT V
 
 /* Reports, closes and renewals of maps */
 
-/* Gives its slots and its pass back and leaves the handle empty: VBR_NO while others of its map are open. The last one ends the
-   map: VBR_YES, with the report and its entries, ascending by key. Only then is memory needed, which is freed again. After the
-   entries of the report the array stays as it was: all `room` entries, and the report, are initialised before. VBR_NO_MEMORY and
-   VBR_NO_ROOM leave the last handle full, as of vbr_close: as many entries as the map has slots always have room; where these have
-   not, VBR_NO_ROOM writes the report and no entry, and report->live is how many entries there are. Else nothing is written.
-   VBR_NO_HANDLE: the handle is empty, or null. VBR_LOST: a pass is not there, and the map is gone; no program is known to get it.
+/* Gives its slots back, as vbr_map_spare does, and its pass, and leaves the handle empty: VBR_NO while others of its map are open.
+   The last one ends the map: VBR_YES, with the report and its entries, ascending by key. Only then is memory needed, which is freed
+   again. After the entries of the report the array stays as it was: all `room` entries, and the report, are initialised before.
+   VBR_NO_MEMORY and VBR_NO_ROOM leave the last handle full: close it again, drop it, or go on with it. As many entries as the map
+   has slots always have room; where these have not, VBR_NO_ROOM writes the report and no entry, and report->live is how many
+   entries there are. Else nothing is written. VBR_NO_HANDLE: the handle is empty, or null. VBR_LOST: a pass is not there, and the
+   map is gone; no program is known to get it.
 
        vbr_answer first = vbr_map_close(&map[0], entries, 8, &report); // VBR_NO: the other handle is open
        vbr_answer last = vbr_map_close(&map[1], entries, 8, &report);  // VBR_YES: report.live entries are in front of entries */
@@ -817,10 +818,10 @@ VBR_NODISCARD vbr_answer vbr_map_close(vbr_map_handle *handle, vbr_entry *entrie
 
 /* Closes a map by all `count` handles that were opened with it, in any order, and leaves them empty: VBR_YES, with the report and
    its entries, as vbr_map_close writes them. No other thread is in a call on one of them. The entries are what all calls on these
-   handles leave. It takes the memory of a close. Else the handles stay as they were, by the first of these tests that
-   fails: VBR_NO_HANDLE, one is empty; VBR_MISSING, they are fewer than were opened, or count is 0; VBR_MIXED, two are of different
-   maps; VBR_NO_MEMORY; VBR_NO_ROOM, as in a close. Handles of different maps are found by a probe, which is tested and not proved:
-   do not rely on it.
+   handles leave. It takes the memory of a close. Else the handles stay as they were, by the first of these tests that fails:
+   VBR_NO_HANDLE, one is empty; VBR_MISSING, they are fewer than were opened, or count is 0; VBR_MIXED, two are of different maps;
+   VBR_NO_MEMORY; VBR_NO_ROOM, as in a close. Handles of different maps are found by a probe, which is tested and not proved: do not
+   rely on it.
 
        vbr_answer closed = vbr_map_close_all(map, 2, entries, 8, &report); // VBR_YES: three entries, {2, 20} the first of them */
 VBR_NODISCARD vbr_answer vbr_map_close_all(vbr_map_handle *handles, size_t count, vbr_entry *entries, size_t room,
@@ -883,8 +884,8 @@ typedef struct vbr_incarnation {
        if (vbr_hold(&handle[0], &slot) == VBR_YES) beside[slot] = 7; // nobody else writes there */
 VBR_NODISCARD static inline vbr_answer vbr_hold(vbr_handle *handle, uint32_t *slot) VBR_NOEXCEPT VBR_NONNULL;
 
-/* Takes a slot in hand as vbr_hold does, within `steps` steps, in place of the budget of the handle. What it answers is what
-   vbr_hold answers.
+/* Takes a slot in hand as vbr_hold does, within `steps` steps, in place of the budget of the handle. What it answers is what vbr_hold
+   answers.
 
        told = vbr_hold_within(&handle[0], &slot, 500); // at most 500 steps */
 VBR_NODISCARD vbr_answer vbr_hold_within(vbr_handle *handle, uint32_t *slot, uint32_t steps) VBR_NOEXCEPT VBR_NONNULL;
@@ -931,8 +932,8 @@ VBR_NODISCARD vbr_answer vbr_insert_held_within(vbr_handle *handle, uint64_t key
 VBR_NODISCARD static inline vbr_answer vbr_map_insert_held(vbr_map_handle *handle, uint64_t key,
                                                            uint64_t value) VBR_NOEXCEPT VBR_NONNULL;
 
-/* Adds a key with its value as vbr_map_insert_held does, within `steps` steps, in place of the budget of the handle. What it answers
-   is what vbr_map_insert_held answers.
+/* Adds a key with its value as vbr_map_insert_held does, within `steps` steps, in place of the budget of the handle. What it answers is
+   what vbr_map_insert_held answers.
 
        told = vbr_map_insert_held_within(&map[0], 7, 71, 500); // at most 500 steps */
 VBR_NODISCARD vbr_answer vbr_map_insert_held_within(vbr_map_handle *handle, uint64_t key, uint64_t value,

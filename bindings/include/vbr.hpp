@@ -554,6 +554,16 @@ struct set_calls {
     using value = void;
     using words = std::uint64_t; /* an item as the library has it */
     static std::uint32_t steps_of(const raw *handle) noexcept { return vbr_steps_of(handle); }
+    /* tools/interface makes what follows. */
+    static vbr_answer open_seeded(raw *handles, std::size_t count, std::uint32_t slots, std::uint32_t buckets, std::uint64_t last_epoch,
+                                  std::uint64_t seed, const words *keys, std::size_t key_count) noexcept {
+        return vbr_open_seeded(handles, count, slots, buckets, last_epoch, seed, keys, key_count);
+    }
+    static vbr_answer open_many_seeded(raw *handles, std::size_t count, std::uint32_t slots, std::uint32_t buckets,
+                                       std::uint64_t last_epoch, std::uint64_t seed, const words *keys,
+                                       std::size_t key_count) noexcept {
+        return vbr_open_many_seeded(handles, count, slots, buckets, last_epoch, seed, keys, key_count);
+    }
     static vbr_answer has(raw *handle, std::uint64_t key, std::uint32_t steps) noexcept { return vbr_has_within(handle, key, steps); }
     static void has_all(raw *handle, const std::uint64_t *keys, std::size_t count, vbr_answer *answers, std::uint32_t steps) noexcept {
         vbr_has_all_within(handle, keys, count, answers, steps);
@@ -569,22 +579,20 @@ struct set_calls {
     static std::int64_t balance(const raw *handle) noexcept { return vbr_balance(handle); }
     static std::uint32_t spare(raw *handle) noexcept { return vbr_spare(handle); }
     static std::uint32_t reserve(raw *handle, std::uint32_t wanted) noexcept { return vbr_reserve(handle, wanted); }
-    static vbr_answer open(raw *handles, std::size_t count, const shape &wanted, std::uint64_t seed, const words *keys,
-                           std::size_t key_count) noexcept {
-        return vbr_open_seeded(handles, count, wanted.slots, wanted.buckets, wanted.last_epoch, seed, keys, key_count);
-    }
-    static vbr_answer open_many(raw *handles, std::size_t count, const shape &wanted, std::uint64_t seed, const words *keys,
-                                std::size_t key_count) noexcept {
-        return vbr_open_many_seeded(handles, count, wanted.slots, wanted.buckets, wanted.last_epoch, seed, keys, key_count);
+    static vbr_answer close_all(raw *handles, std::size_t count, words *keys, std::size_t room, vbr_report *report) noexcept {
+        return vbr_close_all(handles, count, keys, room, report);
     }
     static vbr_answer report_all(raw *handles, std::size_t count, words *keys, std::size_t room, vbr_report *report) noexcept {
         return vbr_report_all(handles, count, keys, room, report);
     }
-    static vbr_answer report_slots(raw *handles, std::size_t count, words *keys, std::uint32_t *slots, std::size_t room,
-                                   vbr_report *report) noexcept {
-        return vbr_report_slots(handles, count, keys, slots, room, report);
+    static vbr_answer renew_all_seeded(raw *handles, std::size_t count, std::uint32_t slots, std::uint32_t buckets,
+                                       std::uint64_t last_epoch, std::uint64_t seed) noexcept {
+        return vbr_renew_all_seeded(handles, count, slots, buckets, last_epoch, seed);
     }
-    static vbr_answer hold(raw *handle, std::uint32_t *slot, std::uint32_t steps) noexcept { return vbr_hold_within(handle, slot, steps); }
+    static void end_all(raw *handles, std::size_t count) noexcept { vbr_end_all(handles, count); }
+    static vbr_answer hold(raw *handle, std::uint32_t *slot, std::uint32_t steps) noexcept {
+        return vbr_hold_within(handle, slot, steps);
+    }
     static vbr_answer let_go(raw *handle) noexcept { return vbr_let_go(handle); }
     static vbr_answer get_entry(raw *handle, std::uint64_t key, vbr_incarnation *at, std::uint32_t steps) noexcept {
         return vbr_get_entry_within(handle, key, at, steps);
@@ -596,20 +604,29 @@ struct set_calls {
     static vbr_answer next_at(raw *handle, vbr_cursor *cursor, std::uint64_t *key, vbr_incarnation *at, std::uint32_t steps) noexcept {
         return vbr_next_at_within(handle, cursor, key, at, steps);
     }
-    static vbr_answer renew_all(raw *handles, std::size_t count, const shape &wanted, std::uint64_t seed) noexcept {
-        return vbr_renew_all_seeded(handles, count, wanted.slots, wanted.buckets, wanted.last_epoch, seed);
+    static vbr_answer report_slots(raw *handles, std::size_t count, words *keys, std::uint32_t *slots, std::size_t room,
+                                   vbr_report *report) noexcept {
+        return vbr_report_slots(handles, count, keys, slots, room, report);
     }
-    static vbr_answer close_all(raw *handles, std::size_t count, words *keys, std::size_t room, vbr_report *report) noexcept {
-        return vbr_close_all(handles, count, keys, room, report);
-    }
-    static void end_all(raw *handles, std::size_t count) noexcept { vbr_end_all(handles, count); }
 };
 
 struct map_calls {
     using raw = vbr_map_handle;
     using words = vbr_entry;
     static std::uint32_t steps_of(const raw *handle) noexcept { return vbr_map_steps_of(handle); }
-    static vbr_answer has(raw *handle, std::uint64_t key, std::uint32_t steps) noexcept { return vbr_map_has_within(handle, key, steps); }
+    /* tools/interface makes what follows. */
+    static vbr_answer open_seeded(raw *handles, std::size_t count, std::uint32_t slots, std::uint32_t buckets, std::uint64_t last_epoch,
+                                  std::uint64_t seed, const words *entries, std::size_t entry_count) noexcept {
+        return vbr_map_open_seeded(handles, count, slots, buckets, last_epoch, seed, entries, entry_count);
+    }
+    static vbr_answer open_many_seeded(raw *handles, std::size_t count, std::uint32_t slots, std::uint32_t buckets,
+                                       std::uint64_t last_epoch, std::uint64_t seed, const words *entries,
+                                       std::size_t entry_count) noexcept {
+        return vbr_map_open_many_seeded(handles, count, slots, buckets, last_epoch, seed, entries, entry_count);
+    }
+    static vbr_answer has(raw *handle, std::uint64_t key, std::uint32_t steps) noexcept {
+        return vbr_map_has_within(handle, key, steps);
+    }
     static void has_all(raw *handle, const std::uint64_t *keys, std::size_t count, vbr_answer *answers, std::uint32_t steps) noexcept {
         vbr_map_has_all_within(handle, keys, count, answers, steps);
     }
@@ -624,22 +641,20 @@ struct map_calls {
     static std::int64_t balance(const raw *handle) noexcept { return vbr_map_balance(handle); }
     static std::uint32_t spare(raw *handle) noexcept { return vbr_map_spare(handle); }
     static std::uint32_t reserve(raw *handle, std::uint32_t wanted) noexcept { return vbr_map_reserve(handle, wanted); }
-    static vbr_answer open(raw *handles, std::size_t count, const shape &wanted, std::uint64_t seed, const words *entries,
-                           std::size_t entry_count) noexcept {
-        return vbr_map_open_seeded(handles, count, wanted.slots, wanted.buckets, wanted.last_epoch, seed, entries, entry_count);
-    }
-    static vbr_answer open_many(raw *handles, std::size_t count, const shape &wanted, std::uint64_t seed, const words *entries,
-                                std::size_t entry_count) noexcept {
-        return vbr_map_open_many_seeded(handles, count, wanted.slots, wanted.buckets, wanted.last_epoch, seed, entries, entry_count);
+    static vbr_answer close_all(raw *handles, std::size_t count, words *entries, std::size_t room, vbr_report *report) noexcept {
+        return vbr_map_close_all(handles, count, entries, room, report);
     }
     static vbr_answer report_all(raw *handles, std::size_t count, words *entries, std::size_t room, vbr_report *report) noexcept {
         return vbr_map_report_all(handles, count, entries, room, report);
     }
-    static vbr_answer report_slots(raw *handles, std::size_t count, words *entries, std::uint32_t *slots, std::size_t room,
-                                   vbr_report *report) noexcept {
-        return vbr_map_report_slots(handles, count, entries, slots, room, report);
+    static vbr_answer renew_all_seeded(raw *handles, std::size_t count, std::uint32_t slots, std::uint32_t buckets,
+                                       std::uint64_t last_epoch, std::uint64_t seed) noexcept {
+        return vbr_map_renew_all_seeded(handles, count, slots, buckets, last_epoch, seed);
     }
-    static vbr_answer hold(raw *handle, std::uint32_t *slot, std::uint32_t steps) noexcept { return vbr_map_hold_within(handle, slot, steps); }
+    static void end_all(raw *handles, std::size_t count) noexcept { vbr_map_end_all(handles, count); }
+    static vbr_answer hold(raw *handle, std::uint32_t *slot, std::uint32_t steps) noexcept {
+        return vbr_map_hold_within(handle, slot, steps);
+    }
     static vbr_answer let_go(raw *handle) noexcept { return vbr_map_let_go(handle); }
     static vbr_answer get_entry(raw *handle, std::uint64_t key, vbr_incarnation *at, std::uint32_t steps) noexcept {
         return vbr_map_get_entry_within(handle, key, at, steps);
@@ -651,13 +666,10 @@ struct map_calls {
     static vbr_answer next_at(raw *handle, vbr_cursor *cursor, std::uint64_t *key, vbr_incarnation *at, std::uint32_t steps) noexcept {
         return vbr_map_next_at_within(handle, cursor, key, at, steps);
     }
-    static vbr_answer renew_all(raw *handles, std::size_t count, const shape &wanted, std::uint64_t seed) noexcept {
-        return vbr_map_renew_all_seeded(handles, count, wanted.slots, wanted.buckets, wanted.last_epoch, seed);
+    static vbr_answer report_slots(raw *handles, std::size_t count, words *entries, std::uint32_t *slots, std::size_t room,
+                                   vbr_report *report) noexcept {
+        return vbr_map_report_slots(handles, count, entries, slots, room, report);
     }
-    static vbr_answer close_all(raw *handles, std::size_t count, words *entries, std::size_t room, vbr_report *report) noexcept {
-        return vbr_map_close_all(handles, count, entries, room, report);
-    }
-    static void end_all(raw *handles, std::size_t count) noexcept { vbr_map_end_all(handles, count); }
 };
 
 /* What is of sets of a type of keys, and of maps of a type of keys and one of values. */
@@ -1385,7 +1397,9 @@ private:
     static result<void> renew_all(std::size_t count, const Nth &nth, const shape &wanted) noexcept {
         if (result<void> are = are_all(count, nth); !are) return are;
         std::uint64_t seed = wanted.seed ? *wanted.seed : nth(0).seed();
-        vbr_answer code = with_all(count, nth, [&](auto *all) { return kind::renew_all(all, count, wanted, seed); });
+        vbr_answer code = with_all(count, nth, [&](auto *all) {
+            return kind::renew_all_seeded(all, count, wanted.slots, wanted.buckets, wanted.last_epoch, seed);
+        });
         if (code == VBR_OK) nth(0).shared->slots = wanted.slots;
         for (std::size_t i = 0; i < count && code == VBR_OK && wanted.steps; i++) nth(i).set_steps(*wanted.steps);
         return detail::done_by(code);
@@ -1551,7 +1565,7 @@ public:
 
     static result<std::vector<Handle>> open(const shape &wanted, std::size_t count) { return open_with(wanted, count, nullptr, 0); }
     static result<std::vector<Handle>> open_with(const shape &wanted, std::size_t count, const item *items, std::size_t item_count) {
-        return opened(kind::open, wanted, count, max_handles, items, item_count);
+        return opened(kind::open_seeded, wanted, count, max_handles, items, item_count);
     }
     static result<std::vector<Handle>> open_with(const shape &wanted, std::size_t count, std::initializer_list<item> items) {
         return open_with(wanted, count, items.begin(), items.size());
@@ -1562,7 +1576,7 @@ public:
     }
     static result<std::vector<Handle>> open_many(const shape &wanted, std::size_t count, const item *items = nullptr,
                                                  std::size_t item_count = 0) {
-        return opened(kind::open_many, wanted, count, max_many_handles, items, item_count);
+        return opened(kind::open_many_seeded, wanted, count, max_many_handles, items, item_count);
     }
 
 private:
@@ -1574,7 +1588,8 @@ private:
         shared->parked.resize(handles.size());
         std::vector<typename kind::raw> raw(handles.empty() ? 1 : handles.size());
         vbr_answer code = with_words<kind>(items, item_count, [&](const typename kind::words *words) {
-            return call(raw.data(), handles.size(), wanted, wanted.seed ? *wanted.seed : random_seed(), words, item_count);
+            return call(raw.data(), handles.size(), wanted.slots, wanted.buckets, wanted.last_epoch, wanted.seed ? *wanted.seed : random_seed(), words,
+                        item_count);
         });
         if (code != VBR_OK) return refusal{code};
         shared->open.store(count, std::memory_order_relaxed);

@@ -123,6 +123,21 @@ static inline vbr_answer vbr_tsan_walked(vbr_cursor *cursor, uint64_t *key, vbr_
     return answer == VBR_YES ? vbr_tsan_found(*key, vbr_tsan_given(key, answer)) : answer;
 }
 
+#ifdef __cplusplus
+#define VBR_TSAN_SIZE(size) static_cast<long>(size)
+#else
+#define VBR_TSAN_SIZE(size) ((long)(size))
+#endif
+
+/* What a call writes that may tell a report, whose items take so many bytes each. */
+static inline vbr_answer vbr_tsan_reported(void *items, size_t size, vbr_report *report, vbr_answer answer) {
+    if (answer == VBR_YES || answer == VBR_NO_ROOM) __tsan_write_range(report, sizeof *report);
+    if (answer == VBR_YES && report->live > 0) __tsan_write_range(items, VBR_TSAN_SIZE(report->live * size));
+    return answer;
+}
+
+/* What follows is made of bindings/interface/vbr.h.in by tools/interface. */
+
 VBR_NODISCARD static inline vbr_answer vbr_tsan_insert_within(vbr_handle *handle, uint64_t key, uint32_t steps) VBR_NOEXCEPT {
     vbr_tsan_uses(handle);
     __tsan_release(vbr_tsan_there(key));
@@ -140,59 +155,166 @@ VBR_NODISCARD static inline vbr_answer vbr_tsan_has_within(vbr_handle *handle, u
     return vbr_tsan_found(key, vbr_has_within(handle, key, steps));
 }
 
-static inline void vbr_tsan_has_all_within(vbr_handle *handle, const uint64_t *keys, size_t count, vbr_answer *answers, uint32_t steps) VBR_NOEXCEPT {
+static inline void vbr_tsan_has_all_within(vbr_handle *handle, const uint64_t *keys, size_t count, vbr_answer *answers,
+                                           uint32_t steps) VBR_NOEXCEPT {
     vbr_tsan_uses(handle);
     vbr_has_all_within(handle, keys, count, answers, steps);
     for (size_t i = 0; i < count; i++) vbr_tsan_told(keys[i], &answers[i]);
 }
 
-VBR_NODISCARD static inline vbr_answer vbr_tsan_next_within(vbr_handle *handle, vbr_cursor *cursor, uint64_t *key, uint32_t steps) VBR_NOEXCEPT {
+VBR_NODISCARD static inline vbr_answer vbr_tsan_next_within(vbr_handle *handle, vbr_cursor *cursor, uint64_t *key,
+                                                            uint32_t steps) VBR_NOEXCEPT {
     vbr_tsan_uses(handle);
     return vbr_tsan_walked(cursor, key, vbr_next_within(handle, cursor, key, steps));
 }
 
-VBR_NODISCARD static inline vbr_answer vbr_tsan_map_insert_within(vbr_map_handle *handle, uint64_t key, uint64_t value, uint32_t steps) VBR_NOEXCEPT {
+VBR_NODISCARD static inline uint64_t vbr_tsan_epoch(const vbr_handle *handle) VBR_NOEXCEPT {
+    vbr_tsan_reads(handle->owned);
+    return vbr_epoch(handle);
+}
+
+VBR_NODISCARD static inline uint64_t vbr_tsan_last_epoch(const vbr_handle *handle) VBR_NOEXCEPT {
+    vbr_tsan_reads(handle->owned);
+    return vbr_last_epoch(handle);
+}
+
+VBR_NODISCARD static inline uint32_t vbr_tsan_slots(const vbr_handle *handle) VBR_NOEXCEPT {
+    vbr_tsan_reads(handle->owned);
+    return vbr_slots(handle);
+}
+
+VBR_NODISCARD static inline uint32_t vbr_tsan_buckets(const vbr_handle *handle) VBR_NOEXCEPT {
+    vbr_tsan_reads(handle->owned);
+    return vbr_buckets(handle);
+}
+
+VBR_NODISCARD static inline uint64_t vbr_tsan_seed(const vbr_handle *handle) VBR_NOEXCEPT {
+    vbr_tsan_reads(handle->owned);
+    return vbr_seed(handle);
+}
+
+VBR_NODISCARD static inline int64_t vbr_tsan_balance(const vbr_handle *handle) VBR_NOEXCEPT {
+    vbr_tsan_reads(handle->owned);
+    return vbr_balance(handle);
+}
+
+VBR_NODISCARD static inline vbr_answer vbr_tsan_close(vbr_handle *handle, uint64_t *keys, size_t room,
+                                                      vbr_report *report) VBR_NOEXCEPT {
+    vbr_tsan_uses(handle);
+    __tsan_release(vbr_tsan_closed());
+    __tsan_ignore_thread_begin();
+    vbr_answer answer = vbr_close(handle, keys, room, report);
+    __tsan_ignore_thread_end();
+    if (answer == VBR_YES || answer == VBR_LOST) __tsan_acquire(vbr_tsan_closed());
+    return vbr_tsan_reported(keys, sizeof *keys, report, answer);
+}
+
+VBR_NODISCARD static inline vbr_answer vbr_tsan_close_all(vbr_handle *handles, size_t count, uint64_t *keys, size_t room,
+                                                          vbr_report *report) VBR_NOEXCEPT {
+    for (size_t i = 0; i < count; i++) vbr_tsan_uses(&handles[i]);
+    __tsan_release(vbr_tsan_closed());
+    __tsan_ignore_thread_begin();
+    vbr_answer answer = vbr_close_all(handles, count, keys, room, report);
+    __tsan_ignore_thread_end();
+    if (answer == VBR_YES) __tsan_acquire(vbr_tsan_closed());
+    return vbr_tsan_reported(keys, sizeof *keys, report, answer);
+}
+
+VBR_NODISCARD static inline vbr_answer vbr_tsan_report_all(vbr_handle *handles, size_t count, uint64_t *keys, size_t room,
+                                                           vbr_report *report) VBR_NOEXCEPT {
+    for (size_t i = 0; i < count; i++) vbr_tsan_uses(&handles[i]);
+    __tsan_ignore_thread_begin();
+    vbr_answer answer = vbr_report_all(handles, count, keys, room, report);
+    __tsan_ignore_thread_end();
+    return vbr_tsan_reported(keys, sizeof *keys, report, answer);
+}
+
+VBR_NODISCARD static inline vbr_answer vbr_tsan_renew_all(vbr_handle *handles, size_t count, uint32_t slots, uint32_t buckets,
+                                                          uint64_t last_epoch) VBR_NOEXCEPT {
+    for (size_t i = 0; i < count; i++) vbr_tsan_uses(&handles[i]);
+    __tsan_ignore_thread_begin();
+    vbr_answer answer = vbr_renew_all(handles, count, slots, buckets, last_epoch);
+    __tsan_ignore_thread_end();
+    return answer;
+}
+
+VBR_NODISCARD static inline vbr_answer vbr_tsan_renew_all_seeded(vbr_handle *handles, size_t count, uint32_t slots,
+                                                                 uint32_t buckets, uint64_t last_epoch,
+                                                                 uint64_t seed) VBR_NOEXCEPT {
+    for (size_t i = 0; i < count; i++) vbr_tsan_uses(&handles[i]);
+    __tsan_ignore_thread_begin();
+    vbr_answer answer = vbr_renew_all_seeded(handles, count, slots, buckets, last_epoch, seed);
+    __tsan_ignore_thread_end();
+    return answer;
+}
+
+static inline void vbr_tsan_drop(vbr_handle *handle) VBR_NOEXCEPT {
+    vbr_tsan_uses(handle);
+    __tsan_release(vbr_tsan_closed());
+    __tsan_ignore_thread_begin();
+    vbr_drop(handle);
+    __tsan_ignore_thread_end();
+}
+
+static inline void vbr_tsan_end_all(vbr_handle *handles, size_t count) VBR_NOEXCEPT {
+    for (size_t i = 0; i < count; i++) vbr_tsan_uses(&handles[i]);
+    __tsan_release(vbr_tsan_closed());
+    __tsan_ignore_thread_begin();
+    vbr_end_all(handles, count);
+    __tsan_ignore_thread_end();
+}
+
+VBR_NODISCARD static inline vbr_answer vbr_tsan_map_insert_within(vbr_map_handle *handle, uint64_t key, uint64_t value,
+                                                                  uint32_t steps) VBR_NOEXCEPT {
     vbr_tsan_map_uses(handle);
     __tsan_release(vbr_tsan_there(key));
     return vbr_tsan_added(key, vbr_map_insert_within(handle, key, value, steps));
 }
 
-VBR_NODISCARD static inline vbr_answer vbr_tsan_map_remove_within(vbr_map_handle *handle, uint64_t key, uint64_t *value, uint32_t steps) VBR_NOEXCEPT {
+VBR_NODISCARD static inline vbr_answer vbr_tsan_map_remove_within(vbr_map_handle *handle, uint64_t key, uint64_t *value,
+                                                                  uint32_t steps) VBR_NOEXCEPT {
     vbr_tsan_map_uses(handle);
     vbr_tsan_removes(key);
     return vbr_tsan_given(value, vbr_tsan_found(key, vbr_map_remove_within(handle, key, value, steps)));
 }
 
-VBR_NODISCARD static inline vbr_answer vbr_tsan_map_get_within(vbr_map_handle *handle, uint64_t key, uint64_t *value, uint32_t steps) VBR_NOEXCEPT {
+VBR_NODISCARD static inline vbr_answer vbr_tsan_map_get_within(vbr_map_handle *handle, uint64_t key, uint64_t *value,
+                                                               uint32_t steps) VBR_NOEXCEPT {
     vbr_tsan_map_uses(handle);
     return vbr_tsan_given(value, vbr_tsan_found(key, vbr_map_get_within(handle, key, value, steps)));
 }
 
-VBR_NODISCARD static inline vbr_answer vbr_tsan_map_replace_within(vbr_map_handle *handle, uint64_t key, uint64_t value, uint64_t *found, uint32_t steps) VBR_NOEXCEPT {
+VBR_NODISCARD static inline vbr_answer vbr_tsan_map_replace_within(vbr_map_handle *handle, uint64_t key, uint64_t value,
+                                                                   uint64_t *found, uint32_t steps) VBR_NOEXCEPT {
     vbr_tsan_map_uses(handle);
     vbr_tsan_changes(key);
     return vbr_tsan_given(found, vbr_tsan_found(key, vbr_map_replace_within(handle, key, value, found, steps)));
 }
 
-VBR_NODISCARD static inline vbr_answer vbr_tsan_map_put_within(vbr_map_handle *handle, uint64_t key, uint64_t value, uint64_t *found, uint32_t steps) VBR_NOEXCEPT {
+VBR_NODISCARD static inline vbr_answer vbr_tsan_map_put_within(vbr_map_handle *handle, uint64_t key, uint64_t value,
+                                                               uint64_t *found, uint32_t steps) VBR_NOEXCEPT {
     vbr_tsan_map_uses(handle);
     vbr_tsan_changes(key);
     return vbr_tsan_given(found, vbr_tsan_found(key, vbr_map_put_within(handle, key, value, found, steps)));
 }
 
-VBR_NODISCARD static inline vbr_answer vbr_tsan_map_get_or_insert_within(vbr_map_handle *handle, uint64_t key, uint64_t value, uint64_t *found, uint32_t steps) VBR_NOEXCEPT {
+VBR_NODISCARD static inline vbr_answer vbr_tsan_map_get_or_insert_within(vbr_map_handle *handle, uint64_t key, uint64_t value,
+                                                                         uint64_t *found, uint32_t steps) VBR_NOEXCEPT {
     vbr_tsan_map_uses(handle);
     __tsan_release(vbr_tsan_there(key));
     return vbr_tsan_given(found, vbr_tsan_found(key, vbr_map_get_or_insert_within(handle, key, value, found, steps)));
 }
 
-VBR_NODISCARD static inline vbr_answer vbr_tsan_map_compare_exchange_within(vbr_map_handle *handle, uint64_t key, uint64_t expected, uint64_t value, uint64_t *found, uint32_t steps) VBR_NOEXCEPT {
+VBR_NODISCARD static inline vbr_answer vbr_tsan_map_compare_exchange_within(vbr_map_handle *handle, uint64_t key, uint64_t expected,
+                                                                            uint64_t value, uint64_t *found,
+                                                                            uint32_t steps) VBR_NOEXCEPT {
     vbr_tsan_map_uses(handle);
     vbr_tsan_changes(key);
     return vbr_tsan_given(found, vbr_tsan_found(key, vbr_map_compare_exchange_within(handle, key, expected, value, found, steps)));
 }
 
-VBR_NODISCARD static inline vbr_answer vbr_tsan_map_remove_if_within(vbr_map_handle *handle, uint64_t key, uint64_t expected, uint64_t *found, uint32_t steps) VBR_NOEXCEPT {
+VBR_NODISCARD static inline vbr_answer vbr_tsan_map_remove_if_within(vbr_map_handle *handle, uint64_t key, uint64_t expected,
+                                                                     uint64_t *found, uint32_t steps) VBR_NOEXCEPT {
     vbr_tsan_map_uses(handle);
     vbr_tsan_removes(key);
     return vbr_tsan_given(found, vbr_tsan_found(key, vbr_map_remove_if_within(handle, key, expected, found, steps)));
@@ -203,13 +325,15 @@ VBR_NODISCARD static inline vbr_answer vbr_tsan_map_has_within(vbr_map_handle *h
     return vbr_tsan_found(key, vbr_map_has_within(handle, key, steps));
 }
 
-static inline void vbr_tsan_map_has_all_within(vbr_map_handle *handle, const uint64_t *keys, size_t count, vbr_answer *answers, uint32_t steps) VBR_NOEXCEPT {
+static inline void vbr_tsan_map_has_all_within(vbr_map_handle *handle, const uint64_t *keys, size_t count, vbr_answer *answers,
+                                               uint32_t steps) VBR_NOEXCEPT {
     vbr_tsan_map_uses(handle);
     vbr_map_has_all_within(handle, keys, count, answers, steps);
     for (size_t i = 0; i < count; i++) vbr_tsan_told(keys[i], &answers[i]);
 }
 
-static inline void vbr_tsan_map_get_all_within(vbr_map_handle *handle, const uint64_t *keys, size_t count, vbr_found *found, uint32_t steps) VBR_NOEXCEPT {
+static inline void vbr_tsan_map_get_all_within(vbr_map_handle *handle, const uint64_t *keys, size_t count, vbr_found *found,
+                                               uint32_t steps) VBR_NOEXCEPT {
     vbr_tsan_map_uses(handle);
     vbr_map_get_all_within(handle, keys, count, found, steps);
     for (size_t i = 0; i < count; i++) {
@@ -218,9 +342,134 @@ static inline void vbr_tsan_map_get_all_within(vbr_map_handle *handle, const uin
     }
 }
 
-VBR_NODISCARD static inline vbr_answer vbr_tsan_map_next_within(vbr_map_handle *handle, vbr_cursor *cursor, vbr_entry *entry, uint32_t steps) VBR_NOEXCEPT {
+VBR_NODISCARD static inline vbr_answer vbr_tsan_map_next_within(vbr_map_handle *handle, vbr_cursor *cursor, vbr_entry *entry,
+                                                                uint32_t steps) VBR_NOEXCEPT {
     vbr_tsan_map_uses(handle);
     return vbr_tsan_given(&entry->value, vbr_tsan_walked(cursor, &entry->key, vbr_map_next_within(handle, cursor, entry, steps)));
+}
+
+VBR_NODISCARD static inline uint64_t vbr_tsan_map_epoch(const vbr_map_handle *handle) VBR_NOEXCEPT {
+    vbr_tsan_reads(handle->owned);
+    return vbr_map_epoch(handle);
+}
+
+VBR_NODISCARD static inline uint64_t vbr_tsan_map_last_epoch(const vbr_map_handle *handle) VBR_NOEXCEPT {
+    vbr_tsan_reads(handle->owned);
+    return vbr_map_last_epoch(handle);
+}
+
+VBR_NODISCARD static inline uint32_t vbr_tsan_map_slots(const vbr_map_handle *handle) VBR_NOEXCEPT {
+    vbr_tsan_reads(handle->owned);
+    return vbr_map_slots(handle);
+}
+
+VBR_NODISCARD static inline uint32_t vbr_tsan_map_buckets(const vbr_map_handle *handle) VBR_NOEXCEPT {
+    vbr_tsan_reads(handle->owned);
+    return vbr_map_buckets(handle);
+}
+
+VBR_NODISCARD static inline uint64_t vbr_tsan_map_seed(const vbr_map_handle *handle) VBR_NOEXCEPT {
+    vbr_tsan_reads(handle->owned);
+    return vbr_map_seed(handle);
+}
+
+VBR_NODISCARD static inline int64_t vbr_tsan_map_balance(const vbr_map_handle *handle) VBR_NOEXCEPT {
+    vbr_tsan_reads(handle->owned);
+    return vbr_map_balance(handle);
+}
+
+VBR_NODISCARD static inline vbr_answer vbr_tsan_map_close(vbr_map_handle *handle, vbr_entry *entries, size_t room,
+                                                          vbr_report *report) VBR_NOEXCEPT {
+    vbr_tsan_map_uses(handle);
+    __tsan_release(vbr_tsan_closed());
+    __tsan_ignore_thread_begin();
+    vbr_answer answer = vbr_map_close(handle, entries, room, report);
+    __tsan_ignore_thread_end();
+    if (answer == VBR_YES || answer == VBR_LOST) __tsan_acquire(vbr_tsan_closed());
+    return vbr_tsan_reported(entries, sizeof *entries, report, answer);
+}
+
+VBR_NODISCARD static inline vbr_answer vbr_tsan_map_close_all(vbr_map_handle *handles, size_t count, vbr_entry *entries,
+                                                              size_t room, vbr_report *report) VBR_NOEXCEPT {
+    for (size_t i = 0; i < count; i++) vbr_tsan_map_uses(&handles[i]);
+    __tsan_release(vbr_tsan_closed());
+    __tsan_ignore_thread_begin();
+    vbr_answer answer = vbr_map_close_all(handles, count, entries, room, report);
+    __tsan_ignore_thread_end();
+    if (answer == VBR_YES) __tsan_acquire(vbr_tsan_closed());
+    return vbr_tsan_reported(entries, sizeof *entries, report, answer);
+}
+
+VBR_NODISCARD static inline vbr_answer vbr_tsan_map_report_all(vbr_map_handle *handles, size_t count, vbr_entry *entries,
+                                                               size_t room, vbr_report *report) VBR_NOEXCEPT {
+    for (size_t i = 0; i < count; i++) vbr_tsan_map_uses(&handles[i]);
+    __tsan_ignore_thread_begin();
+    vbr_answer answer = vbr_map_report_all(handles, count, entries, room, report);
+    __tsan_ignore_thread_end();
+    return vbr_tsan_reported(entries, sizeof *entries, report, answer);
+}
+
+VBR_NODISCARD static inline vbr_answer vbr_tsan_map_renew_all(vbr_map_handle *handles, size_t count, uint32_t slots,
+                                                              uint32_t buckets, uint64_t last_epoch) VBR_NOEXCEPT {
+    for (size_t i = 0; i < count; i++) vbr_tsan_map_uses(&handles[i]);
+    __tsan_ignore_thread_begin();
+    vbr_answer answer = vbr_map_renew_all(handles, count, slots, buckets, last_epoch);
+    __tsan_ignore_thread_end();
+    return answer;
+}
+
+VBR_NODISCARD static inline vbr_answer vbr_tsan_map_renew_all_seeded(vbr_map_handle *handles, size_t count, uint32_t slots,
+                                                                     uint32_t buckets, uint64_t last_epoch,
+                                                                     uint64_t seed) VBR_NOEXCEPT {
+    for (size_t i = 0; i < count; i++) vbr_tsan_map_uses(&handles[i]);
+    __tsan_ignore_thread_begin();
+    vbr_answer answer = vbr_map_renew_all_seeded(handles, count, slots, buckets, last_epoch, seed);
+    __tsan_ignore_thread_end();
+    return answer;
+}
+
+static inline void vbr_tsan_map_drop(vbr_map_handle *handle) VBR_NOEXCEPT {
+    vbr_tsan_map_uses(handle);
+    __tsan_release(vbr_tsan_closed());
+    __tsan_ignore_thread_begin();
+    vbr_map_drop(handle);
+    __tsan_ignore_thread_end();
+}
+
+static inline void vbr_tsan_map_end_all(vbr_map_handle *handles, size_t count) VBR_NOEXCEPT {
+    for (size_t i = 0; i < count; i++) vbr_tsan_map_uses(&handles[i]);
+    __tsan_release(vbr_tsan_closed());
+    __tsan_ignore_thread_begin();
+    vbr_map_end_all(handles, count);
+    __tsan_ignore_thread_end();
+}
+
+VBR_NODISCARD static inline vbr_answer vbr_tsan_hold_within(vbr_handle *handle, uint32_t *slot, uint32_t steps) VBR_NOEXCEPT {
+    vbr_tsan_uses(handle);
+    vbr_answer answer = vbr_hold_within(handle, slot, steps);
+    if (answer == VBR_YES) __tsan_write4(slot);
+    if (answer == VBR_YES) __tsan_acquire(vbr_tsan_free());
+    return answer;
+}
+
+VBR_NODISCARD static inline vbr_answer vbr_tsan_map_hold_within(vbr_map_handle *handle, uint32_t *slot, uint32_t steps) VBR_NOEXCEPT {
+    vbr_tsan_map_uses(handle);
+    vbr_answer answer = vbr_map_hold_within(handle, slot, steps);
+    if (answer == VBR_YES) __tsan_write4(slot);
+    if (answer == VBR_YES) __tsan_acquire(vbr_tsan_free());
+    return answer;
+}
+
+VBR_NODISCARD static inline vbr_answer vbr_tsan_let_go(vbr_handle *handle) VBR_NOEXCEPT {
+    vbr_tsan_uses(handle);
+    __tsan_release(vbr_tsan_free());
+    return vbr_let_go(handle);
+}
+
+VBR_NODISCARD static inline vbr_answer vbr_tsan_map_let_go(vbr_map_handle *handle) VBR_NOEXCEPT {
+    vbr_tsan_map_uses(handle);
+    __tsan_release(vbr_tsan_free());
+    return vbr_map_let_go(handle);
 }
 
 VBR_NODISCARD static inline vbr_answer vbr_tsan_insert_held_within(vbr_handle *handle, uint64_t key, uint32_t steps) VBR_NOEXCEPT {
@@ -229,191 +478,115 @@ VBR_NODISCARD static inline vbr_answer vbr_tsan_insert_held_within(vbr_handle *h
     return vbr_tsan_added(key, vbr_insert_held_within(handle, key, steps));
 }
 
-VBR_NODISCARD static inline vbr_answer vbr_tsan_map_insert_held_within(vbr_map_handle *handle, uint64_t key, uint64_t value, uint32_t steps) VBR_NOEXCEPT {
+VBR_NODISCARD static inline vbr_answer vbr_tsan_map_insert_held_within(vbr_map_handle *handle, uint64_t key, uint64_t value,
+                                                                       uint32_t steps) VBR_NOEXCEPT {
     vbr_tsan_map_uses(handle);
     __tsan_release(vbr_tsan_there(key));
     return vbr_tsan_added(key, vbr_map_insert_held_within(handle, key, value, steps));
 }
 
-VBR_NODISCARD static inline vbr_answer vbr_tsan_map_replace_held_within(vbr_map_handle *handle, uint64_t key, const vbr_incarnation *at, uint64_t value, uint32_t steps) VBR_NOEXCEPT {
+VBR_NODISCARD static inline vbr_answer vbr_tsan_map_replace_held_within(vbr_map_handle *handle, uint64_t key, const vbr_incarnation *at,
+                                                                        uint64_t value, uint32_t steps) VBR_NOEXCEPT {
     vbr_tsan_map_uses(handle);
     vbr_tsan_changes(key);
     return vbr_tsan_found(key, vbr_map_replace_held_within(handle, key, at, value, steps));
 }
 
-VBR_NODISCARD static inline vbr_answer vbr_tsan_map_put_held_within(vbr_map_handle *handle, uint64_t key, uint64_t value, uint64_t *found, uint32_t steps) VBR_NOEXCEPT {
+VBR_NODISCARD static inline vbr_answer vbr_tsan_map_put_held_within(vbr_map_handle *handle, uint64_t key, uint64_t value,
+                                                                    uint64_t *found, uint32_t steps) VBR_NOEXCEPT {
     vbr_tsan_map_uses(handle);
     vbr_tsan_changes(key);
     return vbr_tsan_given(found, vbr_tsan_found(key, vbr_map_put_held_within(handle, key, value, found, steps)));
 }
 
-#ifdef __cplusplus
-#define VBR_TSAN_SIZE(size) static_cast<long>(size)
-#else
-#define VBR_TSAN_SIZE(size) ((long)(size))
-#endif
-
-/* What a call writes that may tell a report, whose items take so many bytes each. */
-static inline vbr_answer vbr_tsan_reported(void *items, size_t size, vbr_report *report, vbr_answer answer) {
-    if (answer == VBR_YES || answer == VBR_NO_ROOM) __tsan_write_range(report, sizeof *report);
-    if (answer == VBR_YES && report->live > 0) __tsan_write_range(items, VBR_TSAN_SIZE(report->live * size));
-    return answer;
+VBR_NODISCARD static inline vbr_answer vbr_tsan_get_entry_within(vbr_handle *handle, uint64_t key, vbr_incarnation *at,
+                                                                 uint32_t steps) VBR_NOEXCEPT {
+    vbr_tsan_uses(handle);
+    return vbr_tsan_named(key, at, vbr_get_entry_within(handle, key, at, steps));
 }
 
-/* The calls that sets and maps have alike: FOR is nothing for a set and map_ for a map, and `item` is what a report has. */
-#define VBR_TSAN_CALLS(FOR, item) \
-    VBR_NODISCARD static inline vbr_answer vbr_tsan_##FOR##close(vbr_##FOR##handle *handle, item *items, size_t room, \
-                                                                 vbr_report *report) VBR_NOEXCEPT { \
-        vbr_tsan_##FOR##uses(handle); \
-        __tsan_release(vbr_tsan_closed()); \
-        __tsan_ignore_thread_begin(); \
-        vbr_answer answer = vbr_##FOR##close(handle, items, room, report); \
-        __tsan_ignore_thread_end(); \
-        if (answer == VBR_YES || answer == VBR_LOST) __tsan_acquire(vbr_tsan_closed()); \
-        return vbr_tsan_reported(items, sizeof *items, report, answer); \
-    } \
-    VBR_NODISCARD static inline vbr_answer vbr_tsan_##FOR##close_all(vbr_##FOR##handle *handles, size_t count, item *items, \
-                                                                     size_t room, vbr_report *report) VBR_NOEXCEPT { \
-        for (size_t i = 0; i < count; i++) vbr_tsan_##FOR##uses(&handles[i]); \
-        __tsan_release(vbr_tsan_closed()); \
-        __tsan_ignore_thread_begin(); \
-        vbr_answer answer = vbr_##FOR##close_all(handles, count, items, room, report); \
-        __tsan_ignore_thread_end(); \
-        if (answer == VBR_YES) __tsan_acquire(vbr_tsan_closed()); \
-        return vbr_tsan_reported(items, sizeof *items, report, answer); \
-    } \
-    VBR_NODISCARD static inline vbr_answer vbr_tsan_##FOR##report_all(vbr_##FOR##handle *handles, size_t count, item *items, \
-                                                                      size_t room, vbr_report *report) VBR_NOEXCEPT { \
-        for (size_t i = 0; i < count; i++) vbr_tsan_##FOR##uses(&handles[i]); \
-        __tsan_ignore_thread_begin(); \
-        vbr_answer answer = vbr_##FOR##report_all(handles, count, items, room, report); \
-        __tsan_ignore_thread_end(); \
-        return vbr_tsan_reported(items, sizeof *items, report, answer); \
-    } \
-    VBR_NODISCARD static inline vbr_answer vbr_tsan_##FOR##report_slots(vbr_##FOR##handle *handles, size_t count, item *items, \
-                                                                        uint32_t *slots, size_t room, vbr_report *report) VBR_NOEXCEPT { \
-        for (size_t i = 0; i < count; i++) vbr_tsan_##FOR##uses(&handles[i]); \
-        __tsan_ignore_thread_begin(); \
-        vbr_answer answer = vbr_##FOR##report_slots(handles, count, items, slots, room, report); \
-        __tsan_ignore_thread_end(); \
-        if (answer == VBR_YES && report->live > 0) __tsan_write_range(slots, VBR_TSAN_SIZE(report->live * sizeof *slots)); \
-        return vbr_tsan_reported(items, sizeof *items, report, answer); \
-    } \
-    VBR_NODISCARD static inline vbr_answer vbr_tsan_##FOR##hold_within(vbr_##FOR##handle *handle, uint32_t *slot, uint32_t steps) VBR_NOEXCEPT { \
-        vbr_tsan_##FOR##uses(handle); \
-        vbr_answer answer = vbr_##FOR##hold_within(handle, slot, steps); \
-        if (answer == VBR_YES) __tsan_write4(slot); \
-        if (answer == VBR_YES) __tsan_acquire(vbr_tsan_free()); \
-        return answer; \
-    } \
-    VBR_NODISCARD static inline vbr_answer vbr_tsan_##FOR##let_go(vbr_##FOR##handle *handle) VBR_NOEXCEPT { \
-        vbr_tsan_##FOR##uses(handle); \
-        __tsan_release(vbr_tsan_free()); \
-        return vbr_##FOR##let_go(handle); \
-    } \
-    VBR_NODISCARD static inline vbr_answer vbr_tsan_##FOR##get_entry_within(vbr_##FOR##handle *handle, uint64_t key, vbr_incarnation *at, \
-                                                                            uint32_t steps) VBR_NOEXCEPT { \
-        vbr_tsan_##FOR##uses(handle); \
-        return vbr_tsan_named(key, at, vbr_##FOR##get_entry_within(handle, key, at, steps)); \
-    } \
-    VBR_NODISCARD static inline vbr_answer vbr_tsan_##FOR##is_still(vbr_##FOR##handle *handle, const vbr_incarnation *at) VBR_NOEXCEPT { \
-        vbr_tsan_##FOR##uses(handle); \
-        return vbr_##FOR##is_still(handle, at); \
-    } \
-    VBR_NODISCARD static inline vbr_answer vbr_tsan_##FOR##remove_entry_within(vbr_##FOR##handle *handle, uint64_t key, \
-                                                                               const vbr_incarnation *at, uint32_t steps) VBR_NOEXCEPT { \
-        vbr_tsan_##FOR##uses(handle); \
-        vbr_tsan_removes(key); \
-        return vbr_tsan_found(key, vbr_##FOR##remove_entry_within(handle, key, at, steps)); \
-    } \
-    VBR_NODISCARD static inline vbr_answer vbr_tsan_##FOR##next_at_within(vbr_##FOR##handle *handle, vbr_cursor *cursor, uint64_t *key, \
-                                                                          vbr_incarnation *at, uint32_t steps) VBR_NOEXCEPT { \
-        vbr_tsan_##FOR##uses(handle); \
-        vbr_answer answer = vbr_tsan_walked(cursor, key, vbr_##FOR##next_at_within(handle, cursor, key, at, steps)); \
-        return answer == VBR_YES ? vbr_tsan_named(*key, at, answer) : answer; \
-    } \
-    VBR_NODISCARD static inline vbr_answer vbr_tsan_##FOR##renew_all(vbr_##FOR##handle *handles, size_t count, uint32_t slots, \
-                                                                     uint32_t buckets, uint64_t last_epoch) VBR_NOEXCEPT { \
-        for (size_t i = 0; i < count; i++) vbr_tsan_##FOR##uses(&handles[i]); \
-        __tsan_ignore_thread_begin(); \
-        vbr_answer answer = vbr_##FOR##renew_all(handles, count, slots, buckets, last_epoch); \
-        __tsan_ignore_thread_end(); \
-        return answer; \
-    } \
-    VBR_NODISCARD static inline vbr_answer vbr_tsan_##FOR##renew_all_seeded(vbr_##FOR##handle *handles, size_t count, uint32_t slots, \
-                                                                            uint32_t buckets, uint64_t last_epoch, \
-                                                                            uint64_t seed) VBR_NOEXCEPT { \
-        for (size_t i = 0; i < count; i++) vbr_tsan_##FOR##uses(&handles[i]); \
-        __tsan_ignore_thread_begin(); \
-        vbr_answer answer = vbr_##FOR##renew_all_seeded(handles, count, slots, buckets, last_epoch, seed); \
-        __tsan_ignore_thread_end(); \
-        return answer; \
-    } \
-    static inline void vbr_tsan_##FOR##drop(vbr_##FOR##handle *handle) VBR_NOEXCEPT { \
-        vbr_tsan_##FOR##uses(handle); \
-        __tsan_release(vbr_tsan_closed()); \
-        __tsan_ignore_thread_begin(); \
-        vbr_##FOR##drop(handle); \
-        __tsan_ignore_thread_end(); \
-    } \
-    static inline void vbr_tsan_##FOR##end_all(vbr_##FOR##handle *handles, size_t count) VBR_NOEXCEPT { \
-        for (size_t i = 0; i < count; i++) vbr_tsan_##FOR##uses(&handles[i]); \
-        __tsan_release(vbr_tsan_closed()); \
-        __tsan_ignore_thread_begin(); \
-        vbr_##FOR##end_all(handles, count); \
-        __tsan_ignore_thread_end(); \
-    } \
-    VBR_TSAN_NUMBER(FOR, uint64_t, epoch) \
-    VBR_TSAN_NUMBER(FOR, uint64_t, last_epoch) \
-    VBR_TSAN_NUMBER(FOR, uint32_t, slots) \
-    VBR_TSAN_NUMBER(FOR, uint32_t, buckets) \
-    VBR_TSAN_NUMBER(FOR, uint64_t, seed) \
-    VBR_TSAN_NUMBER(FOR, int64_t, balance)
+VBR_NODISCARD static inline vbr_answer vbr_tsan_map_get_entry_within(vbr_map_handle *handle, uint64_t key, vbr_incarnation *at,
+                                                                     uint32_t steps) VBR_NOEXCEPT {
+    vbr_tsan_map_uses(handle);
+    return vbr_tsan_named(key, at, vbr_map_get_entry_within(handle, key, at, steps));
+}
 
-/* A call that shows a number. */
-#define VBR_TSAN_NUMBER(FOR, type, call) \
-    VBR_NODISCARD static inline type vbr_tsan_##FOR##call(const vbr_##FOR##handle *handle) VBR_NOEXCEPT { \
-        vbr_tsan_reads(handle->owned); \
-        return vbr_##FOR##call(handle); \
-    }
+VBR_NODISCARD static inline vbr_answer vbr_tsan_is_still(vbr_handle *handle, const vbr_incarnation *at) VBR_NOEXCEPT {
+    vbr_tsan_uses(handle);
+    return vbr_is_still(handle, at);
+}
 
-VBR_TSAN_CALLS(, uint64_t)
-VBR_TSAN_CALLS(map_, vbr_entry)
+VBR_NODISCARD static inline vbr_answer vbr_tsan_map_is_still(vbr_map_handle *handle, const vbr_incarnation *at) VBR_NOEXCEPT {
+    vbr_tsan_map_uses(handle);
+    return vbr_map_is_still(handle, at);
+}
 
-#undef VBR_TSAN_CALLS
-#undef VBR_TSAN_NUMBER
+VBR_NODISCARD static inline vbr_answer vbr_tsan_remove_entry_within(vbr_handle *handle, uint64_t key, const vbr_incarnation *at,
+                                                                    uint32_t steps) VBR_NOEXCEPT {
+    vbr_tsan_uses(handle);
+    vbr_tsan_removes(key);
+    return vbr_tsan_found(key, vbr_remove_entry_within(handle, key, at, steps));
+}
 
-#define vbr_epoch vbr_tsan_epoch
-#define vbr_last_epoch vbr_tsan_last_epoch
-#define vbr_slots vbr_tsan_slots
-#define vbr_buckets vbr_tsan_buckets
-#define vbr_seed vbr_tsan_seed
+VBR_NODISCARD static inline vbr_answer vbr_tsan_map_remove_entry_within(vbr_map_handle *handle, uint64_t key, const vbr_incarnation *at,
+                                                                        uint32_t steps) VBR_NOEXCEPT {
+    vbr_tsan_map_uses(handle);
+    vbr_tsan_removes(key);
+    return vbr_tsan_found(key, vbr_map_remove_entry_within(handle, key, at, steps));
+}
+
+VBR_NODISCARD static inline vbr_answer vbr_tsan_next_at_within(vbr_handle *handle, vbr_cursor *cursor, uint64_t *key,
+                                                               vbr_incarnation *at, uint32_t steps) VBR_NOEXCEPT {
+    vbr_tsan_uses(handle);
+    vbr_answer answer = vbr_tsan_walked(cursor, key, vbr_next_at_within(handle, cursor, key, at, steps));
+    return answer == VBR_YES ? vbr_tsan_named(*key, at, answer) : answer;
+}
+
+VBR_NODISCARD static inline vbr_answer vbr_tsan_map_next_at_within(vbr_map_handle *handle, vbr_cursor *cursor, uint64_t *key,
+                                                                   vbr_incarnation *at, uint32_t steps) VBR_NOEXCEPT {
+    vbr_tsan_map_uses(handle);
+    vbr_answer answer = vbr_tsan_walked(cursor, key, vbr_map_next_at_within(handle, cursor, key, at, steps));
+    return answer == VBR_YES ? vbr_tsan_named(*key, at, answer) : answer;
+}
+
+VBR_NODISCARD static inline vbr_answer vbr_tsan_report_slots(vbr_handle *handles, size_t count, uint64_t *keys, uint32_t *slots,
+                                                             size_t room, vbr_report *report) VBR_NOEXCEPT {
+    for (size_t i = 0; i < count; i++) vbr_tsan_uses(&handles[i]);
+    __tsan_ignore_thread_begin();
+    vbr_answer answer = vbr_report_slots(handles, count, keys, slots, room, report);
+    __tsan_ignore_thread_end();
+    if (answer == VBR_YES && report->live > 0) __tsan_write_range(slots, VBR_TSAN_SIZE(report->live * sizeof *slots));
+    return vbr_tsan_reported(keys, sizeof *keys, report, answer);
+}
+
+VBR_NODISCARD static inline vbr_answer vbr_tsan_map_report_slots(vbr_map_handle *handles, size_t count, vbr_entry *entries,
+                                                                 uint32_t *slots, size_t room, vbr_report *report) VBR_NOEXCEPT {
+    for (size_t i = 0; i < count; i++) vbr_tsan_map_uses(&handles[i]);
+    __tsan_ignore_thread_begin();
+    vbr_answer answer = vbr_map_report_slots(handles, count, entries, slots, room, report);
+    __tsan_ignore_thread_end();
+    if (answer == VBR_YES && report->live > 0) __tsan_write_range(slots, VBR_TSAN_SIZE(report->live * sizeof *slots));
+    return vbr_tsan_reported(entries, sizeof *entries, report, answer);
+}
+
 #define vbr_insert_within vbr_tsan_insert_within
 #define vbr_remove_within vbr_tsan_remove_within
 #define vbr_has_within vbr_tsan_has_within
 #define vbr_has_all_within vbr_tsan_has_all_within
 #define vbr_next_within vbr_tsan_next_within
-#define vbr_insert_held_within vbr_tsan_insert_held_within
-#define vbr_get_entry_within vbr_tsan_get_entry_within
-#define vbr_remove_entry_within vbr_tsan_remove_entry_within
-#define vbr_next_at_within vbr_tsan_next_at_within
-#define vbr_hold_within vbr_tsan_hold_within
-#define vbr_let_go vbr_tsan_let_go
-#define vbr_is_still vbr_tsan_is_still
-#define vbr_report_slots vbr_tsan_report_slots
+#define vbr_epoch vbr_tsan_epoch
+#define vbr_last_epoch vbr_tsan_last_epoch
+#define vbr_slots vbr_tsan_slots
+#define vbr_buckets vbr_tsan_buckets
+#define vbr_seed vbr_tsan_seed
+#define vbr_balance vbr_tsan_balance
 #define vbr_close vbr_tsan_close
 #define vbr_close_all vbr_tsan_close_all
 #define vbr_report_all vbr_tsan_report_all
 #define vbr_renew_all vbr_tsan_renew_all
 #define vbr_renew_all_seeded vbr_tsan_renew_all_seeded
-#define vbr_balance vbr_tsan_balance
 #define vbr_drop vbr_tsan_drop
 #define vbr_end_all vbr_tsan_end_all
-#define vbr_map_epoch vbr_tsan_map_epoch
-#define vbr_map_last_epoch vbr_tsan_map_last_epoch
-#define vbr_map_slots vbr_tsan_map_slots
-#define vbr_map_buckets vbr_tsan_map_buckets
-#define vbr_map_seed vbr_tsan_map_seed
 #define vbr_map_insert_within vbr_tsan_map_insert_within
 #define vbr_map_remove_within vbr_tsan_map_remove_within
 #define vbr_map_get_within vbr_tsan_map_get_within
@@ -426,23 +599,36 @@ VBR_TSAN_CALLS(map_, vbr_entry)
 #define vbr_map_has_all_within vbr_tsan_map_has_all_within
 #define vbr_map_get_all_within vbr_tsan_map_get_all_within
 #define vbr_map_next_within vbr_tsan_map_next_within
-#define vbr_map_insert_held_within vbr_tsan_map_insert_held_within
-#define vbr_map_replace_held_within vbr_tsan_map_replace_held_within
-#define vbr_map_put_held_within vbr_tsan_map_put_held_within
-#define vbr_map_get_entry_within vbr_tsan_map_get_entry_within
-#define vbr_map_remove_entry_within vbr_tsan_map_remove_entry_within
-#define vbr_map_next_at_within vbr_tsan_map_next_at_within
-#define vbr_map_hold_within vbr_tsan_map_hold_within
-#define vbr_map_let_go vbr_tsan_map_let_go
-#define vbr_map_is_still vbr_tsan_map_is_still
-#define vbr_map_report_slots vbr_tsan_map_report_slots
+#define vbr_map_epoch vbr_tsan_map_epoch
+#define vbr_map_last_epoch vbr_tsan_map_last_epoch
+#define vbr_map_slots vbr_tsan_map_slots
+#define vbr_map_buckets vbr_tsan_map_buckets
+#define vbr_map_seed vbr_tsan_map_seed
+#define vbr_map_balance vbr_tsan_map_balance
 #define vbr_map_close vbr_tsan_map_close
 #define vbr_map_close_all vbr_tsan_map_close_all
 #define vbr_map_report_all vbr_tsan_map_report_all
 #define vbr_map_renew_all vbr_tsan_map_renew_all
 #define vbr_map_renew_all_seeded vbr_tsan_map_renew_all_seeded
-#define vbr_map_balance vbr_tsan_map_balance
 #define vbr_map_drop vbr_tsan_map_drop
 #define vbr_map_end_all vbr_tsan_map_end_all
+#define vbr_hold_within vbr_tsan_hold_within
+#define vbr_map_hold_within vbr_tsan_map_hold_within
+#define vbr_let_go vbr_tsan_let_go
+#define vbr_map_let_go vbr_tsan_map_let_go
+#define vbr_insert_held_within vbr_tsan_insert_held_within
+#define vbr_map_insert_held_within vbr_tsan_map_insert_held_within
+#define vbr_map_replace_held_within vbr_tsan_map_replace_held_within
+#define vbr_map_put_held_within vbr_tsan_map_put_held_within
+#define vbr_get_entry_within vbr_tsan_get_entry_within
+#define vbr_map_get_entry_within vbr_tsan_map_get_entry_within
+#define vbr_is_still vbr_tsan_is_still
+#define vbr_map_is_still vbr_tsan_map_is_still
+#define vbr_remove_entry_within vbr_tsan_remove_entry_within
+#define vbr_map_remove_entry_within vbr_tsan_map_remove_entry_within
+#define vbr_next_at_within vbr_tsan_next_at_within
+#define vbr_map_next_at_within vbr_tsan_map_next_at_within
+#define vbr_report_slots vbr_tsan_report_slots
+#define vbr_map_report_slots vbr_tsan_map_report_slots
 
 #endif

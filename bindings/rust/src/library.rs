@@ -77,14 +77,9 @@ pub(crate) struct Found {
 }
 
 extern "C" {
+    // tools/interface makes these of the headers.
     pub(crate) fn vbr_version() -> u32;
     pub(crate) fn vbr_random_seed() -> u64;
-    pub(crate) fn vbr_shared_size(count: usize, slots: u32, buckets: u32) -> usize;
-    pub(crate) fn vbr_inherit(handle: *mut SharedRaw) -> i32;
-    pub(crate) fn vbr_renew_shared(handles: *mut SharedRaw, slots: u32, buckets: u32, last_epoch: u64) -> i32;
-    pub(crate) fn vbr_spread(handles: *mut SharedRaw);
-    pub(crate) fn vbr_unmap_shared(handles: *mut SharedRaw);
-
     fn vbr_open_many_seeded(
         handles: *mut Raw,
         count: usize,
@@ -108,46 +103,10 @@ extern "C" {
     fn vbr_balance(handle: *const Raw) -> i64;
     fn vbr_spare(handle: *mut Raw) -> u32;
     fn vbr_reserve(handle: *mut Raw, wanted: u32) -> u32;
-    fn vbr_close_all(handles: *mut Raw, count: usize, keys: *mut u64, room: usize, told: *mut ReportNumbers) -> i32;
-    fn vbr_report_all(handles: *mut Raw, count: usize, keys: *mut u64, room: usize, told: *mut ReportNumbers) -> i32;
-    fn vbr_report_slots(
-        handles: *mut Raw,
-        count: usize,
-        keys: *mut u64,
-        slots: *mut u32,
-        room: usize,
-        told: *mut ReportNumbers,
-    ) -> i32;
-    fn vbr_hold_within(handle: *mut Raw, slot: *mut u32, steps: u32) -> i32;
-    fn vbr_let_go(handle: *mut Raw) -> i32;
-    pub(crate) fn vbr_insert_held_within(handle: *mut Raw, key: u64, steps: u32) -> i32;
-    fn vbr_get_entry_within(handle: *mut Raw, key: u64, at: *mut Stands, steps: u32) -> i32;
-    fn vbr_is_still(handle: *mut Raw, at: *const Stands) -> i32;
-    fn vbr_remove_entry_within(handle: *mut Raw, key: u64, at: *const Stands, steps: u32) -> i32;
-    fn vbr_next_at_within(handle: *mut Raw, cursor: *mut Cursor, key: *mut u64, at: *mut Stands, steps: u32) -> i32;
+    fn vbr_close_all(handles: *mut Raw, count: usize, keys: *mut u64, room: usize, report: *mut ReportNumbers) -> i32;
+    fn vbr_report_all(handles: *mut Raw, count: usize, keys: *mut u64, room: usize, report: *mut ReportNumbers) -> i32;
     fn vbr_renew_all_seeded(handles: *mut Raw, count: usize, slots: u32, buckets: u32, last_epoch: u64, seed: u64) -> i32;
     fn vbr_end_all(handles: *mut Raw, count: usize);
-    fn vbr_open_shared(
-        handles: *mut *mut SharedRaw,
-        count: usize,
-        slots: u32,
-        buckets: u32,
-        last_epoch: u64,
-        keys: *const u64,
-        key_count: usize,
-    ) -> i32;
-    fn vbr_open_shared_in(
-        file: c_int,
-        handles: *mut *mut SharedRaw,
-        count: usize,
-        slots: u32,
-        buckets: u32,
-        last_epoch: u64,
-        keys: *const u64,
-        key_count: usize,
-    ) -> i32;
-    fn vbr_gather(handles: *mut SharedRaw) -> *mut Raw;
-
     fn vbr_map_open_many_seeded(
         handles: *mut Raw,
         count: usize,
@@ -185,28 +144,59 @@ extern "C" {
     fn vbr_map_balance(handle: *const Raw) -> i64;
     fn vbr_map_spare(handle: *mut Raw) -> u32;
     fn vbr_map_reserve(handle: *mut Raw, wanted: u32) -> u32;
-    fn vbr_map_close_all(handles: *mut Raw, count: usize, entries: *mut Pair, room: usize, told: *mut ReportNumbers) -> i32;
-    fn vbr_map_report_all(handles: *mut Raw, count: usize, entries: *mut Pair, room: usize, told: *mut ReportNumbers) -> i32;
+    fn vbr_map_close_all(handles: *mut Raw, count: usize, entries: *mut Pair, room: usize, report: *mut ReportNumbers)
+        -> i32;
+    fn vbr_map_report_all(
+        handles: *mut Raw,
+        count: usize,
+        entries: *mut Pair,
+        room: usize,
+        report: *mut ReportNumbers,
+    ) -> i32;
+    fn vbr_map_renew_all_seeded(handles: *mut Raw, count: usize, slots: u32, buckets: u32, last_epoch: u64, seed: u64)
+        -> i32;
+    fn vbr_map_end_all(handles: *mut Raw, count: usize);
+    fn vbr_hold_within(handle: *mut Raw, slot: *mut u32, steps: u32) -> i32;
+    fn vbr_map_hold_within(handle: *mut Raw, slot: *mut u32, steps: u32) -> i32;
+    fn vbr_let_go(handle: *mut Raw) -> i32;
+    fn vbr_map_let_go(handle: *mut Raw) -> i32;
+    pub(crate) fn vbr_insert_held_within(handle: *mut Raw, key: u64, steps: u32) -> i32;
+    pub(crate) fn vbr_map_insert_held_within(handle: *mut Raw, key: u64, value: u64, steps: u32) -> i32;
+    pub(crate) fn vbr_map_replace_held_within(handle: *mut Raw, key: u64, at: *const Stands, value: u64, steps: u32) -> i32;
+    pub(crate) fn vbr_map_put_held_within(handle: *mut Raw, key: u64, value: u64, found: *mut u64, steps: u32) -> i32;
+    fn vbr_get_entry_within(handle: *mut Raw, key: u64, at: *mut Stands, steps: u32) -> i32;
+    fn vbr_map_get_entry_within(handle: *mut Raw, key: u64, at: *mut Stands, steps: u32) -> i32;
+    fn vbr_is_still(handle: *mut Raw, at: *const Stands) -> i32;
+    fn vbr_map_is_still(handle: *mut Raw, at: *const Stands) -> i32;
+    fn vbr_remove_entry_within(handle: *mut Raw, key: u64, at: *const Stands, steps: u32) -> i32;
+    fn vbr_map_remove_entry_within(handle: *mut Raw, key: u64, at: *const Stands, steps: u32) -> i32;
+    fn vbr_next_at_within(handle: *mut Raw, cursor: *mut Cursor, key: *mut u64, at: *mut Stands, steps: u32) -> i32;
+    fn vbr_map_next_at_within(handle: *mut Raw, cursor: *mut Cursor, key: *mut u64, at: *mut Stands, steps: u32) -> i32;
+    fn vbr_report_slots(
+        handles: *mut Raw,
+        count: usize,
+        keys: *mut u64,
+        slots: *mut u32,
+        room: usize,
+        report: *mut ReportNumbers,
+    ) -> i32;
     fn vbr_map_report_slots(
         handles: *mut Raw,
         count: usize,
         entries: *mut Pair,
         slots: *mut u32,
         room: usize,
-        told: *mut ReportNumbers,
+        report: *mut ReportNumbers,
     ) -> i32;
-    fn vbr_map_hold_within(handle: *mut Raw, slot: *mut u32, steps: u32) -> i32;
-    fn vbr_map_let_go(handle: *mut Raw) -> i32;
-    pub(crate) fn vbr_map_insert_held_within(handle: *mut Raw, key: u64, value: u64, steps: u32) -> i32;
-    pub(crate) fn vbr_map_replace_held_within(handle: *mut Raw, key: u64, at: *const Stands, value: u64, steps: u32) -> i32;
-    pub(crate) fn vbr_map_put_held_within(handle: *mut Raw, key: u64, value: u64, found: *mut u64, steps: u32) -> i32;
-    fn vbr_map_get_entry_within(handle: *mut Raw, key: u64, at: *mut Stands, steps: u32) -> i32;
-    fn vbr_map_is_still(handle: *mut Raw, at: *const Stands) -> i32;
-    fn vbr_map_remove_entry_within(handle: *mut Raw, key: u64, at: *const Stands, steps: u32) -> i32;
-    fn vbr_map_next_at_within(handle: *mut Raw, cursor: *mut Cursor, key: *mut u64, at: *mut Stands, steps: u32) -> i32;
-    fn vbr_map_renew_all_seeded(handles: *mut Raw, count: usize, slots: u32, buckets: u32, last_epoch: u64, seed: u64)
-        -> i32;
-    fn vbr_map_end_all(handles: *mut Raw, count: usize);
+    fn vbr_open_shared(
+        handles: *mut *mut SharedRaw,
+        count: usize,
+        slots: u32,
+        buckets: u32,
+        last_epoch: u64,
+        keys: *const u64,
+        key_count: usize,
+    ) -> i32;
     fn vbr_map_open_shared(
         handles: *mut *mut SharedRaw,
         count: usize,
@@ -215,6 +205,16 @@ extern "C" {
         last_epoch: u64,
         entries: *const Pair,
         entry_count: usize,
+    ) -> i32;
+    fn vbr_open_shared_in(
+        file: c_int,
+        handles: *mut *mut SharedRaw,
+        count: usize,
+        slots: u32,
+        buckets: u32,
+        last_epoch: u64,
+        keys: *const u64,
+        key_count: usize,
     ) -> i32;
     fn vbr_map_open_shared_in(
         file: c_int,
@@ -226,7 +226,13 @@ extern "C" {
         entries: *const Pair,
         entry_count: usize,
     ) -> i32;
+    pub(crate) fn vbr_shared_size(count: usize, slots: u32, buckets: u32) -> usize;
+    pub(crate) fn vbr_inherit(handle: *mut SharedRaw) -> i32;
+    pub(crate) fn vbr_renew_shared(handles: *mut SharedRaw, slots: u32, buckets: u32, last_epoch: u64) -> i32;
+    fn vbr_gather(handles: *mut SharedRaw) -> *mut Raw;
     fn vbr_map_gather(handles: *mut SharedRaw) -> *mut Raw;
+    pub(crate) fn vbr_spread(handles: *mut SharedRaw);
+    pub(crate) fn vbr_unmap_shared(handles: *mut SharedRaw);
 }
 
 /// Opens a set or a map in memory that processes share: it is given where to write the first of the handles, the shape, and items.
