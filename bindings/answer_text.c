@@ -8,7 +8,7 @@ const char *vbr_answer_text(int answer)
     switch (answer) {
     case 2: return "another value";
     case 1: return "yes";
-    case 0: return "no, or done";
+    case 0: return "no; of an opening or a renewal, done";
     case -1: return "out of steps";
     case -2: return "no slot";
     case -3: return "the last epoch is spent";

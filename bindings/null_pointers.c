@@ -6,10 +6,53 @@
    map_has_all_keys and map_get_all_keys, which get how many the answers are: they are as many as the keys. And so do reports with
    slots, report_keys_slots and map_report_entries_slots, which get how much room the slots have: as much as the keys or entries.
 
+   And where handles are ended, end_handles and map_end_handles, of which a program has copied one: it is ended once. What it owns is
+   then in no other of them. The calls of all handles see by its pass that a handle stands twice, and refuse it; an end has no answer,
+   and its handles may be of several sets.
+
    It includes nothing, so that the kit's compiler makes the same bytes of it on every machine. */
 enum { VBR_NO_HANDLE = -4 }; /* of vbr.h */
 
 typedef unsigned long word;
+
+/* A handle as vbr.h has it. */
+typedef struct handle {
+    void *owned;
+    unsigned steps, in_call;
+} handle;
+
+static void swap_owned(handle *one, handle *other)
+{
+    void *owned = one->owned;
+    one->owned = other->owned;
+    other->owned = owned;
+}
+
+/* Of a heap, whose greatest is at the front: what stands here goes down to its place. */
+static void sink(handle *handles, word at, word count)
+{
+    for (word below; (below = 2 * at + 1) < count; at = below) {
+        if (below + 1 < count && (word)handles[below].owned < (word)handles[below + 1].owned) below++;
+        if ((word)handles[at].owned >= (word)handles[below].owned) return;
+        swap_owned(&handles[at], &handles[below]);
+    }
+}
+
+/* Puts what handles own in order, unless it is, and empties all but one of those that own the same. The handles are ended next, and
+   then nobody sees which of them owned what. */
+static void keep_once(handle *handles, word count)
+{
+    word next = 1;
+    while (next < count && (word)handles[next - 1].owned < (word)handles[next].owned) next++;
+    if (next >= count) return;
+    for (word at = count / 2; at > 0;) sink(handles, --at, count);
+    for (word end = count - 1; end > 0; end--) {
+        swap_owned(&handles[0], &handles[end]);
+        sink(handles, 0, end);
+    }
+    for (next = 1; next < count; next++)
+        if (handles[next].owned == handles[next - 1].owned) handles[next - 1].owned = 0;
+}
 
 /* What follows is made of bindings/interface/vbr.h.in by tools/interface. */
 
@@ -19,20 +62,22 @@ int close_handle(void *handle, word *keys, word room, void *report);
 int vbr_close(void *handle, word *keys, word room, void *report);
 void drop_handle(void *handle);
 void vbr_drop(void *handle);
+void end_handles(void *handles, word count);
+void vbr_end_all(void *handles, word count);
 int map_remove_found(void *handle, word key, word *value, unsigned steps);
 int vbr_map_remove_within(void *handle, word key, word *value, unsigned steps);
 int map_get_found(void *handle, word key, word *value, unsigned steps);
 int vbr_map_get_within(void *handle, word key, word *value, unsigned steps);
-int map_replace_found(void *handle, word key, word value, word *found, unsigned steps);
-int vbr_map_replace_within(void *handle, word key, word value, word *found, unsigned steps);
-int map_put_found(void *handle, word key, word value, word *found, unsigned steps);
-int vbr_map_put_within(void *handle, word key, word value, word *found, unsigned steps);
-int map_get_or_insert_found(void *handle, word key, word value, word *found, unsigned steps);
-int vbr_map_get_or_insert_within(void *handle, word key, word value, word *found, unsigned steps);
-int map_compare_exchange_found(void *handle, word key, word expected, word value, word *found, unsigned steps);
-int vbr_map_compare_exchange_within(void *handle, word key, word expected, word value, word *found, unsigned steps);
-int map_remove_if_found(void *handle, word key, word expected, word *found, unsigned steps);
-int vbr_map_remove_if_within(void *handle, word key, word expected, word *found, unsigned steps);
+int map_replace_found(void *handle, word key, word value, word *there, unsigned steps);
+int vbr_map_replace_within(void *handle, word key, word value, word *there, unsigned steps);
+int map_put_found(void *handle, word key, word value, word *there, unsigned steps);
+int vbr_map_put_within(void *handle, word key, word value, word *there, unsigned steps);
+int map_get_or_insert_found(void *handle, word key, word value, word *there, unsigned steps);
+int vbr_map_get_or_insert_within(void *handle, word key, word value, word *there, unsigned steps);
+int map_compare_exchange_found(void *handle, word key, word expected, word value, word *there, unsigned steps);
+int vbr_map_compare_exchange_within(void *handle, word key, word expected, word value, word *there, unsigned steps);
+int map_remove_if_found(void *handle, word key, word expected, word *there, unsigned steps);
+int vbr_map_remove_if_within(void *handle, word key, word expected, word *there, unsigned steps);
 void map_has_all_keys(void *handle, const word *keys, word count, int *answers, word answer_count, unsigned steps);
 void vbr_map_has_all_within(void *handle, const word *keys, word count, int *answers, unsigned steps);
 void map_get_all_keys(void *handle, const word *keys, word count, void *found, word found_count, unsigned steps);
@@ -41,8 +86,10 @@ int map_close_handle(void *handle, void *entries, word room, void *report);
 int vbr_map_close(void *handle, void *entries, word room, void *report);
 void map_drop_handle(void *handle);
 void vbr_map_drop(void *handle);
-int map_put_held_found(void *handle, word key, word value, word *found, unsigned steps);
-int vbr_map_put_held_within(void *handle, word key, word value, word *found, unsigned steps);
+void map_end_handles(void *handles, word count);
+void vbr_map_end_all(void *handles, word count);
+int map_put_held_found(void *handle, word key, word value, word *there, unsigned steps);
+int vbr_map_put_held_within(void *handle, word key, word value, word *there, unsigned steps);
 int report_keys_slots(void *handles, word count, word *keys, word room, unsigned *slots, word slot_room, void *report);
 int vbr_report_slots(void *handles, word count, word *keys, unsigned *slots, word room, void *report);
 int map_report_entries_slots(void *handles, word count, void *entries, word room, unsigned *slots, word slot_room, void *report);
@@ -63,6 +110,12 @@ void vbr_drop(void *handle)
     if (handle) drop_handle(handle);
 }
 
+void vbr_end_all(void *handles, word count)
+{
+    keep_once(handles, count);
+    end_handles(handles, count);
+}
+
 int vbr_map_remove_within(void *handle, word key, word *value, unsigned steps)
 {
     if (value) return map_remove_found(handle, key, value, steps);
@@ -75,29 +128,29 @@ int vbr_map_get_within(void *handle, word key, word *value, unsigned steps)
     return map_get_found(handle, key, &(word){0}, steps);
 }
 
-int vbr_map_replace_within(void *handle, word key, word value, word *found, unsigned steps)
+int vbr_map_replace_within(void *handle, word key, word value, word *there, unsigned steps)
 {
-    return map_replace_found(handle, key, value, found ? found : &(word){0}, steps);
+    return map_replace_found(handle, key, value, there ? there : &(word){0}, steps);
 }
 
-int vbr_map_put_within(void *handle, word key, word value, word *found, unsigned steps)
+int vbr_map_put_within(void *handle, word key, word value, word *there, unsigned steps)
 {
-    return map_put_found(handle, key, value, found ? found : &(word){0}, steps);
+    return map_put_found(handle, key, value, there ? there : &(word){0}, steps);
 }
 
-int vbr_map_get_or_insert_within(void *handle, word key, word value, word *found, unsigned steps)
+int vbr_map_get_or_insert_within(void *handle, word key, word value, word *there, unsigned steps)
 {
-    return map_get_or_insert_found(handle, key, value, found ? found : &(word){0}, steps);
+    return map_get_or_insert_found(handle, key, value, there ? there : &(word){0}, steps);
 }
 
-int vbr_map_compare_exchange_within(void *handle, word key, word expected, word value, word *found, unsigned steps)
+int vbr_map_compare_exchange_within(void *handle, word key, word expected, word value, word *there, unsigned steps)
 {
-    return map_compare_exchange_found(handle, key, expected, value, found ? found : &(word){0}, steps);
+    return map_compare_exchange_found(handle, key, expected, value, there ? there : &(word){0}, steps);
 }
 
-int vbr_map_remove_if_within(void *handle, word key, word expected, word *found, unsigned steps)
+int vbr_map_remove_if_within(void *handle, word key, word expected, word *there, unsigned steps)
 {
-    return map_remove_if_found(handle, key, expected, found ? found : &(word){0}, steps);
+    return map_remove_if_found(handle, key, expected, there ? there : &(word){0}, steps);
 }
 
 void vbr_map_has_all_within(void *handle, const word *keys, word count, int *answers, unsigned steps)
@@ -120,9 +173,15 @@ void vbr_map_drop(void *handle)
     if (handle) map_drop_handle(handle);
 }
 
-int vbr_map_put_held_within(void *handle, word key, word value, word *found, unsigned steps)
+void vbr_map_end_all(void *handles, word count)
 {
-    return map_put_held_found(handle, key, value, found ? found : &(word){0}, steps);
+    keep_once(handles, count);
+    map_end_handles(handles, count);
+}
+
+int vbr_map_put_held_within(void *handle, word key, word value, word *there, unsigned steps)
+{
+    return map_put_held_found(handle, key, value, there ? there : &(word){0}, steps);
 }
 
 int vbr_report_slots(void *handles, word count, word *keys, unsigned *slots, word room, void *report)

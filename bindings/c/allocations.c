@@ -150,7 +150,7 @@ static int carried_with(long n, int *done) {
         CHECK(vbr_map_insert_held(&map[1], 13 - key, key) == VBR_YES); /* so they change places */
     }
     allowed = n;
-    vbr_answer told = vbr_map_records_renew(map, 2, 16, 4, 1000, &records, NULL);
+    vbr_answer told = vbr_map_records_renew_all(map, 2, 16, 4, 1000, &records, NULL);
     *done = told == VBR_OK && allowed >= 0;
     allowed = -1;
     CHECK(told == VBR_OK || told == VBR_NO_MEMORY);

@@ -24,7 +24,7 @@ static int empty_handles(void) {
 
 /* Each answer in words, and a number that is none. */
 static int words(void) {
-    static const char *const texts[] = {"no, or done", "out of steps", "no slot", "the last epoch is spent", "no handle", "a handle is in use",
+    static const char *const texts[] = {"no; of an opening or a renewal, done", "out of steps", "no slot", "the last epoch is spent", "no handle", "a handle is in use",
         "a number is out of range", "too few handles, or too many", "no memory", "the set is lost", "the keys do not ascend, or are too many",
         "no room for the keys, or in the file", "a handle is missing", "handles of different sets"};
     for (int i = VBR_MIXED; i <= VBR_OK; i++) CHECK(!strcmp(vbr_answer_text((vbr_answer)i), texts[-i]));

@@ -48,7 +48,7 @@ static int32_t walk(vbr_map_handle *m) {
     while ((told = vbr_map_next(m, &cursor, &entry)) == VBR_YES) {}
     return told;
 }
-static int32_t spare(vbr_map_handle *m) { return (int32_t)vbr_map_spare(m); }
+static int32_t spare(vbr_map_handle *m) { return (int32_t)vbr_map_give_slots_back(m); }
 static int32_t reserve(vbr_map_handle *m) { return (int32_t)vbr_map_reserve(m, 63); }
 
 static const struct kind kinds[] = {
@@ -89,7 +89,7 @@ static int prepare(const struct kind *kind) {
             uint32_t steps = 1;
             while (vbr_map_remove_within(&handles[2].map, k, NULL, steps) != VBR_YES) steps++;
         }
-    if (!kind->has_reserve) vbr_map_spare(&handles[1].map);
+    if (!kind->has_reserve) vbr_map_give_slots_back(&handles[1].map);
     for (int i = 0; i < kind->cycles; i++)
         if (vbr_map_insert(&handles[1].map, 300, 1) != VBR_YES || vbr_map_remove(&handles[1].map, 300, NULL) != VBR_YES) return 1;
     return 0;
@@ -127,7 +127,7 @@ static int look(const struct kind *kind, long at, int *is_done, long *lost, int 
     for (int renewed = 0; renewed < 2; renewed++) { /* slots that nobody finds, before and after a renewal */
         vbr_entry entries[2 * SLOTS];
         vbr_report report;
-        for (int i = 0; i < 3; i++) vbr_map_spare(&handles[i].map);
+        for (int i = 0; i < 3; i++) vbr_map_give_slots_back(&handles[i].map);
         uint64_t key = renewed ? 5000 : 1000;
         while ((told = vbr_map_insert(&handles[0].map, key, 1)) == VBR_YES) key++;
         if (told != VBR_NO_SLOT) return failed(kind, at, "a full map", told);

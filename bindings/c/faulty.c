@@ -9,7 +9,7 @@
     6 a report has no epoch
     7 a remove answers what a look-up just before it answered: two threads may both remove one key
     8 a call is refused with a budget that is promised to be enough
-    9 an opening tests the handles last
+    9 an opening tests the handles first
    10 a refused opening keeps memory
    11 an opening with several keys leaves out the last one
    12 an insert takes effect only as its thread makes its next call
@@ -27,6 +27,7 @@
    23 a report by all handles is short of a key
    24 a renewal loses a key
    25 a balance now and then is one too great
+   26 a handle that stands twice in place of all is taken for two
 
    One thread alone can't see the seventh and the twelfth, and four threads don't look for the eighth, ninth and tenth. The
    twelfth leaves each thread's own answers right: it shows only where the program orders calls of several. So does the
@@ -34,46 +35,19 @@
    nineteenth to twenty-first leave right whatever is answered: they show only in what is refused for want of steps. What can be
    wrong with values alone is in map_faulty.c. */
 #include "faulty.h"
-#include "vbr.h"
 
 #include <sched.h>
 
-/* WITH names what only calls on maps have, and GIVE writes a value; LOOK_UP tells of a key, and in a map its value too; KEY is that
-   of what a walk gives. */
+/* LOOK_UP tells of a key, and in a map its value too, which GIVE writes; KEY is that of what a walk gives. */
 #ifdef OF_MAPS
-typedef vbr_map_handle a_handle;
-typedef vbr_entry an_item;
-#define REAL(call) __real_vbr_map_##call
-#define WRAP(call) __wrap_vbr_map_##call
-#define LOOK_UP __real_vbr_map_get_within
-#define WITH(value) , value
+#define LOOK_UP REAL(get_within)
 #define GIVE(to, value) ((to) ? (void)(*(to) = (value)) : (void)0)
 #define KEY(item) (item).key
-vbr_answer __real_vbr_map_get_within(vbr_map_handle *handle, uint64_t key, uint64_t *value, uint32_t budget);
-vbr_answer __real_vbr_map_get_or_insert_within(vbr_map_handle *handle, uint64_t key, uint64_t value, uint64_t *found, uint32_t budget);
-vbr_answer __real_vbr_map_remove_if_within(vbr_map_handle *handle, uint64_t key, uint64_t expected, uint64_t *found, uint32_t budget);
 #else
-typedef vbr_handle a_handle;
-typedef uint64_t an_item;
-#define REAL(call) __real_vbr_##call
-#define WRAP(call) __wrap_vbr_##call
-#define LOOK_UP __real_vbr_has_within
-#define WITH(value)
+#define LOOK_UP REAL(has_within)
 #define GIVE(to, value) ((void)(value))
 #define KEY(item) (item)
 #endif
-
-vbr_answer REAL(open)(a_handle *handles, size_t count, uint32_t slots, uint32_t buckets, uint64_t last_epoch);
-vbr_answer REAL(open_with)(a_handle *handles, size_t count, uint32_t slots, uint32_t buckets, uint64_t last_epoch,
-                           const an_item *items, size_t item_count);
-vbr_answer REAL(insert_within)(a_handle *handle, uint64_t key WITH(uint64_t value), uint32_t budget);
-vbr_answer REAL(remove_within)(a_handle *handle, uint64_t key WITH(uint64_t *value), uint32_t budget);
-vbr_answer REAL(has_within)(a_handle *handle, uint64_t key, uint32_t budget);
-vbr_answer REAL(next_within)(a_handle *handle, vbr_cursor *cursor, an_item *item, uint32_t budget);
-vbr_answer REAL(close)(a_handle *handle, an_item *items, size_t room, vbr_report *report);
-vbr_answer REAL(report_all)(a_handle *handles, size_t count, an_item *items, size_t room, vbr_report *report);
-vbr_answer REAL(renew_all)(a_handle *handles, size_t count, uint32_t slots, uint32_t buckets, uint64_t last_epoch);
-int64_t REAL(balance)(const a_handle *handle);
 
 /* The insert that this thread has still to make, for the twelfth fault. */
 static _Thread_local struct an_insert {
@@ -103,7 +77,7 @@ static void forget_look(uint64_t key) {
 
 vbr_answer WRAP(open)(a_handle *handles, size_t count, uint32_t slots, uint32_t buckets, uint64_t last_epoch) {
     static void *kept;
-    if (fault() == 9 && (count < 1 || count > VBR_MAX_HANDLES)) return VBR_BAD_COUNT;
+    for (size_t i = 0; fault() == 9 && i < count; i++) if (handles[i].owned) return VBR_IN_USE;
     vbr_answer answer = REAL(open)(handles, count, slots, buckets, last_epoch);
     if (fault() == 10 && answer == VBR_IN_USE) kept = realloc(kept, 1);
     return answer;
@@ -235,8 +209,15 @@ vbr_answer WRAP(close)(a_handle *handle, an_item *items, size_t room, vbr_report
     return answer;
 }
 
+/* Whether the first of the handles comes again, for the twenty-sixth fault. */
+static int is_taken_twice(const a_handle *handles, size_t count) {
+    for (size_t i = 1; fault() == 26 && i < count; i++) if (handles[i].owned == handles[0].owned) return 1;
+    return 0;
+}
+
 vbr_answer WRAP(report_all)(a_handle *handles, size_t count, an_item *items, size_t room, vbr_report *report) {
     make_late();
+    if (is_taken_twice(handles, count)) return VBR_YES;
     vbr_answer answer = REAL(report_all)(handles, count, items, room, report);
     if (answer == VBR_YES && fault() == 23 && report->live > 0) report->live--, report->free++;
     return answer;
@@ -246,6 +227,7 @@ vbr_answer WRAP(renew_all)(a_handle *handles, size_t count, uint32_t slots, uint
     vbr_cursor cursor = VBR_CURSOR_BEGIN;
     an_item first;
     make_late();
+    if (is_taken_twice(handles, count)) return VBR_OK;
     vbr_answer answer = REAL(renew_all)(handles, count, slots, buckets, last_epoch);
     if (answer == VBR_OK && fault() == 24 && REAL(next_within)(&handles[0], &cursor, &first, UINT32_MAX) == VBR_YES)
         (void)!REAL(remove_within)(&handles[0], KEY(first) WITH(&(uint64_t){0}), UINT32_MAX);

@@ -247,7 +247,7 @@ static int order_calls(const struct round *r, uint32_t stamps, long first_life) 
 static long count_lost(uint32_t slots, uint32_t count, int is_renewed) {
     static vbr_entry entries[1 << 16];
     vbr_report report = {0};
-    for (uint32_t i = 0; i < count; i++) vbr_map_spare(&handles[i].map);
+    for (uint32_t i = 0; i < count; i++) vbr_map_give_slots_back(&handles[i].map);
     for (uint32_t k = 0; k < KEYS; k++) (void)!vbr_map_remove(&handles[0].map, 50 + k, NULL);
     vbr_answer told;
     uint64_t key = is_renewed ? 2000000 : 1000000;
@@ -408,7 +408,7 @@ static int lost(long trials, uint64_t *random) {
                 if (small == 1 && (x & 31) == 0) { /* a wave of inserts, and then of removes, so that pools fill and empty */
                     for (uint64_t k = 0; k < keys; k++) (void)!vbr_map_insert(m, 1000 * ((uint64_t)i + 1) + k, 1);
                     for (uint64_t k = 0; k < keys; k++) (void)!vbr_map_remove(m, 1000 * ((uint64_t)i + 1) + k, NULL);
-                } else if (small == 2 && (x & 63) == 0) vbr_map_spare(m);
+                } else if (small == 2 && (x & 63) == 0) vbr_map_give_slots_back(m);
                 else if (x & 64) (void)!vbr_map_put(m, key, x, NULL);
                 else (void)!vbr_map_remove(m, key, NULL);
                 vbr_end(&handles[i + 1]);

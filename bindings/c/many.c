@@ -104,13 +104,13 @@ static void in_threads(void) {
 /* The numbers of handles that are refused, and the most that there may be. */
 static void *ends(void *of) {
     (void)of;
-    CHECK(vbr_open(handle, VBR_MAX_HANDLES + 1, slots, BUCKETS, VBR_MAX_EPOCH) == VBR_BAD_COUNT);
-    CHECK(vbr_open_with(handle, VBR_MAX_HANDLES + 1, slots, BUCKETS, VBR_MAX_EPOCH, opening, OPENING) == VBR_BAD_COUNT);
+    CHECK(vbr_open(handle, VBR_MAX_FEW_HANDLES + 1, slots, BUCKETS, VBR_MAX_EPOCH) == VBR_BAD_COUNT);
+    CHECK(vbr_open_with(handle, VBR_MAX_FEW_HANDLES + 1, slots, BUCKETS, VBR_MAX_EPOCH, opening, OPENING) == VBR_BAD_COUNT);
     CHECK(vbr_open_many(handle, 0, slots, BUCKETS, VBR_MAX_EPOCH, opening, OPENING) == VBR_BAD_COUNT);
-    CHECK(vbr_open_many(handle, VBR_MAX_HANDLES + 1, slots, BUCKETS, VBR_MAX_EPOCH, keys + 1, 0) == VBR_OK);
-    CHECK(vbr_insert(&handle[VBR_MAX_HANDLES], 5) == VBR_YES && vbr_has(handle, 5) == VBR_YES);
-    CHECK(vbr_close_all(handle, VBR_MAX_HANDLES, keys, 8, &report) == VBR_MISSING);
-    CHECK(vbr_close_all(handle, VBR_MAX_HANDLES + 1, keys, 8, &report) == VBR_YES && report.live == 1 && keys[0] == 5);
+    CHECK(vbr_open_many(handle, VBR_MAX_FEW_HANDLES + 1, slots, BUCKETS, VBR_MAX_EPOCH, keys + 1, 0) == VBR_OK);
+    CHECK(vbr_insert(&handle[VBR_MAX_FEW_HANDLES], 5) == VBR_YES && vbr_has(handle, 5) == VBR_YES);
+    CHECK(vbr_close_all(handle, VBR_MAX_FEW_HANDLES, keys, 8, &report) == VBR_MISSING);
+    CHECK(vbr_close_all(handle, VBR_MAX_FEW_HANDLES + 1, keys, 8, &report) == VBR_YES && report.live == 1 && keys[0] == 5);
 
     CHECK(vbr_open_many(handle, VBR_MAX_MANY_HANDLES, slots, BUCKETS, VBR_MAX_EPOCH, opening, OPENING) == VBR_OK);
     CHECK(vbr_insert(&handle[VBR_MAX_MANY_HANDLES - 1], 5) == VBR_YES);

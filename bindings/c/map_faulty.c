@@ -26,24 +26,10 @@
 
    The twenty-second leaves all answers right while there are slots. */
 #include "faulty.h"
-#include "vbr.h"
 
 #include <pthread.h>
 #include <sched.h>
 #include <string.h>
-
-vbr_answer __real_vbr_map_open_with(vbr_map_handle *handles, size_t count, uint32_t slots, uint32_t buckets, uint64_t last_epoch,
-                                    const vbr_entry *entries, size_t entry_count);
-vbr_answer __real_vbr_map_insert_within(vbr_map_handle *handle, uint64_t key, uint64_t value, uint32_t budget);
-vbr_answer __real_vbr_map_remove_within(vbr_map_handle *handle, uint64_t key, uint64_t *value, uint32_t budget);
-vbr_answer __real_vbr_map_get_within(vbr_map_handle *handle, uint64_t key, uint64_t *value, uint32_t budget);
-vbr_answer __real_vbr_map_replace_within(vbr_map_handle *handle, uint64_t key, uint64_t value, uint64_t *found, uint32_t budget);
-vbr_answer __real_vbr_map_put_within(vbr_map_handle *handle, uint64_t key, uint64_t value, uint64_t *found, uint32_t budget);
-vbr_answer __real_vbr_map_get_or_insert_within(vbr_map_handle *handle, uint64_t key, uint64_t value, uint64_t *found, uint32_t budget);
-vbr_answer __real_vbr_map_compare_exchange_within(vbr_map_handle *handle, uint64_t key, uint64_t expected, uint64_t value, uint64_t *found, uint32_t budget);
-vbr_answer __real_vbr_map_remove_if_within(vbr_map_handle *handle, uint64_t key, uint64_t expected, uint64_t *found, uint32_t budget);
-vbr_answer __real_vbr_map_next_within(vbr_map_handle *handle, vbr_cursor *cursor, vbr_entry *entry, uint32_t budget);
-vbr_answer __real_vbr_map_close(vbr_map_handle *handle, vbr_entry *entries, size_t room, vbr_report *report);
 
 enum { KEPT = 1 << 16 };
 

@@ -74,7 +74,7 @@ static int deaths(void) {
         CHECK(!ended_well(child));
         vbr_answer inherited = vbr_inherit(&handle[1]); // VBR_YES: it is whole; VBR_NO: its slots are lost for now
         CHECK(inherited == (in_call ? VBR_NO : VBR_YES) && vbr_inherit(&handle[1]) == VBR_YES);
-        CHECK(vbr_map_spare(&handle[1].map) == (in_call ? 0 : 63));
+        CHECK(vbr_map_give_slots_back(&handle[1].map) == (in_call ? 0 : 63));
     }
     CHECK(vbr_map_get(&handle[2].map, 2, NULL) == VBR_YES && vbr_map_insert(&handle[1].map, 3, 5) == VBR_YES);
     vbr_answer renewed = vbr_renew_shared(handle, 10 + 3 * 64 + 66, 16, VBR_MAX_EPOCH); // VBR_OK: no slot is lost any more
@@ -270,6 +270,7 @@ static int orders(void) {
     }
     CHECK(vbr_open_shared(&handle, 0, 1u << 31, 8, VBR_MAX_EPOCH, wrong, 3) == VBR_BAD_SHAPE && vbr_open_shared(&handle, 0, 1u << 31, 8, 1, wrong, 3) == VBR_BAD_SHAPE);
     CHECK(vbr_open_shared(&handle, 0, 8, 8, 1, wrong, 3) == VBR_BAD_COUNT && vbr_open_shared(&handle, VBR_MAX_MANY_HANDLES + 1, 8, 8, 1, NULL, 0) == VBR_BAD_COUNT);
+    CHECK(vbr_open_shared(&handle, (size_t)-1, 8, 8, 1, wrong, 3) == VBR_BAD_COUNT && vbr_map_open_shared(&handle, (size_t)-1, 0, 8, 1, entries, 3) == VBR_BAD_SHAPE);
     CHECK(vbr_open_shared_in(-1, &handle, 1, 8, 8, 1, wrong, 3) == VBR_BAD_KEYS && vbr_open_shared(&handle, 1, 1, 8, 1, many, 2) == VBR_BAD_KEYS);
     CHECK(vbr_map_open_shared(&handle, 1, 8, 8, 1, entries, 3) == VBR_BAD_KEYS && vbr_map_open_shared(&handle, 1, 1, 8, 1, entries, 2) == VBR_BAD_KEYS && !handle);
     CHECK(vbr_map_open_shared(&handle, 1, 2, 8, 1, entries, 2) == VBR_OK && vbr_map_get(&handle->map, 7, NULL) == VBR_YES);

@@ -1,5 +1,5 @@
-/* A set whose epoch comes near its last again and again, or is spent: it is renewed each time, by closing
-   it and opening one with its keys. */
+/* A set whose epoch comes near its last again and again, or is spent: it is renewed each time, by closing it and opening one
+   with its keys. tools/interface makes it of bindings/interface/renewal.c.in. */
 #include "vbr.h"
 
 #include <stdio.h>
@@ -33,10 +33,9 @@ static int churn(int in_time) {
         }
         if (added != VBR_YES || vbr_remove(&handle[0], key) != VBR_YES) return 5;
     }
-    if (renewals < 10 || vbr_has(&handle[1], 5) != VBR_YES) return 6;
-    vbr_answer closed = VBR_NO;
-    for (int i = 0; i < HANDLES; i++) closed = vbr_close(&handle[i], keys, SLOTS, &report);
-    return closed == VBR_YES && report.live == 1 && keys[0] == 5 ? 0 : 7;
+    if (renewals < 10 || vbr_has(&handle[1], 5) != VBR_YES) return 7;
+    if (vbr_close_all(handle, HANDLES, keys, SLOTS, &report) != VBR_YES || report.live != 1) return 8;
+    return keys[0] == 5 ? 0 : 9;
 }
 
 int main(void) {

@@ -25,7 +25,7 @@ static void end(size_t count) {
 static uint32_t kept(size_t count, uint32_t slots, uint64_t added) {
     open_some(count, slots);
     for (uint64_t key = 0; key < added; key++) CHECK(vbr_insert(&handle[0], key) == VBR_YES);
-    uint32_t spare = vbr_spare(&handle[0]);
+    uint32_t spare = vbr_give_slots_back(&handle[0]);
     end(count);
     return spare;
 }
@@ -33,10 +33,10 @@ static uint32_t kept(size_t count, uint32_t slots, uint64_t added) {
 /* Each handle of a fresh set keeps as many, and each of a renewed one. */
 static uint32_t kept_at_once(size_t count, uint32_t slots) {
     open_some(count, slots);
-    uint32_t first = vbr_spare(&handle[0]);
-    for (size_t i = 1; i < count; i++) CHECK(vbr_spare(&handle[i]) == first);
+    uint32_t first = vbr_give_slots_back(&handle[0]);
+    for (size_t i = 1; i < count; i++) CHECK(vbr_give_slots_back(&handle[i]) == first);
     CHECK(vbr_renew_all(handle, count, slots, 16, VBR_MAX_EPOCH) == VBR_OK);
-    for (size_t i = 0; i < count; i++) CHECK(vbr_spare(&handle[i]) == first);
+    for (size_t i = 0; i < count; i++) CHECK(vbr_give_slots_back(&handle[i]) == first);
     end(count);
     return first;
 }
@@ -77,13 +77,13 @@ static void bounded_tries(void) {
     static uint64_t some[4096];
     for (uint64_t key = 0; key < 4096; key++) some[key] = key;
     CHECK(vbr_open_with(handle, 2, 1024, 16, VBR_MAX_EPOCH, some, 3) == VBR_OK);
-    CHECK(vbr_spare(&handle[0]) == 31 && vbr_spare(&handle[1]) == 32);
+    CHECK(vbr_give_slots_back(&handle[0]) == 31 && vbr_give_slots_back(&handle[1]) == 32);
     end(2);
     CHECK(vbr_open_with(handle, 2, 1024, 16, VBR_MAX_EPOCH, some, 200) == VBR_OK);
-    CHECK(vbr_spare(&handle[0]) == 32 - 4 && vbr_spare(&handle[1]) == 32);
+    CHECK(vbr_give_slots_back(&handle[0]) == 32 - 4 && vbr_give_slots_back(&handle[1]) == 32);
     end(2);
     CHECK(vbr_open_with(handle, 1, 4096 + 64, 4096, VBR_MAX_EPOCH, some, 4096) == VBR_OK);
-    CHECK(vbr_spare(&handle[0]) == 0);
+    CHECK(vbr_give_slots_back(&handle[0]) == 0);
     for (uint64_t key = 4096; key < 4096 + 64; key++) CHECK(vbr_insert(&handle[0], key) == VBR_YES);
     vbr_end_all(handle, 1);
 }
@@ -106,11 +106,11 @@ static void stay(void) {
 static void give_back(void) {
     open_some(1, 1000);
     for (uint64_t key = 0; key < 40; key++) CHECK(vbr_insert(&handle[0], key) == VBR_YES);
-    CHECK(vbr_spare(&handle[0]) == 32);
-    CHECK(vbr_insert(&handle[0], 5) == VBR_NO && vbr_has(&handle[0], 5) == VBR_YES && vbr_spare(&handle[0]) == 0);
-    CHECK(vbr_insert(&handle[0], 40) == VBR_YES && vbr_spare(&handle[0]) == 5);
+    CHECK(vbr_give_slots_back(&handle[0]) == 32);
+    CHECK(vbr_insert(&handle[0], 5) == VBR_NO && vbr_has(&handle[0], 5) == VBR_YES && vbr_give_slots_back(&handle[0]) == 0);
+    CHECK(vbr_insert(&handle[0], 40) == VBR_YES && vbr_give_slots_back(&handle[0]) == 5);
     for (uint64_t key = 41; key < 48; key++) CHECK(vbr_insert(&handle[0], key) == VBR_YES);
-    CHECK(vbr_spare(&handle[0]) == 29);
+    CHECK(vbr_give_slots_back(&handle[0]) == 29);
     end(1);
 }
 

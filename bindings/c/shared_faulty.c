@@ -13,18 +13,10 @@
    The third leaves most slots where they are: it is wrong at the few instructions that move the pool of a handle. */
 #define _GNU_SOURCE
 #include "faulty.h"
-#include "vbr_shared.h"
 
 #include <string.h>
 #include <sys/types.h>
 #include <unistd.h>
-
-vbr_answer __real_vbr_map_open_shared(vbr_shared_handle **handles, size_t count, uint32_t slots, uint32_t buckets, uint64_t last_epoch,
-                                      const vbr_entry *entries, size_t entry_count);
-vbr_answer __real_vbr_open_shared_in(int file, vbr_shared_handle **handles, size_t count, uint32_t slots, uint32_t buckets, uint64_t last_epoch,
-                                     const uint64_t *keys, size_t key_count);
-vbr_answer __real_vbr_inherit(vbr_shared_handle *handle);
-vbr_answer __real_vbr_renew_shared(vbr_shared_handle *handles, uint32_t slots, uint32_t buckets, uint64_t last_epoch);
 
 /* The handles of the last map that was opened; and what they own, as it was then or at the last renewal, for the second fault. A block of a
    mapping has its size before it. */

@@ -12,33 +12,8 @@
 
    The second and the fourth are of maps alone. */
 #include "faulty.h"
-#include "vbr.h"
 
 #include <sched.h>
-
-/* WITH names what only calls on maps have. */
-#ifdef OF_MAPS
-typedef vbr_map_handle a_handle;
-typedef vbr_entry an_item;
-#define CALL(call) vbr_map_##call
-#define REAL(call) __real_vbr_map_##call
-#define WRAP(call) __wrap_vbr_map_##call
-#define WITH(value) , value
-#else
-typedef vbr_handle a_handle;
-typedef uint64_t an_item;
-#define CALL(call) vbr_##call
-#define REAL(call) __real_vbr_##call
-#define WRAP(call) __wrap_vbr_##call
-#define WITH(value)
-#endif
-
-vbr_answer REAL(is_still)(a_handle *handle, const vbr_incarnation *at);
-vbr_answer REAL(remove_entry_within)(a_handle *handle, uint64_t key, const vbr_incarnation *at, uint32_t steps);
-vbr_answer REAL(hold_within)(a_handle *handle, uint32_t *slot, uint32_t steps);
-vbr_answer REAL(get_entry_within)(a_handle *handle, uint64_t key, vbr_incarnation *at, uint32_t steps);
-vbr_answer REAL(next_at_within)(a_handle *handle, vbr_cursor *cursor, uint64_t *key, vbr_incarnation *at, uint32_t steps);
-vbr_answer REAL(report_slots)(a_handle *handles, size_t count, an_item *items, uint32_t *slots, size_t room, vbr_report *report);
 
 /* What this thread found last, by a look-up and by a walk. */
 static _Thread_local vbr_incarnation found, walked;
@@ -55,8 +30,6 @@ vbr_answer WRAP(is_still)(a_handle *handle, const vbr_incarnation *at) {
 }
 
 #ifdef OF_MAPS
-vbr_answer REAL(replace_held_within)(a_handle *handle, uint64_t key, const vbr_incarnation *at, uint64_t value, uint32_t steps);
-
 vbr_answer WRAP(replace_held_within)(a_handle *handle, uint64_t key, const vbr_incarnation *at, uint64_t value, uint32_t steps) {
     if (now(4)) return CALL(let_go)(handle);
     vbr_answer told = REAL(replace_held_within)(handle, key, at, value, steps);

@@ -47,7 +47,7 @@ static void *send(void *of) {
         CHECK(vbr_insert_held(mine, key) == VBR_YES);
         if (fault == 2) write_message(slot, key);
     }
-    vbr_spare(mine);
+    vbr_give_slots_back(mine);
     return NULL;
 }
 
@@ -62,7 +62,7 @@ static void *receive(void *of) {
         CHECK(told == VBR_YES);
         if (fault != 1) read_message(at.slot, key);
         CHECK(vbr_remove_entry(mine, key, &at) == VBR_YES);
-        vbr_spare(mine); /* the senders want it */
+        vbr_give_slots_back(mine); /* the senders want it */
         if (fault == 1) read_message(at.slot, key);
     }
     return NULL;

@@ -101,7 +101,7 @@ static void *work(void *of) {
         if (x >> 16 & 1) pay(&w->map, owner, x >> 20 & 15), w->paid += x >> 20 & 15;
         else if ((x >> 16 & 255) == 0) w->ended += end(&w->map, owner);
         else (void)find(&w->map, owner, &seen, &at);
-        if (is_narrow) vbr_map_spare(&w->map); /* the others want what it has */
+        if (is_narrow) vbr_map_give_slots_back(&w->map); /* the others want what it has */
     }
     return NULL;
 }
@@ -145,12 +145,12 @@ int main(int count, char **words) {
     for (int i = 0; i < THREADS; i++) workers[i].random = 88172645463325252u + (uint64_t)i;
     serve(map);
     balance(&map[0]);
-    CHECK(vbr_map_records_renew(map, THREADS, NARROW, OWNERS, VBR_MAX_EPOCH, &accounts, NULL) == VBR_OK);
+    CHECK(vbr_map_records_renew_all(map, THREADS, NARROW, OWNERS, VBR_MAX_EPOCH, &accounts, NULL) == VBR_OK);
     is_narrow = 1;
     balance(&map[0]);
     serve(map);
     balance(&map[0]);
-    CHECK(vbr_map_records_renew(map, THREADS, 2 * WIDE, 2 * OWNERS, VBR_MAX_EPOCH, &accounts, NULL) == VBR_OK);
+    CHECK(vbr_map_records_renew_all(map, THREADS, 2 * WIDE, 2 * OWNERS, VBR_MAX_EPOCH, &accounts, NULL) == VBR_OK);
     is_narrow = 0;
     serve(map);
     paid = balance(&map[0]);

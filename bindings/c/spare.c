@@ -6,6 +6,10 @@
 
 #define CHECK(x) do { if (!(x)) { fprintf(stderr, "spare.c:%d: %s\n", __LINE__, #x); exit(1); } } while (0)
 
+#ifdef __GNUC__
+#pragma GCC diagnostic ignored "-Wdeprecated-declarations" /* it calls vbr_spare by its old name too */
+#endif
+
 enum { SLOTS = 100 };
 
 static vbr_handle handle[2];
@@ -42,11 +46,11 @@ static void give_back(void) {
     CHECK(found == SLOTS - 63);
     empty(&handle[1], found);
     uint32_t given = vbr_spare(&handle[0]);                   /* the other handle can have them */
-    CHECK(given == 63 && vbr_spare(&handle[0]) == 0);
+    CHECK(given == 63 && vbr_give_slots_back(&handle[0]) == 0);
     CHECK(fill(&handle[1]) == SLOTS);
     CHECK(vbr_insert(&handle[0], SLOTS) == VBR_NO_SLOT);
     CHECK(vbr_close_all(handle, 2, keys, SLOTS, &report) == VBR_YES && report.live == SLOTS);
-    CHECK(vbr_spare(&handle[0]) == 0); /* it is empty */
+    CHECK(vbr_give_slots_back(&handle[0]) == 0); /* it is empty */
 }
 
 /* Opens a set of one slot, and tries an insert by the first handle with a budget. */
@@ -65,7 +69,7 @@ static void give_back_what_was_taken(void) {
     vbr_end_all(handle, 2);
     CHECK(try_with(enough - 1) == VBR_OUT_OF_STEPS);
     CHECK(vbr_insert(&handle[1], 6) == VBR_NO_SLOT);
-    CHECK(vbr_spare(&handle[0]) == 1 && vbr_spare(&handle[0]) == 0);
+    CHECK(vbr_give_slots_back(&handle[0]) == 1 && vbr_give_slots_back(&handle[0]) == 0);
     CHECK(vbr_insert(&handle[1], 6) == VBR_YES && vbr_insert(&handle[0], 5) == VBR_NO_SLOT);
     CHECK(vbr_close_all(handle, 2, keys, SLOTS, &report) == VBR_YES && report.live == 1 && keys[0] == 6);
 }
@@ -90,7 +94,7 @@ static void take_in_reserve(void) {
     uint32_t found = fill(&handle[1]);
     CHECK(found == SLOTS - 63 && vbr_reserve(&handle[1], 1) == 0);
     empty(&handle[1], found);
-    CHECK(vbr_spare(&handle[0]) == 63 && fill(&handle[1]) == SLOTS);
+    CHECK(vbr_give_slots_back(&handle[0]) == 63 && fill(&handle[1]) == SLOTS);
     CHECK(vbr_close_all(handle, 2, keys, SLOTS, &report) == VBR_YES && report.live == SLOTS);
     CHECK(vbr_reserve(&handle[0], 32) == 0); /* it is empty */
 }

@@ -192,13 +192,13 @@ VBR_NODISCARD static inline vbr_answer value_remove_within(vbr_map_handle *handl
 }
 
 /* Every other look-up is a get, where the budget is no matter of single steps. */
-VBR_NODISCARD static inline vbr_answer value_look_up_within(vbr_map_handle *handle, uint64_t key, uint32_t budget) {
+VBR_NODISCARD static inline vbr_answer value_has_within(vbr_map_handle *handle, uint64_t key, uint32_t budget) {
     if (!value_takes_turns(budget)) return vbr_map_has_within(handle, key, budget);
     return value_get(handle, key, budget, &(uint64_t){0});
 }
 
 /* Look-ups of several keys, which find their values too. */
-static inline void value_look_up_all_within(vbr_map_handle *handle, const uint64_t *keys, size_t count, vbr_answer *answers, uint32_t budget) {
+static inline void value_has_all_within(vbr_map_handle *handle, const uint64_t *keys, size_t count, vbr_answer *answers, uint32_t budget) {
     vbr_found found[64];
     for (size_t from = 0; from < count; from += 64) {
         size_t some = count - from < 64 ? count - from : 64;
@@ -278,10 +278,6 @@ VBR_NODISCARD static inline vbr_answer value_remove_entry(vbr_map_handle *handle
     vbr_answer answer = vbr_map_remove_entry(handle, key, at);
     if (answer == VBR_YES) value_is_taken(key, at->value, began);
     return answer;
-}
-
-VBR_NODISCARD static inline vbr_answer value_open(vbr_map_handle *handles, size_t count, uint32_t slots, uint32_t buckets, uint64_t last_epoch) {
-    return vbr_map_open(handles, count, slots, buckets, last_epoch);
 }
 
 /* The entry of the last report with this key. */
@@ -375,7 +371,10 @@ VBR_NODISCARD static inline vbr_answer value_report_all(vbr_map_handle *handles,
     return answer;
 }
 
-/* The calls without a budget, with that of the handle. */
+#define OF_VALUES
+
+/* What follows is made of bindings/interface/vbr.h.in by tools/interface. */
+
 VBR_NODISCARD static inline vbr_answer value_insert(vbr_map_handle *handle, uint64_t key) {
     return value_insert_within(handle, key, vbr_map_steps_of(handle));
 }
@@ -384,81 +383,121 @@ VBR_NODISCARD static inline vbr_answer value_remove(vbr_map_handle *handle, uint
     return value_remove_within(handle, key, vbr_map_steps_of(handle));
 }
 
-VBR_NODISCARD static inline vbr_answer value_look_up(vbr_map_handle *handle, uint64_t key) {
-    return value_look_up_within(handle, key, vbr_map_steps_of(handle));
+VBR_NODISCARD static inline vbr_answer value_has(vbr_map_handle *handle, uint64_t key) {
+    return value_has_within(handle, key, vbr_map_steps_of(handle));
 }
 
-static inline void value_look_up_all(vbr_map_handle *handle, const uint64_t *keys, size_t count, vbr_answer *answers) {
-    value_look_up_all_within(handle, keys, count, answers, vbr_map_steps_of(handle));
+static inline void value_has_all(vbr_map_handle *handle, const uint64_t *keys, size_t count, vbr_answer *answers) {
+    value_has_all_within(handle, keys, count, answers, vbr_map_steps_of(handle));
 }
 
 VBR_NODISCARD static inline vbr_answer value_next(vbr_map_handle *handle, vbr_cursor *cursor, uint64_t *key) {
     return value_next_within(handle, cursor, key, vbr_map_steps_of(handle));
 }
 
-/* vbr_tsan.h has some of these too */
-#undef vbr_insert_within
-#undef vbr_remove_within
-#undef vbr_has_within
-#undef vbr_has_all_within
-#undef vbr_next_within
-#undef vbr_close
-#undef vbr_close_all
-#undef vbr_report_all
-#undef vbr_renew_all
 #undef vbr_balance
-#undef vbr_spare
-#undef vbr_reserve
-#undef vbr_drop
-#undef vbr_end_all
-#undef vbr_epoch
-#undef vbr_last_epoch
-#undef vbr_slots
-#undef vbr_buckets
-#undef vbr_seed
-#undef vbr_renew_all_seeded
-
-#define OF_VALUES
-#define vbr_handle vbr_map_handle
-#define vbr_open value_open
-#define vbr_open_with value_open_with
-#define vbr_open_seeded value_open_seeded
-#define vbr_open_many value_open_many
-#define vbr_open_many_seeded value_open_many_seeded
-#define vbr_insert value_insert
-#define vbr_insert_within value_insert_within
-#define vbr_remove value_remove
-#define vbr_remove_within value_remove_within
-#define vbr_has value_look_up
-#define vbr_has_within value_look_up_within
-#define vbr_has_all value_look_up_all
-#define vbr_has_all_within value_look_up_all_within
-#define vbr_next value_next
-#define vbr_next_within value_next_within
-#define vbr_hold vbr_map_hold
-#define vbr_insert_held value_insert_held
-#define vbr_get_entry value_get_entry
-#define vbr_remove_entry value_remove_entry
-#define vbr_close value_close
-#define vbr_close_all value_close_all
-#define vbr_report_all value_report_all
-#define vbr_renew_all vbr_map_renew_all
 #define vbr_balance vbr_map_balance
-#define vbr_drop vbr_map_drop
-#define vbr_end_all vbr_map_end_all
-#define vbr_epoch vbr_map_epoch
-#define vbr_last_epoch vbr_map_last_epoch
-#define vbr_steps_of vbr_map_steps_of
-#define vbr_slots vbr_map_slots
+#undef vbr_buckets
 #define vbr_buckets vbr_map_buckets
-#define vbr_seed vbr_map_seed
-#define vbr_renew_all_seeded vbr_map_renew_all_seeded
-#define vbr_spare vbr_map_spare
-#define vbr_reserve vbr_map_reserve
-#define vbr_lender vbr_map_lender
-#define vbr_lender_init vbr_map_lender_init
-#define vbr_lender_init_many vbr_map_lender_init_many
-#define vbr_lend vbr_map_lend
+#undef vbr_close
+#define vbr_close value_close
+#undef vbr_close_all
+#define vbr_close_all value_close_all
+#undef vbr_drop
+#define vbr_drop vbr_map_drop
+#undef vbr_end_all
+#define vbr_end_all vbr_map_end_all
+#undef vbr_epoch
+#define vbr_epoch vbr_map_epoch
+#undef vbr_get_entry
+#define vbr_get_entry value_get_entry
+#undef vbr_get_entry_within
+#define vbr_get_entry_within vbr_map_get_entry_within
+#undef vbr_give_back
 #define vbr_give_back vbr_map_give_back
-#define vbr_lender_renew vbr_map_lender_renew
+#undef vbr_give_slots_back
+#define vbr_give_slots_back vbr_map_give_slots_back
+#undef vbr_handle
+#define vbr_handle vbr_map_handle
+#undef vbr_has
+#define vbr_has value_has
+#undef vbr_has_all
+#define vbr_has_all value_has_all
+#undef vbr_has_all_within
+#define vbr_has_all_within value_has_all_within
+#undef vbr_has_within
+#define vbr_has_within value_has_within
+#undef vbr_hold
+#define vbr_hold vbr_map_hold
+#undef vbr_hold_within
+#define vbr_hold_within vbr_map_hold_within
+#undef vbr_insert
+#define vbr_insert value_insert
+#undef vbr_insert_held
+#define vbr_insert_held value_insert_held
+#undef vbr_insert_held_within
+#define vbr_insert_held_within vbr_map_insert_held_within
+#undef vbr_insert_within
+#define vbr_insert_within value_insert_within
+#undef vbr_is_still
+#define vbr_is_still vbr_map_is_still
+#undef vbr_last_epoch
+#define vbr_last_epoch vbr_map_last_epoch
+#undef vbr_lend
+#define vbr_lend vbr_map_lend
+#undef vbr_lender
+#define vbr_lender vbr_map_lender
+#undef vbr_lender_init
+#define vbr_lender_init vbr_map_lender_init
+#undef vbr_lender_init_many
+#define vbr_lender_init_many vbr_map_lender_init_many
+#undef vbr_lender_lend_on
 #define vbr_lender_lend_on vbr_map_lender_lend_on
+#undef vbr_lender_renew
+#define vbr_lender_renew vbr_map_lender_renew
+#undef vbr_let_go
+#define vbr_let_go vbr_map_let_go
+#undef vbr_next
+#define vbr_next value_next
+#undef vbr_next_at
+#define vbr_next_at vbr_map_next_at
+#undef vbr_next_at_within
+#define vbr_next_at_within vbr_map_next_at_within
+#undef vbr_next_within
+#define vbr_next_within value_next_within
+#undef vbr_open
+#define vbr_open vbr_map_open
+#undef vbr_open_many
+#define vbr_open_many value_open_many
+#undef vbr_open_many_seeded
+#define vbr_open_many_seeded value_open_many_seeded
+#undef vbr_open_seeded
+#define vbr_open_seeded value_open_seeded
+#undef vbr_open_with
+#define vbr_open_with value_open_with
+#undef vbr_remove
+#define vbr_remove value_remove
+#undef vbr_remove_entry
+#define vbr_remove_entry value_remove_entry
+#undef vbr_remove_entry_within
+#define vbr_remove_entry_within vbr_map_remove_entry_within
+#undef vbr_remove_within
+#define vbr_remove_within value_remove_within
+#undef vbr_renew_all
+#define vbr_renew_all vbr_map_renew_all
+#undef vbr_renew_all_seeded
+#define vbr_renew_all_seeded vbr_map_renew_all_seeded
+#undef vbr_report_all
+#define vbr_report_all value_report_all
+#undef vbr_report_slots
+#define vbr_report_slots vbr_map_report_slots
+#undef vbr_reserve
+#define vbr_reserve vbr_map_reserve
+#undef vbr_seed
+#define vbr_seed vbr_map_seed
+#undef vbr_slots
+#define vbr_slots vbr_map_slots
+#undef vbr_spare
+#define vbr_spare vbr_map_spare
+#undef vbr_steps_of
+#define vbr_steps_of vbr_map_steps_of

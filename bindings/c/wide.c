@@ -28,7 +28,7 @@ static int given_back_ahead_of_the_search(void) {
     vbr_handle two[2] = {{0}};
     CHECK(vbr_open(two, 2, 1000, 4, VBR_MAX_EPOCH) == VBR_OK);
     for (uint64_t key = 0; key < 500; key++) CHECK(vbr_insert(&two[0], key) == VBR_YES);
-    CHECK(vbr_spare(&two[0]) >= 28); /* its reserve: there are as many slots as keys, and none beyond them */
+    CHECK(vbr_give_slots_back(&two[0]) >= 28); /* its reserve: there are as many slots as keys, and none beyond them */
     for (uint64_t key = 500; key < 1000; key++) CHECK(vbr_insert(&two[1], key) == VBR_YES);
     for (uint64_t key = 0; key < 500; key++) CHECK(vbr_remove(&two[0], key) == VBR_YES);
     uint64_t found = 0;

@@ -63,7 +63,7 @@ static int example() {
     auto shape = vbr::shape::for_keys(100, 3);
     vbr::lender later; // lends none until it is assigned
     CHECK(!later.lend() && !later.lend_wait() && !later.lend_for(1s) && !later.lend_owned() && later.handles() + later.slots() == 0);
-    CHECK(later.close() == vbr::refusal::no_handle && later.end_all() == vbr::refusal::no_handle && later.last_epoch() == 0);
+    CHECK(later.close() == vbr::refusal::no_handle && later.end() == vbr::refusal::no_handle && later.last_epoch() == 0);
     vbr::lender lender(vbr::open(shape, 3).value());
     std::vector<int> beside(lender.handles());
     if (lender.slots() != shape.slots || lender.buckets() != shape.buckets) return 1;
@@ -96,15 +96,15 @@ static int ends_without_a_report() {
     auto another = lending<Of>(3);
     {
         auto mine = another.lend();
-        CHECK(Of::adds(*mine, 1) && another.end_all() == vbr::refusal::on_loan && another.handles() == 3 && Of::adds(*mine, 2));
+        CHECK(Of::adds(*mine, 1) && another.end() == vbr::refusal::on_loan && another.handles() == 3 && Of::adds(*mine, 2));
     }
-    vbr::result<void> ended = another.end_all();
-    CHECK(ended && another.handles() == 0 && !another.lend() && !another.lend_wait() && another.end_all() == vbr::refusal::no_handle);
+    vbr::result<void> ended = another.end();
+    CHECK(ended && another.handles() == 0 && !another.lend() && !another.lend_wait() && another.end() == vbr::refusal::no_handle);
     auto handles = Of::open(3);
     auto kept = std::move(handles[1]);
     typename Of::lender lender(std::move(handles));
     CHECK(lender.handles() == 2 && Of::adds(*lender.lend(), 7));
-    CHECK(lender.end_all());
+    CHECK(lender.end());
     CHECK(Of::keys(kept.close()) == keys{7}); // while one is kept nothing is lost
     return 0;
 }

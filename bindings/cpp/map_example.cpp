@@ -1,12 +1,11 @@
 // The map in C++: the examples of vbr.hpp (bindings/headers sees that their lines are here), values that change, ranges of entries,
-// walks, closes, ends of handles, exceptions, and loans.
+// walks and closes; ends.cpp has ends of handles.
 #include "vbr_records.hpp"
 
 #include <array>
 #include <atomic>
 #include <cstdio>
 #include <map>
-#include <stdexcept>
 #include <string>
 #include <thread>
 #include <type_traits>
@@ -239,25 +238,8 @@ static int renewals() {
     return 0;
 }
 
-// Handles whose life ends lose nothing: the last one gets all, whichever it is, and in whatever thread.
-static int ends() {
-    for (std::size_t last = 0; last < 3; last++) {
-        std::vector<vbr::map_handle> handles = vbr::open_map(vbr::shape::for_keys(64, 3), 3).value();
-        vbr::map_handle kept = std::move(handles[last]);
-        std::vector<std::thread> threads;
-        for (std::size_t i = 0; i < 3; i++)
-            if (i != last)
-                threads.emplace_back([mine = std::move(handles[i]), i]() mutable {
-                    for (std::uint64_t key = i; key < 60; key += 3)
-                        if (mine.insert(key, ~key) != true) return;
-                    if (i == 1) mine = vbr::map_handle();
-                });
-        for (std::thread &thread : threads) thread.join();
-        threads.clear();
-        list left = told(kept);
-        CHECK(left.size() == 40);
-        for (vbr::entry each : left) CHECK(each.key % 3 != last && each.value == ~each.key);
-    }
+// Ends without a report.
+static int ends_of_all() {
     std::vector<vbr::map_handle> handles = vbr::open_map(vbr::shape::for_keys(64, 3), 3).value();
     CHECK(*handles[1].insert(5, 50) && !handles[1].close().value());
     vbr::map_handle::end_all(handles);
@@ -265,64 +247,13 @@ static int ends() {
     return 0;
 }
 
-// Inserts a key by each of the handles that are open, and throws: it owns the handles, so they end.
-static void inserts_and_throws(std::vector<vbr::map_handle> owned) {
-    for (std::size_t i = 0; i < owned.size(); i++)
-        if (owned[i].is_open() && vbr::is_refusal(owned[i].insert(i, i + 7))) return;
-    throw std::runtime_error("given up");
-}
-
-// An exception that ends handles loses nothing: the last close gets all, whichever handle is kept.
-static int exceptions() {
-    for (std::size_t last = 0; last < 3; last++) {
-        std::vector<vbr::map_handle> handles = vbr::open_map(vbr::shape::for_keys(64, 3), 3).value();
-        vbr::map_handle kept = std::move(handles[last]);
-        bool caught = false;
-        try {
-            inserts_and_throws(std::move(handles));
-        } catch (const std::runtime_error &) {
-            caught = true;
-        }
-        CHECK(caught && *kept.insert(last, last + 7) && told(kept) == (list{{0, 7}, {1, 8}, {2, 9}}));
-    }
-    return 0;
-}
-
 // A function that takes the pass of a handle, or of one on loan.
 static std::uint64_t got(vbr::map_pass &mine, std::uint64_t key) { return mine.get(key).value().value_or(0); }
 
-// Threads that borrow two handles: each stores keys of its own, and takes back what it stored.
-static int loans() {
+static int lent() {
     vbr::map_lender lender(vbr::open_map(vbr::shape::for_keys(1000, 2), 2).value());
-    {
-        vbr::map_loan mine = lender.lend();
-        CHECK(mine && *mine->insert(1000, 1) && got(*mine, 1000) == 1);
-    }
-    std::atomic<int> wrong{0};
-    std::vector<std::thread> threads;
-    for (std::uint64_t i = 0; i < 6; i++)
-        threads.emplace_back([&lender, &wrong, i] {
-            for (std::uint64_t key = i; key < 600;) {
-                vbr::map_loan mine = lender.lend();
-                if (!mine) {
-                    std::this_thread::yield();
-                    continue;
-                }
-                if (mine->insert(key, i) != true || mine->get(key) != i) wrong++;
-                if (key % 2 && mine->remove(key) != i) wrong++;
-                key += 6;
-            }
-        });
-    for (std::thread &thread : threads) thread.join();
-    {
-        vbr::map_loan mine = lender.lend();
-        int walked = 0;
-        for (auto [key, value] : mine->entries()) walked += value == (key == 1000 ? 1 : key % 6);
-        CHECK(walked == 301);
-    }
-    vbr::map_report report = lender.close().value().value();
-    CHECK(wrong == 0 && report.entries.size() == 301);
-    for (vbr::entry each : report.entries) CHECK(each.value == (each.key == 1000 ? 1 : each.key % 6));
+    vbr::map_loan mine = lender.lend();
+    CHECK(mine && *mine->insert(1000, 1) && got(*mine, 1000) == 1);
     return 0;
 }
 
@@ -420,9 +351,9 @@ static int records_beside() {
     std::optional<vbr::map_incarnation> at = mine.get_entry(6).value(); // at->slot() is where 6 stands
     account copy = accounts.copy(*at);
     CHECK(mine.is_still(*at) == true && copy.balance == 150);
-    vbr::result<void> renewed = accounts.renew(both, vbr::shape::for_keys(2048, 2));
+    vbr::result<void> renewed = accounts.renew_all(both, vbr::shape::for_keys(2048, 2));
     CHECK(renewed && mine.slots() == 2048 + 2 * 64 && accounts.read(mine, 6).value()->record.balance == 150);
-    CHECK(accounts.renew(both, vbr::shape{0, 8}).error() == vbr::refusal::bad_shape && accounts.read(mine, 6).value()->at.slot() == 0);
+    CHECK(accounts.renew_all(both, vbr::shape{0, 8}).error() == vbr::refusal::bad_shape && accounts.read(mine, 6).value()->at.slot() == 0);
     vbr::records<account> moved = std::move(accounts);
     CHECK(moved.read(other, 6).value()->record.balance == 150);
     return 0;
@@ -447,7 +378,7 @@ static int records_beside_loans() {
 
 int main() {
     if (example() || all_handles() || calls() || many_keys() || changes() || updates() || refusals() || ranges() || walks()) return 1;
-    if (crowds() || renewals() || ends() || exceptions() || loans() || slots_in_hand() || records_beside() || records_beside_loans()) return 1;
+    if (crowds() || renewals() || ends_of_all() || lent() || slots_in_hand() || records_beside() || records_beside_loans()) return 1;
     std::puts("example of maps in C++: passed");
     return 0;
 }

@@ -75,12 +75,19 @@ void thrown_away(vbr::handle &set, vbr::map_handle &map, vbr::lender &lender, st
     *map.compare_exchange(5, 70, 71); // refused
     lender.lend(); // refused
     lender.renew(shape); // refused
-    lender.end_all(); // refused
+    lender.end(); // refused
     vbr::open(shape, 1); // refused
     vbr::handle::renew_all(handles, shape); // refused
     vbr::handle::report_all(handles); // refused
-    set.spare();
+    set.give_slots_back();
     vbr::handle::end_all(handles);
+}
+
+// An old name is reported.
+std::size_t old_names(vbr::handle &set, vbr::lender &lender) {
+    set.spare(); // refused
+    if (lender.end_all().has_value()) return 1; // refused
+    return vbr::max_handles; // refused
 }
 
 // No refusal is taken for a no or an absence, and no absence for a yes.

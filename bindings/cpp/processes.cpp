@@ -128,7 +128,7 @@ static void calls() {
 // How many more keys have room, by one handle while the others have no slots.
 template <class Shared>
 static std::uint32_t room_of(const Shared &all) {
-    for (std::size_t i = 0; i < all.handles(); i++) all.claim(i).turn().spare();
+    for (std::size_t i = 0; i < all.handles(); i++) all.claim(i).turn().give_slots_back();
     auto mine = all.claim(0);
     auto turn = mine.turn();
     std::uint32_t many = 0;
@@ -136,7 +136,7 @@ static std::uint32_t room_of(const Shared &all) {
     for (told = tried(turn, 1000); told == true; told = tried(turn, 1000 + many)) many++;
     CHECK(told == vbr::refusal::no_slot);
     for (std::uint32_t i = 0; i < many; i++) CHECK(take(turn, 1000 + i));
-    turn.spare();
+    turn.give_slots_back();
     return many;
 }
 
@@ -159,7 +159,7 @@ static void deaths() {
         }));
         CHECK(!is_in_turn || (all.report() == vbr::refusal::on_loan && all.renew(shape).error() == vbr::refusal::on_loan));
         CHECK(all.inherit(1).value() == !is_in_turn && all.inherit(1).value());
-        CHECK(all.claim(1).turn().spare() == (is_in_turn ? 0u : 63u));
+        CHECK(all.claim(1).turn().give_slots_back() == (is_in_turn ? 0u : 63u));
     }
     CHECK((keys_of(all.report().value()) == std::vector<std::uint64_t>{1, 2}));
     std::uint32_t before = room_of(all), after = shape.slots - 2;

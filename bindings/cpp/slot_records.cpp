@@ -81,7 +81,7 @@ public:
         return 0;
     }
 
-    void spare() noexcept { map.spare(); }
+    void give_slots_back() noexcept { map.give_slots_back(); }
 
 private:
     // What a careless reader has.
@@ -110,7 +110,7 @@ static void work(bank mine, std::uint64_t random) {
         if (random >> 16 & 1) mine.pay(owner, amount), paid += amount;
         else if ((random >> 16 & 255) == 0) ended += mine.end(owner);
         else static_cast<void>(mine.find(owner));
-        if (is_narrow) mine.spare(); // the others want what it has
+        if (is_narrow) mine.give_slots_back(); // the others want what it has
     }
 }
 
@@ -132,7 +132,7 @@ int main(int count, char **words) {
     std::vector<vbr::map_handle> handles = vbr::open_map(WIDE, THREADS).value();
     vbr::records<account> records(handles[0].slots());
     serve(handles, records);
-    CHECK(records.renew(handles, NARROW).has_value()); // the records go along
+    CHECK(records.renew_all(handles, NARROW).has_value()); // the records go along
     is_narrow = true;
     serve(handles, records);
     CHECK(ended > 0);

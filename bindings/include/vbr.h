@@ -6,8 +6,9 @@
        vbr_answer there = vbr_has(&handle[1], 5);           // VBR_YES, from another thread too
        vbr_end_all(handle, 2);                              // and their memory is freed
 
-   Compare an answer with VBR_YES: a refusal is below 0, and so is true. Link with -lvbr (`pkg-config --cflags --libs vbr`). What holds of
-   every call (maps, owners, pointers, threads, order, walks, sizes, budgets) is in vbr(3), which is made of docs/C.md and docs/USING.md. */
+   Compare an answer with VBR_YES: refusals are negative, hence true in an `if`. Link with -lvbr (`pkg-config --cflags --libs vbr`).
+   What holds for every call (maps, owners, pointers, threads, order, walks, sizes, budgets) is in vbr(3), which is made of docs/C.md
+   and docs/USING.md. This header needs C99 or C++11, or a later standard. It is tried with GCC and Clang. */
 #ifndef VBR_H
 #define VBR_H
 
@@ -20,7 +21,7 @@ extern "C" {
 
 /* Versions and attributes */
 
-/* The version of this header, and the same as one number. vbr_version returns that of the library.
+/* The version of this header, and the same as one number. vbr_version returns the library's.
 
        if (VBR_VERSION < 3000) return 1; // the header is older than 0.3.0 */
 #define VBR_VERSION_MAJOR 0
@@ -28,8 +29,8 @@ extern "C" {
 #define VBR_VERSION_PATCH 0
 #define VBR_VERSION (VBR_VERSION_MAJOR * 1000000u + VBR_VERSION_MINOR * 1000u + VBR_VERSION_PATCH)
 
-/* VBR_NODISCARD: an answer that is thrown away may be a refusal. VBR_NOEXCEPT: no call throws or unwinds. VBR_NONNULL: no pointer
-   is null. VBR_NONNULL_REST: none is but the first. VBR_NONNULL_FIRST: the first isn't. */
+/* VBR_NODISCARD: an answer that is thrown away may be a refusal. VBR_NOEXCEPT: no call throws or unwinds. VBR_NONNULL: no pointer may
+   be null. VBR_NONNULL_REST: only the first may be. VBR_NONNULL_FIRST: the first may not. */
 #if (defined(__cplusplus) && __cplusplus >= 201703L) || (defined(__STDC_VERSION__) && __STDC_VERSION__ > 201710L)
 #define VBR_NODISCARD [[nodiscard]]
 #elif defined(__GNUC__)
@@ -57,27 +58,33 @@ extern "C" {
 #define VBR_NONNULL_FIRST
 #endif
 
-/* The version of the library, which is VBR_VERSION where the header is of the same one. It has no handle, and can't fail.
+/* Makes a call whose answer doesn't matter. A cast to void alone still warns with GCC.
+
+       VBR_IGNORE(vbr_insert(&handle[0], 7)); // whether 7 was absent, there, or refused */
+#define VBR_IGNORE(call) ((void)!(call))
+
+/* Returns the library's version; equal to VBR_VERSION if header and library match. It needs no handle, and can't fail.
 
        if (vbr_version() != VBR_VERSION) return 1; // the library is of another version than the header */
 VBR_NODISCARD uint32_t vbr_version(void) VBR_NOEXCEPT;
 
 /* Numbers and answers */
 
-/* The most slots, buckets and handles of a set, and a last epoch that every shape takes. VBR_MAX_EPOCH is the greatest last epoch of
-   16,777,215 slots. With more it means the greatest that they leave room for. Small sets may have a greater one: see vbr_max_epoch.
+/* The most slots and buckets of a set, a last epoch that every shape accepts, and the most handles that vbr_open, vbr_open_with and
+   vbr_open_seeded open; vbr_open_many opens more. VBR_MAX_EPOCH is the greatest last epoch for 16,777,215 slots. With more slots it
+   stands for the greatest that they leave room for. Small sets may have a greater one: see vbr_max_epoch.
 
-       uint32_t slots = 1024 + 64 * VBR_MAX_HANDLES, buckets = 1024;
+       uint32_t slots = 1024 + 64 * VBR_MAX_FEW_HANDLES, buckets = 1024;
        if (slots > VBR_MAX_SLOTS || buckets > VBR_MAX_BUCKETS) return 1; // else vbr_open answers VBR_BAD_SHAPE
-       vbr_handle most[VBR_MAX_HANDLES] = {{0}};
-       if (vbr_open(most, VBR_MAX_HANDLES, slots, buckets, VBR_MAX_EPOCH) != VBR_OK) return 1; */
+       vbr_handle most[VBR_MAX_FEW_HANDLES] = {{0}};
+       if (vbr_open(most, VBR_MAX_FEW_HANDLES, slots, buckets, VBR_MAX_EPOCH) != VBR_OK) return 1; */
 #define VBR_MAX_SLOTS 2147483647u
 #define VBR_MAX_BUCKETS 2147483648u
 #define VBR_MAX_EPOCH 549755813887ull
-#define VBR_MAX_HANDLES 64u
+#define VBR_MAX_FEW_HANDLES 64u
 
-/* The greatest last epoch of a set or a map with so many slots; 0 where there can't be so many. The more bits the number of slots has,
-   the fewer are left for the epoch.
+/* Returns the greatest last epoch of a set or a map with this many slots, or 0 if none can have so many. The more bits the number of
+   slots has, the fewer are left for the epoch.
 
        uint64_t last = vbr_max_epoch(1024 + 2 * 64); // 2^52 - 1, which is more than VBR_MAX_EPOCH */
 VBR_NODISCARD static inline uint64_t vbr_max_epoch(uint32_t slots) VBR_NOEXCEPT {
@@ -87,22 +94,26 @@ VBR_NODISCARD static inline uint64_t vbr_max_epoch(uint32_t slots) VBR_NOEXCEPT 
     return most;
 }
 
-/* The most handles of a set or a map that vbr_open_many and vbr_map_open_many open.
+/* The most handles that vbr_open_many and vbr_map_open_many accept.
 
        static vbr_handle many[1000];
        if (1000 > VBR_MAX_MANY_HANDLES) return 1; // else vbr_open_many answers VBR_BAD_COUNT */
 #define VBR_MAX_MANY_HANDLES 65536u
 
-/* The ample budget, which the calls of a handle have unless it is given another. In short buckets a call on a key runs out of so many
-   steps only where others disturb it more than a hundred times while it runs: vbr(3) says what disturbs a call, and has the numbers. A
-   call of a walk may, where it passes many empty buckets. A call that may take a slot, given just this number, has a step more for each
-   64 slots above 16,777,216.
+#ifdef __GNUC__
+#define VBR_MAX_HANDLES _Pragma("GCC warning \"VBR_MAX_HANDLES is the old name of VBR_MAX_FEW_HANDLES, for one version\"") VBR_MAX_FEW_HANDLES
+#else
+#define VBR_MAX_HANDLES VBR_MAX_FEW_HANDLES
+#endif
+
+/* The default budget, called ample. Enough for any call on a key while buckets are short, unless others disturb it more than a hundred
+   times while it runs: vbr(3) says what disturbs a call, and gives the numbers. A call of a walk may run out of it if it passes many
+   empty buckets. A call that may take a slot, given just this number, has one step more for each 64 slots above 16,777,216.
 
        handle[0].steps = VBR_AMPLE_STEPS; // which 0 says too */
 #define VBR_AMPLE_STEPS 400000u
-#define VBR_AMPLE_BUDGET(slots) (100000u + (slots) / 64u) /* the old name of an ample budget, for one version */
 
-/* What a call answers. Numbers below 0 are refusals. It takes 32 bits, whatever size a compiler gives to enums.
+/* The answer of a call. Negative numbers are refusals. It takes 32 bits, whatever size a compiler gives enums.
 
        uint32_t steps = 1;
        vbr_answer told = vbr_insert_within(&handle[0], 5, steps); // one step is too few
@@ -144,22 +155,22 @@ typedef enum vbr_answer {
     VBR_NO_SLOT = -2,      /* the handle found no slot for a node; no call was made; insert, get_or_insert: the key is absent */
     VBR_EPOCH_SPENT = -3,  /* a node is wanted and the last epoch is spent; no call was made; renew the set;
                               insert, get_or_insert: the key is absent */
-    VBR_NO_HANDLE = -4,    /* the handle is empty, or null where it may be; nothing was done */
+    VBR_NO_HANDLE = -4,    /* the handle is empty, or null where null is allowed; nothing was done */
     VBR_IN_USE = -5,       /* open: one of the handles is not empty; nothing was done */
     VBR_BAD_SHAPE = -6,    /* open, renew_all: slots, buckets or last_epoch is out of range; nothing was done */
     VBR_BAD_COUNT = -7,    /* open: count is not from 1 to 64, of open_many to 65,536; nothing was done */
     VBR_NO_MEMORY = -8,    /* open: nothing was done; close: it is the last and stays as it was; report_all, close_all,
                               renew_all: they are as they were */
-    VBR_LOST = -9,         /* close: it was the last, and a pass is not there; the set is gone. A handle
-                              that is dropped gives its pass back, and one that is forgotten keeps its
-                              set open (VBR_NO), so no program is known to get this */
+    VBR_LOST = -9,         /* close: it was the last, and a pass is missing; the set is gone, and its memory is freed.
+                              A dropped handle gives its pass back, and a forgotten one keeps its set open (VBR_NO),
+                              so no program is known to get this */
     VBR_BAD_KEYS = -10,    /* open_with: the keys do not ascend, or there are more than slots; nothing
                               was done */
-    VBR_NO_ROOM = -11,     /* close: it is the last and stays as it was; the report has how many keys; renew_all: there
+    VBR_NO_ROOM = -11,     /* close: it is the last and stays as it was; the report says how many keys; renew_all: there
                               are more keys than slots, and they are as they were; open_shared_in: the file is too
                               short, and nothing was done */
-    VBR_MISSING = -12,     /* report_all, close_all, renew_all: not all handles that were opened; they are as they were */
-    VBR_EMPTY VBR_DEPRECATED("VBR_NO_HANDLE") = -4, /* the old name of VBR_NO_HANDLE, for one version */
+    VBR_MISSING = -12,     /* report_all, close_all, renew_all: not all handles that were opened, each once; they are as they
+                              were */
     VBR_MIXED = -13,       /* report_all, close_all, renew_all: handles of different sets; they are as they were */
     VBR_HELD = -14         /* hold, insert, replace, put, get_or_insert, compare_exchange: a slot is in hand, and the call
                               would take another one; let_go, insert_held, replace_held, put_held: none is in hand;
@@ -171,18 +182,18 @@ static_assert(sizeof(vbr_answer) == 4, "the library answers by 32 bits");
 _Static_assert(sizeof(vbr_answer) == 4, "the library answers by 32 bits");
 #endif
 
-/* What an answer means, in a few words, for a message: "no slot" of VBR_NO_SLOT. The text is the library's, and stays; another
-   number has one too.
+/* What an answer means, in a few words, for a message: "no slot" of VBR_NO_SLOT. VBR_OK and VBR_NO are one number, so they have one
+   text: "no; of an opening or a renewal, done". The text belongs to the library, and stays. Any other number gets a text as well.
 
        printf("the insert: %s\n", vbr_answer_text(told)); */
 VBR_NODISCARD const char *vbr_answer_text(vbr_answer answer) VBR_NOEXCEPT;
 
 /* Handles */
 
-/* A handle to a set. It is {0}, or {} in C++, until it is opened, or has a budget: `steps` is that of its calls which are given
-   none, and 0 is VBR_AMPLE_STEPS. A program sets it before the opening or between two calls, and no call writes it. `in_call` is the
-   mark of a handle that processes share, which vbr_begin and vbr_end of vbr_shared.h set and clear; other handles leave it 0. What the
-   handle owns is the library's.
+/* A handle to a set. Initialise it with {0}, or {} in C++, or set only `steps`, the budget of calls that don't name one; 0 stands
+   for VBR_AMPLE_STEPS. A program sets `steps` before the opening or between two calls, and no call writes it. `in_call` marks a
+   handle that processes share: vbr_begin and vbr_end of vbr_shared.h set and clear it, and in other handles it stays 0. `owned`
+   belongs to the library.
 
        vbr_handle handle[2] = {{0}};
        handle[1].steps = 5000; // the calls by this handle make at most so many steps */
@@ -192,7 +203,7 @@ typedef struct vbr_handle {
     uint32_t in_call;
 } vbr_handle;
 
-/* The budget of a handle's calls.
+/* Returns the budget of a handle's calls.
 
        uint32_t steps = vbr_steps_of(&handle[0]); // VBR_AMPLE_STEPS, unless handle[0].steps is another */
 VBR_NODISCARD static inline uint32_t vbr_steps_of(const vbr_handle *handle) VBR_NOEXCEPT {
@@ -208,13 +219,12 @@ typedef struct vbr_report {
     uint32_t marked; /* how many removed nodes were still in a list */
     uint32_t free;   /* how many slots had no node in a list */
 } vbr_report;
-typedef vbr_report vbr_totals VBR_DEPRECATED("vbr_report");
 
 /* Opening a set */
 
-/* Opens an empty set and fills `count` handles, which are empty, so each is {0}, or has a budget: VBR_OK. Else VBR_IN_USE,
-   VBR_BAD_SHAPE, VBR_BAD_COUNT or VBR_NO_MEMORY, tested in this order, and the handles are as they were. Each handle takes its
-   reserve, as vbr_reserve says.
+/* Opens an empty set and fills `count` handles, which must be empty: each is {0}, or has only a budget. VBR_OK. Else VBR_BAD_SHAPE,
+   VBR_BAD_COUNT, VBR_IN_USE or VBR_NO_MEMORY, tested in this order, and the handles stay as they were: none is read before the
+   count is tested. Each handle takes its reserve, as vbr_reserve says.
 
        vbr_handle handle[2] = {{0}};
        if (vbr_open(handle, 2, 1024 + 2 * 64, 1024, VBR_MAX_EPOCH) != VBR_OK) return 1; */
@@ -222,8 +232,8 @@ VBR_NODISCARD vbr_answer vbr_open(vbr_handle *handles, size_t count, uint32_t sl
                                   uint64_t last_epoch) VBR_NOEXCEPT VBR_NONNULL;
 
 /* Opens a set of `key_count` keys, which ascend, each above the one before, and fills the handles as vbr_open does: VBR_OK. Else
-   VBR_IN_USE, VBR_BAD_SHAPE, VBR_BAD_COUNT, VBR_BAD_KEYS or VBR_NO_MEMORY, tested in this order, and the handles are as they were.
-   The epoch is 1. It takes the memory of vbr_open, and 8 bytes for each key while it runs, and goes once over the keys.
+   VBR_BAD_SHAPE, VBR_BAD_COUNT, VBR_IN_USE, VBR_BAD_KEYS or VBR_NO_MEMORY, tested in this order, and the handles stay as they were.
+   The epoch is 1. It takes the memory of vbr_open, and 8 bytes for each key while it runs, and goes over the keys once.
 
        static const uint64_t some[3] = {2, 5, 9};
        if (vbr_open_with(handle, 2, 1024 + 2 * 64, 1024, VBR_MAX_EPOCH, some, 3) != VBR_OK) return 1; */
@@ -231,7 +241,7 @@ VBR_NODISCARD vbr_answer vbr_open_with(vbr_handle *handles, size_t count, uint32
                                        const uint64_t *keys, size_t key_count) VBR_NOEXCEPT VBR_NONNULL;
 
 /* Opens a set as vbr_open_with does, of `key_count` keys, which may be none, with its keys spread over the buckets by this seed:
-   VBR_OK. What it answers else is what vbr_open_with answers, and means the same. With the same seed and number of buckets each key
+   VBR_OK. Otherwise it returns what vbr_open_with returns, with the same meaning. With the same seed and number of buckets each key
    has the same bucket, so walks have the same order and calls take as many steps. With seed 0 keys are multiplied by 2^64 over the
    golden ratio, as all libraries before 0.3.0 did. vbr(3) says which seed to choose.
 
@@ -239,20 +249,23 @@ VBR_NODISCARD vbr_answer vbr_open_with(vbr_handle *handles, size_t count, uint32
 VBR_NODISCARD vbr_answer vbr_open_seeded(vbr_handle *handles, size_t count, uint32_t slots, uint32_t buckets, uint64_t last_epoch,
                                          uint64_t seed, const uint64_t *keys, size_t key_count) VBR_NOEXCEPT VBR_NONNULL;
 
-/* A seed that the system draws at random, as vbr_open has it: by getrandom, and without waiting. Where the system has no random
-   number yet, shortly after it was started, or refuses the call, the seed is made of the time and an address of the stack: it
-   differs from one to the next, and somebody outside may guess it. It can't fail.
+/* Returns a seed that the system draws at random, as vbr_open does: by getrandom, and without waiting. If the system has no random
+   number yet, shortly after its start, or refuses the call, the seed is made from the time and an address of the stack: it differs
+   from call to call, and somebody outside may guess it. It can't fail.
 
        vbr_answer renewed = vbr_renew_all_seeded(handle, 2, 2048 + 2 * 64, 2048, VBR_MAX_EPOCH, vbr_random_seed()); */
 VBR_NODISCARD uint64_t vbr_random_seed(void) VBR_NOEXCEPT;
 
 /* Opens a set of `key_count` keys, which may be none, as vbr_open_with does, with up to VBR_MAX_MANY_HANDLES handles: VBR_OK. Else
-   what vbr_open_with answers, in its order; VBR_BAD_COUNT where count is 0 or above VBR_MAX_MANY_HANDLES. No call on a key takes a
-   step more for more handles, and those that take all handles take time in proportion to them. Each handle may keep 64 slots, as
-   ever, so a thousand want 64,000 more than keys.
+   what vbr_open_with returns, tested in the same order; VBR_BAD_COUNT if count is 0 or above VBR_MAX_MANY_HANDLES. No call on a key
+   takes more steps for more handles, and calls that take all handles take time in proportion to their number. Each handle may keep
+   64 slots, as always, so a thousand need 64,000 slots more than keys. Without keys `key_count` is 0, and `keys` is any aligned
+   address that isn't null, such as that of a word.
 
        static vbr_handle many[1000];
-       if (vbr_open_many(many, 1000, 1024 + 1000 * 64, 1024, VBR_MAX_EPOCH, some, 3) != VBR_OK) return 1; */
+       static vbr_handle others[1000]; // which are to open without keys
+       if (vbr_open_many(many, 1000, 1024 + 1000 * 64, 1024, VBR_MAX_EPOCH, some, 3) != VBR_OK) return 1;
+       if (vbr_open_many(others, 1000, 1024 + 1000 * 64, 1024, VBR_MAX_EPOCH, &key, 0) != VBR_OK) return 1; // it is empty */
 VBR_NODISCARD vbr_answer vbr_open_many(vbr_handle *handles, size_t count, uint32_t slots, uint32_t buckets, uint64_t last_epoch,
                                        const uint64_t *keys, size_t key_count) VBR_NOEXCEPT VBR_NONNULL;
 
@@ -267,27 +280,25 @@ VBR_NODISCARD vbr_answer vbr_open_many_seeded(vbr_handle *handles, size_t count,
 /* Calls on keys */
 
 /* Adds a key: VBR_YES if it was absent, VBR_NO if it was there. Else VBR_OUT_OF_STEPS, VBR_NO_SLOT, VBR_EPOCH_SPENT, VBR_HELD or
-   VBR_NO_HANDLE. At VBR_NO_SLOT have other handles give their slots back (vbr_spare), remove keys, or make it again. Where it adds
-   the key, the handle then fills its reserve for the next inserts, as vbr_reserve says. It takes no memory and never waits.
+   VBR_NO_HANDLE. At VBR_NO_SLOT have other handles give their slots back (vbr_give_slots_back), remove keys, or try again. If it
+   adds the key, the handle then tops up its reserve for the next inserts, as vbr_reserve says. It takes no memory and never waits.
 
        if (vbr_insert(&handle[0], 5) == VBR_YES) added++; // this call added 5 */
 VBR_NODISCARD static inline vbr_answer vbr_insert(vbr_handle *handle, uint64_t key) VBR_NOEXCEPT VBR_NONNULL;
 
-/* Adds a key as vbr_insert does, within `steps` steps, in place of the budget of the handle. What it answers is what vbr_insert
-   answers.
+/* Adds a key as vbr_insert does, within `steps` steps, instead of the budget of the handle. Returns what vbr_insert returns.
 
        told = vbr_insert_within(&handle[0], 7, 500); // at most 500 steps */
 VBR_NODISCARD vbr_answer vbr_insert_within(vbr_handle *handle, uint64_t key, uint32_t steps) VBR_NOEXCEPT VBR_NONNULL;
 
-/* Takes a key out: VBR_YES if it was there, VBR_NO if it was absent. Else VBR_OUT_OF_STEPS or VBR_NO_HANDLE. Where it answers
-   VBR_YES the node of the key has left its list, unless the budget ended first; then the next insert or remove that passes the node
-   takes it out. It takes no memory and never waits.
+/* Takes a key out: VBR_YES if it was there, VBR_NO if it was absent. Else VBR_OUT_OF_STEPS or VBR_NO_HANDLE. After VBR_YES the
+   key's node has left its list, unless the budget ended first; then the next insert or remove that passes the node takes it out. It
+   takes no memory and never waits.
 
        if (vbr_remove(&handle[1], 5) == VBR_YES) taken++; // this call took 5 out */
 VBR_NODISCARD static inline vbr_answer vbr_remove(vbr_handle *handle, uint64_t key) VBR_NOEXCEPT VBR_NONNULL;
 
-/* Takes a key out as vbr_remove does, within `steps` steps, in place of the budget of the handle. What it answers is what
-   vbr_remove answers.
+/* Takes a key out as vbr_remove does, within `steps` steps, instead of the budget of the handle. Returns what vbr_remove returns.
 
        told = vbr_remove_within(&handle[0], 7, 500); // at most 500 steps */
 VBR_NODISCARD vbr_answer vbr_remove_within(vbr_handle *handle, uint64_t key, uint32_t steps) VBR_NOEXCEPT VBR_NONNULL;
@@ -298,16 +309,15 @@ VBR_NODISCARD vbr_answer vbr_remove_within(vbr_handle *handle, uint64_t key, uin
        if (vbr_has(&handle[1], 5) == VBR_YES) there++; // 5 was there during the call */
 VBR_NODISCARD static inline vbr_answer vbr_has(vbr_handle *handle, uint64_t key) VBR_NOEXCEPT VBR_NONNULL;
 
-/* Looks a key up as vbr_has does, within `steps` steps, in place of the budget of the handle. What it answers is what vbr_has
-   answers.
+/* Looks a key up as vbr_has does, within `steps` steps, instead of the budget of the handle. Returns what vbr_has returns.
 
        told = vbr_has_within(&handle[1], 7, 500); // at most 500 steps */
 VBR_NODISCARD vbr_answer vbr_has_within(vbr_handle *handle, uint64_t key, uint32_t steps) VBR_NOEXCEPT VBR_NONNULL;
 
-/* Looks `count` keys up, and writes what vbr_has answers to keys[i] to answers[i]: VBR_YES, VBR_NO, VBR_OUT_OF_STEPS or
-   VBR_NO_HANDLE. Each is a call of its own, and they are made in the order of the keys, so a refusal of one says nothing of the
-   others. It is for many keys of a set that is larger than the cache: it loads what the look-ups of sixteen keys begin with before
-   it makes them, so that they wait for memory together. These loads are no steps. With a count of 0 the other pointers may be null.
+/* Looks `count` keys up, and writes to answers[i] what vbr_has returns for keys[i]: VBR_YES, VBR_NO, VBR_OUT_OF_STEPS or
+   VBR_NO_HANDLE. Each look-up is a call of its own, made in the order of the keys, so a refusal of one says nothing about the
+   others. Use it for many keys of a set that is larger than the cache: before the look-ups of sixteen keys it loads what they begin
+   with, so that they wait for memory together. These loads don't count as steps. With a count of 0 the other pointers may be null.
    It takes no memory and never waits.
 
        vbr_has_all(&handle[0], wanted, 3, answers);
@@ -315,8 +325,7 @@ VBR_NODISCARD vbr_answer vbr_has_within(vbr_handle *handle, uint64_t key, uint32
 static inline void vbr_has_all(vbr_handle *handle, const uint64_t *keys, size_t count,
                                vbr_answer *answers) VBR_NOEXCEPT VBR_NONNULL_FIRST;
 
-/* Looks keys up as vbr_has_all does, within `steps` steps for each key, in place of the budget of the handle. What it answers is
-   what vbr_has_all answers.
+/* Looks keys up as vbr_has_all does, within `steps` steps for each key, instead of the budget of the handle.
 
        vbr_has_all_within(&handle[0], wanted, 3, answers, 500); // at most 500 steps for each key */
 void vbr_has_all_within(vbr_handle *handle, const uint64_t *keys, size_t count, vbr_answer *answers,
@@ -324,9 +333,9 @@ void vbr_has_all_within(vbr_handle *handle, const uint64_t *keys, size_t count, 
 
 /* Walks */
 
-/* Where a walk stands: before the first key, or after the one that was given last. Its 16 bytes may be copied and kept, and the
-   walk goes on from a copy as well. What they say is of the shape of a set. With another handle, or a set of another shape, or any
-   other bytes in it, the walk from there is another one, and does no harm.
+/* Where a walk stands: before the first key, or after the one that was given last. Its 16 bytes may be copied and kept, and a walk
+   goes on from a copy as well. They mean something for one shape. With another handle, a set of another shape, or any other bytes
+   in it, the walk continues as a different one, and nothing is unsafe.
 
        vbr_cursor cursor = VBR_CURSOR_BEGIN; // before the first key */
 typedef struct vbr_cursor {
@@ -336,12 +345,12 @@ typedef struct vbr_cursor {
 #define VBR_CURSOR_BEGIN {0, 0}
 
 /* Gives the next key of a walk, by loads alone: VBR_YES, and the key is then in `*key` and the cursor after it; VBR_NO at the end,
-   where no key is left. Else VBR_OUT_OF_STEPS or VBR_NO_HANDLE. Unless it answers VBR_YES no key is written. At VBR_OUT_OF_STEPS
-   the cursor keeps how far it has come: call again, and with twice the budget if that may have been too small. It enters the bucket
-   of the cursor at its head, and makes three steps for each bucket that it enters, three for a removed node that is still in its
-   list, and five for another; where others disturb it in a bucket, it goes over that one again, once for each time at most. After
-   the last node of a bucket the cursor is before the next bucket, so a walk doesn't enter the bucket again. vbr(3) says what a walk
-   gives, and what budget brings it on. It takes no memory and never waits.
+   when no key is left. Else VBR_OUT_OF_STEPS or VBR_NO_HANDLE. Unless it answers VBR_YES no key is written. At VBR_OUT_OF_STEPS the
+   cursor keeps how far it has come: call again, and with twice the budget if that may have been too small. It enters the cursor's
+   bucket at its head, and makes three steps for each bucket that it enters, three for a removed node that is still in its list, and
+   five for any other node. If others disturb it in a bucket, it goes over that bucket again, at most once for each disturbance.
+   After the last node of a bucket the cursor is before the next bucket, so a walk doesn't enter the bucket again. vbr(3) says what
+   a walk gives, and which budget takes it further. It takes no memory and never waits.
 
        do {
            told = vbr_next(&handle[0], &cursor, &key);
@@ -349,8 +358,8 @@ typedef struct vbr_cursor {
        } while (told == VBR_YES || told == VBR_OUT_OF_STEPS); // at the end it is VBR_NO */
 VBR_NODISCARD static inline vbr_answer vbr_next(vbr_handle *handle, vbr_cursor *cursor, uint64_t *key) VBR_NOEXCEPT VBR_NONNULL;
 
-/* Gives the next key of a walk as vbr_next does, within `steps` steps, in place of the budget of the handle. What it answers is
-   what vbr_next answers.
+/* Gives the next key of a walk as vbr_next does, within `steps` steps, instead of the budget of the handle. Returns what vbr_next
+   returns.
 
        told = vbr_next_within(&handle[0], &cursor, &key, 5000); // at most 5000 steps */
 VBR_NODISCARD vbr_answer vbr_next_within(vbr_handle *handle, vbr_cursor *cursor, uint64_t *key,
@@ -358,36 +367,36 @@ VBR_NODISCARD vbr_answer vbr_next_within(vbr_handle *handle, vbr_cursor *cursor,
 
 /* What a handle knows */
 
-/* The last epoch that the handle read in a call: 1 before its first, and 0 for an empty handle. It makes no step, so others may
-   have advanced the epoch since. Renew the set before it comes to vbr_last_epoch.
+/* Returns the epoch that the handle read last in a call: 1 before its first call, and 0 for an empty handle. It makes no step, so
+   others may have advanced the epoch since. Renew the set before it reaches vbr_last_epoch.
 
        int is_near = vbr_epoch(&handle[0]) + 1000 >= vbr_last_epoch(&handle[0]); // then renew the set */
 VBR_NODISCARD uint64_t vbr_epoch(const vbr_handle *handle) VBR_NOEXCEPT VBR_NONNULL;
 
-/* The last epoch that the set was opened with, and 0 for an empty handle.
+/* Returns the last epoch that the set was opened with, and 0 for an empty handle.
 
        uint64_t left = vbr_last_epoch(&handle[0]) - vbr_epoch(&handle[0]); */
 VBR_NODISCARD uint64_t vbr_last_epoch(const vbr_handle *handle) VBR_NOEXCEPT VBR_NONNULL;
 
-/* How many slots the set was opened with, and 0 for an empty handle.
+/* Returns how many slots the set was opened with, and 0 for an empty handle.
 
        uint32_t most = vbr_slots(&handle[0]) - 2 * 64; // so many keys have room for certain */
 VBR_NODISCARD uint32_t vbr_slots(const vbr_handle *handle) VBR_NOEXCEPT VBR_NONNULL;
 
-/* How many buckets the set was opened with, and 0 for an empty handle.
+/* Returns how many buckets the set was opened with, and 0 for an empty handle.
 
        int is_crowded = 3 > 2 * vbr_buckets(&handle[0]); // three keys, and more than two for each bucket */
 VBR_NODISCARD uint32_t vbr_buckets(const vbr_handle *handle) VBR_NOEXCEPT VBR_NONNULL;
 
-/* A seed below 2^63 that spreads keys over the buckets as those of the set are spread: the one that it was opened with, drawn or
-   given, or, of one from 2^63 on, the one 2^63 less; 0 for an empty handle.
+/* Returns a seed below 2^63 that spreads keys over the buckets as the set's keys are spread: the one that the set was opened with,
+   drawn or given, or, if that is 2^63 or more, its equivalent below 2^63, which is 2^63 less; 0 for an empty handle.
 
        uint64_t seed = vbr_seed(&handle[0]); // opens a set whose keys have the same buckets */
 VBR_NODISCARD uint64_t vbr_seed(const vbr_handle *handle) VBR_NOEXCEPT VBR_NONNULL;
 
-/* How many keys the calls of the handle have added, less those that they took out: its inserts that were answered VBR_YES, less its
-   removes that were. The first of the handles that were opened together begins with the keys that the set opened with, the others
-   with 0; an empty handle has 0. It makes no step. vbr(3) says what the sum of all is.
+/* Returns how many keys the handle's calls have added, less those that they took out: its inserts that were answered VBR_YES, less
+   its removes that were. Of the handles that were opened together the first begins with the keys that the set opened with, the
+   others with 0; an empty handle has 0. It makes no step. vbr(3) says what the sum over all handles means.
 
        int64_t keys = vbr_balance(&handle[0]) + vbr_balance(&handle[1]); // no call is under way */
 VBR_NODISCARD int64_t vbr_balance(const vbr_handle *handle) VBR_NOEXCEPT VBR_NONNULL;
@@ -395,38 +404,40 @@ VBR_NODISCARD int64_t vbr_balance(const vbr_handle *handle) VBR_NOEXCEPT VBR_NON
 /* Slots of a handle */
 
 /* Puts the slots that the handle keeps to itself into the pool that all handles share, where any of them finds them, in one step
-   for each: how many they were, and 0 for an empty handle. Call it of a handle that inserts nothing for a time. It makes no call of
-   the set, takes no memory and can't fail. The handle keeps none then. The next insert that adds a key takes slots in reserve again.
+   for each. Returns the number given back, 0 for an empty handle. Call it on a handle that won't insert for a while. It makes no
+   call on the set, takes no memory and can't fail. The handle keeps none then, and its next insert that adds a key takes slots in
+   reserve again.
 
-       uint32_t given = vbr_spare(&handle[0]); // handle[1] can have them now */
-uint32_t vbr_spare(vbr_handle *handle) VBR_NOEXCEPT VBR_NONNULL;
+       uint32_t given = vbr_give_slots_back(&handle[0]); // handle[1] can have them now */
+static inline uint32_t vbr_give_slots_back(vbr_handle *handle) VBR_NOEXCEPT VBR_NONNULL;
+uint32_t vbr_spare(vbr_handle *handle) VBR_NOEXCEPT VBR_NONNULL VBR_DEPRECATED("vbr_give_slots_back"); /* the old name, for one version */
 
 /* Takes slots out of the pool that all handles share until the handle keeps `wanted` to itself, or 63 if that is less, and returns
-   how many it took: fewer only where it finds no more on a way once round the slots, and 0 for an empty handle. It makes at most one
-   step for each slot that it takes, one for each 64 slots of the set, and one for each slot that others take out of that pool
-   meanwhile. It makes no call of the set, takes no memory and can't fail. vbr_spare gives the slots back.
+   how many it took: fewer only if one pass over all slots finds no more, and 0 for an empty handle. It makes at most one step for
+   each slot that it takes, one for each 64 slots of the set, and one for each slot that others take out of that pool meanwhile. It
+   makes no call on the set, takes no memory and can't fail. vbr_give_slots_back does the opposite.
 
-   A handle keeps a reserve by itself: 32 slots, or slots / (8 * handles) where that is less, so none in a set with fewer than 8 slots
+   A handle keeps a reserve by itself: 32 slots, or slots / (8 * handles) if that is less, so none in a set with fewer than 8 slots
    for each handle. With 64 slots or more for each it takes them when it is opened or renewed, in as many tries. A try fails at a
-   slot that has a key, and the next one is up to 64 slots further on. So it takes all where the set opens empty, and often none
-   where it opens with thousands of keys. After an insert that added a key, where more than an eighth of the reserve is lacking, it
-   makes up to 5 tries to take a slot, within the budget of the call. So a handle that takes a key out before each that it puts in,
-   as a cache does that is full, advances the epoch in about one of 30 inserts, and not in each. With r slots in reserve it is one of
-   r + 1: call this for more than 32, or of a small set. Inserts take slots of the handle first, so those that fill the set use the
-   rest up. The reserve is part of the 64 slots that are counted for each handle. A handle that won't insert may give it back at once.
+   slot that has a key, and the next one is up to 64 slots further on. So it takes all if the set opens empty, and often none if it
+   opens with thousands of keys. After an insert that added a key, if more than an eighth of the reserve is lacking, it makes up to
+   5 tries to take a slot, within the budget of the call. So a handle that takes a key out before each one that it puts in, as a
+   full cache does, advances the epoch in about one of 30 inserts, and not in each. With r slots in reserve, one insert in r + 1
+   advances the epoch. Call this to hold more than 32, or in a small set. Inserts take the handle's own slots first, so inserts that
+   fill the set use the reserve up. The reserve is part of the 64 slots that are counted for each handle. A handle that won't insert
+   may give it back at once.
 
-       uint32_t taken = vbr_reserve(&handle[0], 32); // for its inserts to come */
+       uint32_t taken = vbr_reserve(&handle[0], 32); // for its next inserts */
 uint32_t vbr_reserve(vbr_handle *handle, uint32_t wanted) VBR_NOEXCEPT VBR_NONNULL;
 
 /* Reports, closes and renewals */
 
-/* Gives its slots back, as vbr_spare does, and its pass, and leaves the handle empty: VBR_NO while others of its set are open. The
-   last one ends the set: VBR_YES, with the report and its keys, ascending. Only then is memory needed, which is freed again. After
-   the keys of the report the array stays as it was: all `room` keys, and the report, are initialised before. VBR_NO_MEMORY and
-   VBR_NO_ROOM leave the last handle full: close it again, drop it, or go on with it. As many keys as the set has slots always have
-   room; where these have not, VBR_NO_ROOM writes the report and no key, and report->live is how many keys there are. Else nothing
-   is written. VBR_NO_HANDLE: the handle is empty, or null. VBR_LOST: a pass is not there, and the set is gone; no program is known
-   to get it.
+/* Gives its slots back, as vbr_give_slots_back does, and its pass, and leaves the handle empty: VBR_NO while other handles of its
+   set are open. The last one ends the set: VBR_YES, with the report and its keys, ascending. Only then is memory needed, which is
+   freed again. Elements after the last key are left alone. Initialise all `room` elements and `*report` first. VBR_NO_MEMORY and
+   VBR_NO_ROOM leave the last handle full: close it again, drop it, or go on with it. An array as long as the set has slots always
+   suffices; if yours is too short, VBR_NO_ROOM writes the report and no key, and report->live says how many keys there are. Else
+   nothing is written. VBR_NO_HANDLE: the handle is empty, or null. VBR_LOST: see that answer.
 
        vbr_answer first = vbr_close(&handle[0], keys, 8, &report); // VBR_NO: the other handle is open
        vbr_answer last = vbr_close(&handle[1], keys, 8, &report);  // VBR_YES: report.live keys are in front of keys */
@@ -434,30 +445,31 @@ VBR_NODISCARD vbr_answer vbr_close(vbr_handle *handle, uint64_t *keys, size_t ro
                                    vbr_report *report) VBR_NOEXCEPT VBR_NONNULL_REST;
 
 /* Closes a set by all `count` handles that were opened with it, in any order, and leaves them empty: VBR_YES, with the report and
-   its keys, as vbr_close writes them. No other thread is in a call on one of them. The keys are what all calls on these handles
+   its keys, as vbr_close writes them. No other thread may be in a call on one of them. The keys are what all calls on these handles
    leave. It takes the memory of a close. Else the handles stay as they were, by the first of these tests that fails: VBR_NO_HANDLE,
-   one is empty; VBR_MISSING, they are fewer than were opened, or count is 0; VBR_MIXED, two are of different sets; VBR_NO_MEMORY;
-   VBR_NO_ROOM, as in a close. Handles of different sets are found by a probe, which is tested and not proved: do not rely on it.
+   one is empty; VBR_MISSING, they are fewer than were opened, or count is 0; VBR_MIXED, two are of different sets; VBR_MISSING too,
+   one stands there twice, as a copy; VBR_NO_MEMORY; VBR_NO_ROOM, as in a close. Handles of different sets are found by a probe,
+   which is tested and not proved: do not rely on it.
 
        vbr_answer closed = vbr_close_all(handle, 2, keys, 8, &report); // VBR_YES: report.live is 3, keys are 2, 5, 9 */
 VBR_NODISCARD vbr_answer vbr_close_all(vbr_handle *handles, size_t count, uint64_t *keys, size_t room,
                                        vbr_report *report) VBR_NOEXCEPT VBR_NONNULL;
 
-/* Tells what is in a set by all `count` handles that were opened with it, in any order, as vbr_close_all does: VBR_YES, with the
-   report and its keys. No other thread is in a call on one of them. They stay as they are, and go on. It takes the memory of a
-   close. What it answers else is what vbr_close_all answers, and means the same.
+/* Reports what is in a set by all `count` handles that were opened with it, in any order, as vbr_close_all does: VBR_YES, with the
+   report and its keys. No other thread may be in a call on one of them. The handles stay as they are, and go on. It takes the
+   memory of a close. Otherwise it returns what vbr_close_all returns, with the same meaning.
 
        vbr_answer told = vbr_report_all(handle, 2, keys, 8, &report); // VBR_YES: report.live keys are in front of keys */
 VBR_NODISCARD vbr_answer vbr_report_all(vbr_handle *handles, size_t count, uint64_t *keys, size_t room,
                                         vbr_report *report) VBR_NOEXCEPT VBR_NONNULL;
 
 /* Lets all `count` handles of a set, in any order, go on over a fresh set of this shape with the keys that were in it: VBR_OK. The
-   set keeps its seed. The epoch is 1 again, the first handle's balance is the number of keys, and that of the others is 0. No other
-   thread is in a call on one of them. It takes the memory of a report and of an opening with the keys, while the set is still
-   there, whose memory is freed then. Else the handles stay as they were, and go on, by the first of these tests that fails:
+   set keeps its seed. The epoch is 1 again, the first handle's balance is the number of keys, and the others' is 0. No other thread
+   may be in a call on one of them. It takes the memory of a report and of an opening with the keys while the old set is still
+   there, whose memory is freed afterwards. Else the handles stay as they were, and go on, by the first of these tests that fails:
    VBR_BAD_SHAPE; VBR_NO_HANDLE, one is empty; VBR_MISSING, they are not as many as were opened; VBR_MIXED, two are of different
-   sets, by a probe as in vbr_close_all; VBR_NO_ROOM, there are more keys than slots, which the balances of the handles tell where
-   there is no memory for a report; VBR_NO_MEMORY.
+   sets, by a probe as in vbr_close_all; VBR_MISSING too, one stands there twice; VBR_NO_ROOM, there are more keys than slots, which
+   the handles' balances show if there is no memory for a report; VBR_NO_MEMORY.
 
        vbr_answer renewed = vbr_renew_all(handle, 2, 2048 + 2 * 64, 2048, VBR_MAX_EPOCH); // VBR_OK: twice as large */
 VBR_NODISCARD vbr_answer vbr_renew_all(vbr_handle *handles, size_t count, uint32_t slots, uint32_t buckets,
@@ -469,24 +481,23 @@ VBR_NODISCARD vbr_answer vbr_renew_all(vbr_handle *handles, size_t count, uint32
 VBR_NODISCARD vbr_answer vbr_renew_all_seeded(vbr_handle *handles, size_t count, uint32_t slots, uint32_t buckets,
                                               uint64_t last_epoch, uint64_t seed) VBR_NOEXCEPT VBR_NONNULL;
 
-/* Gives a handle up, empty or full, and leaves it empty. Its slots and its pass are given back as by a close, and no report is
-   made: the last handle of the set that is closed still gets it, and with the last one dropped the set ends. It needs no memory.
-   With a null pointer it does nothing.
+/* Releases a handle, empty or full; it is empty afterwards. Its slots and its pass are given back as by a close, and no report is
+   made: the last handle of the set that is closed still gets it. If the last one is dropped, the set ends. It needs no memory. With
+   a null pointer it does nothing.
 
        vbr_drop(&handle[0]); // the close of handle[1] gets the report */
 void vbr_drop(vbr_handle *handle) VBR_NOEXCEPT;
 
-/* Gives all these handles up, in any order, each as vbr_drop does, and leaves them empty. With the last of a set its memory is
-   freed, and nothing is reported: it takes no time for a report, and no memory. They may be of several sets, or empty. No other
-   thread is in a call on one of them.
+/* Releases all these handles, in any order, each as vbr_drop does; they are empty afterwards. With the last handle of a set its
+   memory is freed, and nothing is reported: it takes no time for a report, and no memory. They may belong to several sets, or be
+   empty, and one that stands there twice, as a copy, is released once. No other thread may be in a call on one of them.
 
        vbr_end_all(handle, 2); // nothing is reported, and the memory of the set is freed */
 void vbr_end_all(vbr_handle *handles, size_t count) VBR_NOEXCEPT VBR_NONNULL;
 
 /* Handles and entries of maps */
 
-/* A handle to a map, as vbr_handle is one to a set. It is a type of its own, so that a compiler refuses a
-   set's in its place.
+/* A handle to a map, as vbr_handle is one to a set. It is a type of its own, so a compiler refuses a set's handle in its place.
 
        vbr_map_handle map[2] = {{0}}; */
 typedef struct vbr_map_handle {
@@ -495,7 +506,7 @@ typedef struct vbr_map_handle {
     uint32_t in_call;
 } vbr_map_handle;
 
-/* The budget of a handle's calls.
+/* Returns the budget of a handle's calls.
 
        uint32_t steps = vbr_map_steps_of(&map[0]); // VBR_AMPLE_STEPS, unless map[0].steps is another */
 VBR_NODISCARD static inline uint32_t vbr_map_steps_of(const vbr_map_handle *handle) VBR_NOEXCEPT {
@@ -512,9 +523,9 @@ typedef struct vbr_entry {
 
 /* Opening a map */
 
-/* Opens an empty map and fills `count` handles, which are empty, so each is {0}, or has a budget: VBR_OK. Else VBR_IN_USE,
-   VBR_BAD_SHAPE, VBR_BAD_COUNT or VBR_NO_MEMORY, tested in this order, and the handles are as they were. Each handle takes its
-   reserve, as vbr_reserve says.
+/* Opens an empty map and fills `count` handles, which must be empty: each is {0}, or has only a budget. VBR_OK. Else VBR_BAD_SHAPE,
+   VBR_BAD_COUNT, VBR_IN_USE or VBR_NO_MEMORY, tested in this order, and the handles stay as they were: none is read before the
+   count is tested. Each handle takes its reserve, as vbr_reserve says.
 
        vbr_map_handle map[2] = {{0}};
        if (vbr_map_open(map, 2, 1024 + 2 * 64, 1024, VBR_MAX_EPOCH) != VBR_OK) return 1; */
@@ -522,9 +533,9 @@ VBR_NODISCARD vbr_answer vbr_map_open(vbr_map_handle *handles, size_t count, uin
                                       uint64_t last_epoch) VBR_NOEXCEPT VBR_NONNULL;
 
 /* Opens a map of `entry_count` entries, whose keys ascend, each above the one before, and fills the handles as vbr_map_open does:
-   VBR_OK. Else VBR_IN_USE, VBR_BAD_SHAPE, VBR_BAD_COUNT, VBR_BAD_KEYS or VBR_NO_MEMORY, tested in this order, and the handles are
-   as they were. The epoch is 1. It takes the memory of vbr_map_open, and 48 bytes for each entry while it runs, and goes once over
-   the entries.
+   VBR_OK. Else VBR_BAD_SHAPE, VBR_BAD_COUNT, VBR_IN_USE, VBR_BAD_KEYS or VBR_NO_MEMORY, tested in this order, and the handles stay
+   as they were. The epoch is 1. It takes the memory of vbr_map_open, and 48 bytes for each entry while it runs, and goes over the
+   entries once.
 
        static const vbr_entry some[3] = {{2, 20}, {5, 50}, {9, 90}};
        if (vbr_map_open_with(map, 2, 1024 + 2 * 64, 1024, VBR_MAX_EPOCH, some, 3) != VBR_OK) return 1; */
@@ -541,10 +552,12 @@ VBR_NODISCARD vbr_answer vbr_map_open_seeded(vbr_map_handle *handles, size_t cou
                                              size_t entry_count) VBR_NOEXCEPT VBR_NONNULL;
 
 /* Opens a map of `entry_count` entries, which may be none, as vbr_map_open_with does, with up to VBR_MAX_MANY_HANDLES handles, as
-   vbr_open_many does.
+   vbr_open_many does. Without entries `entries` is any aligned address that isn't null.
 
        static vbr_map_handle many[1000];
-       if (vbr_map_open_many(many, 1000, 1024 + 1000 * 64, 1024, VBR_MAX_EPOCH, some, 3) != VBR_OK) return 1; */
+       static vbr_map_handle other_maps[1000]; // which are to open without entries
+       if (vbr_map_open_many(many, 1000, 1024 + 1000 * 64, 1024, VBR_MAX_EPOCH, some, 3) != VBR_OK) return 1;
+       if (vbr_map_open_many(other_maps, 1000, 1024 + 1000 * 64, 1024, VBR_MAX_EPOCH, &entry, 0) != VBR_OK) return 1; // it is empty */
 VBR_NODISCARD vbr_answer vbr_map_open_many(vbr_map_handle *handles, size_t count, uint32_t slots, uint32_t buckets,
                                            uint64_t last_epoch, const vbr_entry *entries,
                                            size_t entry_count) VBR_NOEXCEPT VBR_NONNULL;
@@ -561,30 +574,30 @@ VBR_NODISCARD vbr_answer vbr_map_open_many_seeded(vbr_map_handle *handles, size_
 
 /* Adds a key with its value: VBR_YES if the key was absent, VBR_NO if it was there; then it keeps the value that it has. Else
    VBR_OUT_OF_STEPS, VBR_NO_SLOT, VBR_EPOCH_SPENT, VBR_HELD or VBR_NO_HANDLE. At VBR_NO_SLOT have other handles give their slots
-   back (vbr_map_spare), remove keys, or make it again. Where it adds the key, the handle then fills its reserve for the next
+   back (vbr_map_give_slots_back), remove keys, or try again. If it adds the key, the handle then tops up its reserve for the next
    inserts, as vbr_reserve says. So do vbr_map_put and vbr_map_get_or_insert. It takes no memory and never waits.
 
        if (vbr_map_insert(&map[0], 5, 70) == VBR_YES) added++; // this call stored 70 for 5 */
 VBR_NODISCARD static inline vbr_answer vbr_map_insert(vbr_map_handle *handle, uint64_t key,
                                                       uint64_t value) VBR_NOEXCEPT VBR_NONNULL;
 
-/* Adds a key with its value as vbr_map_insert does, within `steps` steps, in place of the budget of the handle. What it answers is
-   what vbr_map_insert answers.
+/* Adds a key with its value as vbr_map_insert does, within `steps` steps, instead of the budget of the handle. Returns what
+   vbr_map_insert returns.
 
        told = vbr_map_insert_within(&map[0], 7, 70, 500); // at most 500 steps */
 VBR_NODISCARD vbr_answer vbr_map_insert_within(vbr_map_handle *handle, uint64_t key, uint64_t value,
                                                uint32_t steps) VBR_NOEXCEPT VBR_NONNULL;
 
 /* Takes a key out with its value: VBR_YES if it was there, and the value is then in `*value`; VBR_NO if it was absent. Else
-   VBR_OUT_OF_STEPS or VBR_NO_HANDLE. Unless it answers VBR_YES nothing is written, and `value` may be null. What vbr_remove says of
-   the node of the key holds here too. It takes no memory and never waits.
+   VBR_OUT_OF_STEPS or VBR_NO_HANDLE. Unless it answers VBR_YES nothing is written, and `value` may be null. What vbr_remove says
+   about the key's node holds here too. It takes no memory and never waits.
 
        if (vbr_map_remove(&map[1], 5, &value) == VBR_YES) taken++; // this call took 5 out, with its value */
 VBR_NODISCARD static inline vbr_answer vbr_map_remove(vbr_map_handle *handle, uint64_t key,
                                                       uint64_t *value) VBR_NOEXCEPT VBR_NONNULL_FIRST;
 
-/* Takes a key out with its value as vbr_map_remove does, within `steps` steps, in place of the budget of the handle. What it
-   answers is what vbr_map_remove answers.
+/* Takes a key out with its value as vbr_map_remove does, within `steps` steps, instead of the budget of the handle. Returns what
+   vbr_map_remove returns.
 
        told = vbr_map_remove_within(&map[0], 7, NULL, 500); // at most 500 steps; whatever value it had */
 VBR_NODISCARD vbr_answer vbr_map_remove_within(vbr_map_handle *handle, uint64_t key, uint64_t *value,
@@ -598,94 +611,94 @@ VBR_NODISCARD vbr_answer vbr_map_remove_within(vbr_map_handle *handle, uint64_t 
 VBR_NODISCARD static inline vbr_answer vbr_map_get(vbr_map_handle *handle, uint64_t key,
                                                    uint64_t *value) VBR_NOEXCEPT VBR_NONNULL_FIRST;
 
-/* Looks a key up and gives its value as vbr_map_get does, within `steps` steps, in place of the budget of the handle. What it
-   answers is what vbr_map_get answers.
+/* Looks a key up and gives its value as vbr_map_get does, within `steps` steps, instead of the budget of the handle. Returns what
+   vbr_map_get returns.
 
        told = vbr_map_get_within(&map[0], 7, &value, 500); // at most 500 steps */
 VBR_NODISCARD vbr_answer vbr_map_get_within(vbr_map_handle *handle, uint64_t key, uint64_t *value,
                                             uint32_t steps) VBR_NOEXCEPT VBR_NONNULL_FIRST;
 
-/* Gives a key that is there another value: VBR_YES if it was there, and the value that it had is then in `*found`; VBR_NO if it was
+/* Gives a key that is there another value: VBR_YES if it was there, and the value that it had is then in `*there`; VBR_NO if it was
    absent, and then nothing was changed. Else VBR_OUT_OF_STEPS, VBR_NO_SLOT, VBR_EPOCH_SPENT, VBR_HELD or VBR_NO_HANDLE. Unless it answers
-   VBR_YES nothing is written, and `found` may be null. No call finds the key absent meanwhile. The new value takes a slot, and the
+   VBR_YES nothing is written, and `there` may be null. No call finds the key absent meanwhile. The new value takes a slot, and the
    old one gives its own back. It takes no memory and never waits.
 
        if (vbr_map_replace(&map[0], 5, 72, &found) == VBR_YES) changed++; // 5 had the value found, and has 72 */
 VBR_NODISCARD static inline vbr_answer vbr_map_replace(vbr_map_handle *handle, uint64_t key, uint64_t value,
-                                                       uint64_t *found) VBR_NOEXCEPT VBR_NONNULL_FIRST;
+                                                       uint64_t *there) VBR_NOEXCEPT VBR_NONNULL_FIRST;
 
-/* Gives a key that is there another value as vbr_map_replace does, within `steps` steps, in place of the budget of the handle. What
-   it answers is what vbr_map_replace answers.
+/* Gives a key that is there another value as vbr_map_replace does, within `steps` steps, instead of the budget of the handle.
+   Returns what vbr_map_replace returns.
 
        told = vbr_map_replace_within(&map[0], 7, 71, &value, 500); // at most 500 steps */
-VBR_NODISCARD vbr_answer vbr_map_replace_within(vbr_map_handle *handle, uint64_t key, uint64_t value, uint64_t *found,
+VBR_NODISCARD vbr_answer vbr_map_replace_within(vbr_map_handle *handle, uint64_t key, uint64_t value, uint64_t *there,
                                                 uint32_t steps) VBR_NOEXCEPT VBR_NONNULL_FIRST;
 
-/* Gives a key this value, whether it is there or not: VBR_YES if it was there, and the value that it had is then in `*found`;
+/* Gives a key this value, whether it is there or not: VBR_YES if it was there, and the value that it had is then in `*there`;
    VBR_NO if it was absent, and it is then inserted. Else VBR_OUT_OF_STEPS, VBR_NO_SLOT, VBR_EPOCH_SPENT, VBR_HELD or VBR_NO_HANDLE.
-   Unless it answers VBR_YES nothing is written, and `found` may be null. It is a replacement as vbr_map_replace makes it, or an
+   Unless it answers VBR_YES nothing is written, and `there` may be null. It is a replacement as vbr_map_replace makes it, or an
    insert. It takes no memory and never waits.
 
        if (vbr_map_put(&map[1], 6, 60, NULL) == VBR_NO) added++; // 6 was absent; either way it has 60 */
 VBR_NODISCARD static inline vbr_answer vbr_map_put(vbr_map_handle *handle, uint64_t key, uint64_t value,
-                                                   uint64_t *found) VBR_NOEXCEPT VBR_NONNULL_FIRST;
+                                                   uint64_t *there) VBR_NOEXCEPT VBR_NONNULL_FIRST;
 
-/* Gives a key this value as vbr_map_put does, within `steps` steps, in place of the budget of the handle. What it answers is what
-   vbr_map_put answers.
+/* Gives a key this value as vbr_map_put does, within `steps` steps, instead of the budget of the handle. Returns what vbr_map_put
+   returns.
 
        told = vbr_map_put_within(&map[0], 7, 72, NULL, 500); // at most 500 steps */
-VBR_NODISCARD vbr_answer vbr_map_put_within(vbr_map_handle *handle, uint64_t key, uint64_t value, uint64_t *found,
+VBR_NODISCARD vbr_answer vbr_map_put_within(vbr_map_handle *handle, uint64_t key, uint64_t value, uint64_t *there,
                                             uint32_t steps) VBR_NOEXCEPT VBR_NONNULL_FIRST;
 
-/* Gives the value of a key, or inserts the key with this one: VBR_YES if it is there, and its value is then in `*found`; VBR_NO if
+/* Gives the value of a key, or inserts the key with this one: VBR_YES if it is there, and its value is then in `*there`; VBR_NO if
    it was absent, and it is then inserted. Else VBR_OUT_OF_STEPS, VBR_NO_SLOT, VBR_EPOCH_SPENT, VBR_HELD or VBR_NO_HANDLE. Unless it
-   answers VBR_YES nothing is written, and `found` may be null. It is a get or an insert, in one call. It takes no memory and never
+   answers VBR_YES nothing is written, and `there` may be null. It is a get or an insert, in one call. It takes no memory and never
    waits.
 
        if (vbr_map_get_or_insert(&map[0], 5, 1, &found) == VBR_YES) there++; // 5 had the value found, and keeps it */
 VBR_NODISCARD static inline vbr_answer vbr_map_get_or_insert(vbr_map_handle *handle, uint64_t key, uint64_t value,
-                                                             uint64_t *found) VBR_NOEXCEPT VBR_NONNULL_FIRST;
+                                                             uint64_t *there) VBR_NOEXCEPT VBR_NONNULL_FIRST;
 
-/* Gives the value of a key, or inserts it, as vbr_map_get_or_insert does, within `steps` steps, in place of the budget of the
-   handle. What it answers is what vbr_map_get_or_insert answers.
+/* Gives the value of a key, or inserts it, as vbr_map_get_or_insert does, within `steps` steps, instead of the budget of the
+   handle. Returns what vbr_map_get_or_insert returns.
 
        told = vbr_map_get_or_insert_within(&map[0], 7, 73, &value, 500); // at most 500 steps */
-VBR_NODISCARD vbr_answer vbr_map_get_or_insert_within(vbr_map_handle *handle, uint64_t key, uint64_t value, uint64_t *found,
+VBR_NODISCARD vbr_answer vbr_map_get_or_insert_within(vbr_map_handle *handle, uint64_t key, uint64_t value, uint64_t *there,
                                                       uint32_t steps) VBR_NOEXCEPT VBR_NONNULL_FIRST;
 
 /* Gives a key another value if it has the one that is expected: VBR_YES if it had, and it has the new one then; VBR_OTHER if it is
    there with another value; VBR_NO if it is absent. With VBR_OTHER and VBR_NO nothing was changed. Else VBR_OUT_OF_STEPS,
-   VBR_NO_SLOT, VBR_EPOCH_SPENT, VBR_HELD or VBR_NO_HANDLE. With VBR_YES and VBR_OTHER the value that the key had is in `*found`;
-   else nothing is written, and `found` may be null. It is a replacement as vbr_map_replace makes it, or a look-up. A value that is
+   VBR_NO_SLOT, VBR_EPOCH_SPENT, VBR_HELD or VBR_NO_HANDLE. With VBR_YES and VBR_OTHER the value that the key had is in `*there`;
+   else nothing is written, and `there` may be null. It is a replacement as vbr_map_replace makes it, or a look-up. A value that is
    computed from the one found is stored so, and no other thread's is lost. It takes no memory and never waits.
 
        vbr_answer told = vbr_map_get(&map[0], 5, &seen) == VBR_YES ? VBR_OTHER : VBR_NO;
        while (told == VBR_OTHER) // until nobody else has changed it since it was seen
            told = vbr_map_compare_exchange(&map[0], 5, seen, seen + 1, &seen); */
 VBR_NODISCARD static inline vbr_answer vbr_map_compare_exchange(vbr_map_handle *handle, uint64_t key, uint64_t expected,
-                                                                uint64_t value, uint64_t *found) VBR_NOEXCEPT VBR_NONNULL_FIRST;
+                                                                uint64_t value, uint64_t *there) VBR_NOEXCEPT VBR_NONNULL_FIRST;
 
-/* Gives a key another value if it has the one that is expected, as vbr_map_compare_exchange does, within `steps` steps, in place of
-   the budget of the handle. What it answers is what vbr_map_compare_exchange answers.
+/* Gives a key another value if it has the one that is expected, as vbr_map_compare_exchange does, within `steps` steps, instead of
+   the budget of the handle. Returns what vbr_map_compare_exchange returns.
 
        told = vbr_map_compare_exchange_within(&map[0], 7, 72, 74, NULL, 500); // at most 500 steps */
 VBR_NODISCARD vbr_answer vbr_map_compare_exchange_within(vbr_map_handle *handle, uint64_t key, uint64_t expected, uint64_t value,
-                                                         uint64_t *found, uint32_t steps) VBR_NOEXCEPT VBR_NONNULL_FIRST;
+                                                         uint64_t *there, uint32_t steps) VBR_NOEXCEPT VBR_NONNULL_FIRST;
 
 /* Takes a key out if it has the value that is expected: VBR_YES if it had, and it is then absent; VBR_OTHER if it is there with
    another value; VBR_NO if it is absent. With VBR_OTHER and VBR_NO nothing was changed. Else VBR_OUT_OF_STEPS or VBR_NO_HANDLE.
-   With VBR_YES and VBR_OTHER the value that the key had is in `*found`; else nothing is written, and `found` may be null. It is a
-   remove or a look-up, and what vbr_remove says of the node of the key holds here too. It takes no memory and never waits.
+   With VBR_YES and VBR_OTHER the value that the key had is in `*there`; else nothing is written, and `there` may be null. It is a
+   remove or a look-up, and what vbr_remove says about the key's node holds here too. It takes no memory and never waits.
 
        if (vbr_map_remove_if(&map[0], 6, 61, &found) == VBR_OTHER) kept++; // 6 has the value found, and is still there */
 VBR_NODISCARD static inline vbr_answer vbr_map_remove_if(vbr_map_handle *handle, uint64_t key, uint64_t expected,
-                                                         uint64_t *found) VBR_NOEXCEPT VBR_NONNULL_FIRST;
+                                                         uint64_t *there) VBR_NOEXCEPT VBR_NONNULL_FIRST;
 
-/* Takes a key out if it has the value that is expected, as vbr_map_remove_if does, within `steps` steps, in place of the budget of
-   the handle. What it answers is what vbr_map_remove_if answers.
+/* Takes a key out if it has the value that is expected, as vbr_map_remove_if does, within `steps` steps, instead of the budget of
+   the handle. Returns what vbr_map_remove_if returns.
 
        told = vbr_map_remove_if_within(&map[0], 7, 75, &value, 500); // at most 500 steps */
-VBR_NODISCARD vbr_answer vbr_map_remove_if_within(vbr_map_handle *handle, uint64_t key, uint64_t expected, uint64_t *found,
+VBR_NODISCARD vbr_answer vbr_map_remove_if_within(vbr_map_handle *handle, uint64_t key, uint64_t expected, uint64_t *there,
                                                   uint32_t steps) VBR_NOEXCEPT VBR_NONNULL_FIRST;
 
 /* Looks a key up without its value: VBR_YES if it is there, VBR_NO if it is absent. Else VBR_OUT_OF_STEPS or VBR_NO_HANDLE. Its
@@ -694,50 +707,48 @@ VBR_NODISCARD vbr_answer vbr_map_remove_if_within(vbr_map_handle *handle, uint64
        if (vbr_map_has(&map[0], 5) == VBR_YES) there++; // 5 was there during the call */
 VBR_NODISCARD static inline vbr_answer vbr_map_has(vbr_map_handle *handle, uint64_t key) VBR_NOEXCEPT VBR_NONNULL;
 
-/* Looks a key up as vbr_map_has does, within `steps` steps, in place of the budget of the handle. What it answers is what
-   vbr_map_has answers.
+/* Looks a key up as vbr_map_has does, within `steps` steps, instead of the budget of the handle. Returns what vbr_map_has returns.
 
        told = vbr_map_has_within(&map[0], 7, 500); // at most 500 steps */
 VBR_NODISCARD vbr_answer vbr_map_has_within(vbr_map_handle *handle, uint64_t key, uint32_t steps) VBR_NOEXCEPT VBR_NONNULL;
 
-/* Looks `count` keys up without their values, as vbr_has_all does: answers[i] is what vbr_map_has answers to keys[i].
+/* Looks `count` keys up without their values, as vbr_has_all does: answers[i] is what vbr_map_has returns for keys[i].
 
        vbr_map_has_all(&map[0], wanted, 3, answers); // answers[i] is that of wanted[i] */
 static inline void vbr_map_has_all(vbr_map_handle *handle, const uint64_t *keys, size_t count,
                                    vbr_answer *answers) VBR_NOEXCEPT VBR_NONNULL_FIRST;
 
-/* Looks keys up as vbr_map_has_all does, within `steps` steps for each key, in place of the budget of the handle. What it answers
-   is what vbr_map_has_all answers.
+/* Looks keys up as vbr_map_has_all does, within `steps` steps for each key, instead of the budget of the handle.
 
        vbr_map_has_all_within(&map[0], wanted, 3, answers, 500); // at most 500 steps for each key */
 void vbr_map_has_all_within(vbr_map_handle *handle, const uint64_t *keys, size_t count, vbr_answer *answers,
                             uint32_t steps) VBR_NOEXCEPT VBR_NONNULL_FIRST;
 
-/* What vbr_map_get_all answers of a key.
+/* What vbr_map_get_all writes for a key.
 
        vbr_found given[3]; */
 typedef struct vbr_found {
-    uint64_t value;    /* the value of the key where the answer is VBR_YES, else 0 */
+    uint64_t value;    /* the value of the key if the answer is VBR_YES, else 0 */
     vbr_answer answer; /* VBR_YES, VBR_NO, VBR_OUT_OF_STEPS or VBR_NO_HANDLE */
 } vbr_found;
 
-/* Looks `count` keys up and gives their values, as vbr_has_all looks keys up: found[i] has what vbr_map_get answers to keys[i], and
-   the value.
+/* Looks `count` keys up and gives their values, as vbr_has_all looks keys up: found[i] has what vbr_map_get returns for keys[i],
+   and the value.
 
        vbr_map_get_all(&map[0], wanted, 3, given);
-       for (int i = 0; i < 3; i++) sum += given[i].value; // 0 where wanted[i] isn't there */
+       for (int i = 0; i < 3; i++) sum += given[i].value; // 0 if wanted[i] isn't there */
 static inline void vbr_map_get_all(vbr_map_handle *handle, const uint64_t *keys, size_t count,
                                    vbr_found *found) VBR_NOEXCEPT VBR_NONNULL_FIRST;
 
-/* Looks keys up and gives their values as vbr_map_get_all does, within `steps` steps for each key, in place of the budget of the
-   handle. What it answers is what vbr_map_get_all answers.
+/* Looks keys up and gives their values as vbr_map_get_all does, within `steps` steps for each key, instead of the budget of the
+   handle.
 
        vbr_map_get_all_within(&map[0], wanted, 3, given, 500); // at most 500 steps for each key */
 void vbr_map_get_all_within(vbr_map_handle *handle, const uint64_t *keys, size_t count, vbr_found *found,
                             uint32_t steps) VBR_NOEXCEPT VBR_NONNULL_FIRST;
 
 /* Gives the next key of a walk with its value, as vbr_next gives a key: VBR_YES, and the two are then in `*entry`, and were in the
-   map together at a moment of the call; VBR_NO at the end, where no key is left. Else VBR_OUT_OF_STEPS or VBR_NO_HANDLE. Unless it
+   map together at a moment of the call; VBR_NO at the end, when no key is left. Else VBR_OUT_OF_STEPS or VBR_NO_HANDLE. Unless it
    answers VBR_YES nothing is written. At VBR_OUT_OF_STEPS the cursor keeps how far it has come. The value takes two steps more. It
    takes no memory and never waits.
 
@@ -748,8 +759,8 @@ void vbr_map_get_all_within(vbr_map_handle *handle, const uint64_t *keys, size_t
 VBR_NODISCARD static inline vbr_answer vbr_map_next(vbr_map_handle *handle, vbr_cursor *cursor,
                                                     vbr_entry *entry) VBR_NOEXCEPT VBR_NONNULL;
 
-/* Gives the next entry of a walk as vbr_map_next does, within `steps` steps, in place of the budget of the handle. What it answers
-   is what vbr_map_next answers.
+/* Gives the next entry of a walk as vbr_map_next does, within `steps` steps, instead of the budget of the handle. Returns what
+   vbr_map_next returns.
 
        told = vbr_map_next_within(&map[0], &cursor, &entry, 5000); // at most 5000 steps */
 VBR_NODISCARD vbr_answer vbr_map_next_within(vbr_map_handle *handle, vbr_cursor *cursor, vbr_entry *entry,
@@ -757,59 +768,59 @@ VBR_NODISCARD vbr_answer vbr_map_next_within(vbr_map_handle *handle, vbr_cursor 
 
 /* What a handle to a map knows, and its slots */
 
-/* The last epoch that the handle read in a call: 1 before its first, and 0 for an empty handle. It makes no step, so others may
-   have advanced the epoch since. Renew the map before it comes to vbr_map_last_epoch.
+/* Returns the epoch that the handle read last in a call: 1 before its first call, and 0 for an empty handle. It makes no step, so
+   others may have advanced the epoch since. Renew the map before it reaches vbr_map_last_epoch.
 
        int is_near = vbr_map_epoch(&map[0]) + 1000 >= vbr_map_last_epoch(&map[0]); // then renew the map */
 VBR_NODISCARD uint64_t vbr_map_epoch(const vbr_map_handle *handle) VBR_NOEXCEPT VBR_NONNULL;
 
-/* The last epoch that the map was opened with, and 0 for an empty handle.
+/* Returns the last epoch that the map was opened with, and 0 for an empty handle.
 
        uint64_t left = vbr_map_last_epoch(&map[0]) - vbr_map_epoch(&map[0]); */
 VBR_NODISCARD uint64_t vbr_map_last_epoch(const vbr_map_handle *handle) VBR_NOEXCEPT VBR_NONNULL;
 
-/* How many slots the map was opened with, and 0 for an empty handle.
+/* Returns how many slots the map was opened with, and 0 for an empty handle.
 
        uint32_t most = vbr_map_slots(&map[0]) - 2 * 64; // so many keys have room for certain */
 VBR_NODISCARD uint32_t vbr_map_slots(const vbr_map_handle *handle) VBR_NOEXCEPT VBR_NONNULL;
 
-/* How many buckets the map was opened with, and 0 for an empty handle.
+/* Returns how many buckets the map was opened with, and 0 for an empty handle.
 
        int is_crowded = 3 > 2 * vbr_map_buckets(&map[0]); // three keys, and more than two for each bucket */
 VBR_NODISCARD uint32_t vbr_map_buckets(const vbr_map_handle *handle) VBR_NOEXCEPT VBR_NONNULL;
 
-/* A seed that spreads keys as those of the map are spread, as vbr_seed returns one of a set.
+/* Returns a seed that spreads keys as the map's keys are spread, as vbr_seed does for a set.
 
        uint64_t seed = vbr_map_seed(&map[0]); // opens a map whose keys have the same buckets */
 VBR_NODISCARD uint64_t vbr_map_seed(const vbr_map_handle *handle) VBR_NOEXCEPT VBR_NONNULL;
 
-/* How many keys the calls of the handle have added, less those that they took out, as vbr_balance has it of a set. A call that
-   changes a value leaves it as it was.
+/* Returns how many keys the handle's calls have added, less those that they took out: see vbr_balance. A call that changes a value
+   leaves it as it was.
 
        int64_t entered = vbr_map_balance(&map[0]) + vbr_map_balance(&map[1]); // no call is under way */
 VBR_NODISCARD int64_t vbr_map_balance(const vbr_map_handle *handle) VBR_NOEXCEPT VBR_NONNULL;
 
-/* Puts the slots that the handle keeps to itself into the pool that all handles of the map share, as vbr_spare does of a set: how
-   many they were, and 0 for an empty handle.
+/* Puts the slots that the handle keeps to itself into the pool that all handles of the map share, as vbr_give_slots_back does for a
+   set. Returns the number given back, 0 for an empty handle.
 
-       uint32_t spared = vbr_map_spare(&map[0]); // map[1] can have them now */
-uint32_t vbr_map_spare(vbr_map_handle *handle) VBR_NOEXCEPT VBR_NONNULL;
+       uint32_t spared = vbr_map_give_slots_back(&map[0]); // map[1] can have them now */
+static inline uint32_t vbr_map_give_slots_back(vbr_map_handle *handle) VBR_NOEXCEPT VBR_NONNULL;
+uint32_t vbr_map_spare(vbr_map_handle *handle) VBR_NOEXCEPT VBR_NONNULL VBR_DEPRECATED("vbr_map_give_slots_back"); /* the old name, for one version */
 
-/* Takes slots in reserve for the inserts to come of the handle, as vbr_reserve does of a set: how many it took, and 0 for an empty
+/* Takes slots in reserve for the handle's next inserts, as vbr_reserve does for a set. Returns how many it took, 0 for an empty
    handle. vbr_reserve says which reserve a handle keeps by itself.
 
-       uint32_t reserved = vbr_map_reserve(&map[0], 32); // for its inserts to come */
+       uint32_t reserved = vbr_map_reserve(&map[0], 32); // for its next inserts */
 uint32_t vbr_map_reserve(vbr_map_handle *handle, uint32_t wanted) VBR_NOEXCEPT VBR_NONNULL;
 
 /* Reports, closes and renewals of maps */
 
-/* Gives its slots back, as vbr_map_spare does, and its pass, and leaves the handle empty: VBR_NO while others of its map are open.
-   The last one ends the map: VBR_YES, with the report and its entries, ascending by key. Only then is memory needed, which is freed
-   again. After the entries of the report the array stays as it was: all `room` entries, and the report, are initialised before.
-   VBR_NO_MEMORY and VBR_NO_ROOM leave the last handle full: close it again, drop it, or go on with it. As many entries as the map
-   has slots always have room; where these have not, VBR_NO_ROOM writes the report and no entry, and report->live is how many
-   entries there are. Else nothing is written. VBR_NO_HANDLE: the handle is empty, or null. VBR_LOST: a pass is not there, and the
-   map is gone; no program is known to get it.
+/* Gives its slots back, as vbr_map_give_slots_back does, and its pass, and leaves the handle empty: VBR_NO while other handles of
+   its map are open. The last one ends the map: VBR_YES, with the report and its entries, ascending by key. Only then is memory
+   needed, which is freed again. Elements after the last entry are left alone. Initialise all `room` elements and `*report` first.
+   VBR_NO_MEMORY and VBR_NO_ROOM leave the last handle full: close it again, drop it, or go on with it. An array as long as the map
+   has slots always suffices; if yours is too short, VBR_NO_ROOM writes the report and no entry, and report->live says how many
+   entries there are. Else nothing is written. VBR_NO_HANDLE: the handle is empty, or null. VBR_LOST: see that answer.
 
        vbr_answer first = vbr_map_close(&map[0], entries, 8, &report); // VBR_NO: the other handle is open
        vbr_answer last = vbr_map_close(&map[1], entries, 8, &report);  // VBR_YES: report.live entries are in front of entries */
@@ -817,17 +828,17 @@ VBR_NODISCARD vbr_answer vbr_map_close(vbr_map_handle *handle, vbr_entry *entrie
                                        vbr_report *report) VBR_NOEXCEPT VBR_NONNULL_REST;
 
 /* Closes a map by all `count` handles that were opened with it, in any order, and leaves them empty: VBR_YES, with the report and
-   its entries, as vbr_map_close writes them. No other thread is in a call on one of them. The entries are what all calls on these
-   handles leave. It takes the memory of a close. Else the handles stay as they were, by the first of these tests that fails:
+   its entries, as vbr_map_close writes them. No other thread may be in a call on one of them. The entries are what all calls on
+   these handles leave. It takes the memory of a close. Else the handles stay as they were, by the first of these tests that fails:
    VBR_NO_HANDLE, one is empty; VBR_MISSING, they are fewer than were opened, or count is 0; VBR_MIXED, two are of different maps;
-   VBR_NO_MEMORY; VBR_NO_ROOM, as in a close. Handles of different maps are found by a probe, which is tested and not proved: do not
-   rely on it.
+   VBR_MISSING too, one stands there twice, as a copy; VBR_NO_MEMORY; VBR_NO_ROOM, as in a close. Handles of different maps are
+   found by a probe, which is tested and not proved: do not rely on it.
 
        vbr_answer closed = vbr_map_close_all(map, 2, entries, 8, &report); // VBR_YES: three entries, {2, 20} the first of them */
 VBR_NODISCARD vbr_answer vbr_map_close_all(vbr_map_handle *handles, size_t count, vbr_entry *entries, size_t room,
                                            vbr_report *report) VBR_NOEXCEPT VBR_NONNULL;
 
-/* Tells what is in a map by all its handles, as vbr_report_all does of a set, with the entries, ascending by key.
+/* Reports what is in a map by all its handles, as vbr_report_all does for a set, with the entries, ascending by key.
 
        vbr_answer told = vbr_map_report_all(map, 2, entries, 8, &report); // VBR_YES: report.live entries are in front of entries */
 VBR_NODISCARD vbr_answer vbr_map_report_all(vbr_map_handle *handles, size_t count, vbr_entry *entries, size_t room,
@@ -845,25 +856,25 @@ VBR_NODISCARD vbr_answer vbr_map_renew_all(vbr_map_handle *handles, size_t count
 VBR_NODISCARD vbr_answer vbr_map_renew_all_seeded(vbr_map_handle *handles, size_t count, uint32_t slots, uint32_t buckets,
                                                   uint64_t last_epoch, uint64_t seed) VBR_NOEXCEPT VBR_NONNULL;
 
-/* Gives a handle up, empty or full, and leaves it empty. Its slots and its pass are given back as by a close, and no report is
-   made: the last handle of the map that is closed still gets it, and with the last one dropped the map ends. It needs no memory.
-   With a null pointer it does nothing.
+/* Releases a handle, empty or full; it is empty afterwards. Its slots and its pass are given back as by a close, and no report is
+   made: the last handle of the map that is closed still gets it. If the last one is dropped, the map ends. It needs no memory. With
+   a null pointer it does nothing.
 
        vbr_map_drop(&map[0]); // the close of map[1] gets the report */
 void vbr_map_drop(vbr_map_handle *handle) VBR_NOEXCEPT;
 
-/* Gives all these handles up, in any order, each as vbr_map_drop does, and leaves them empty. With the last of a map its memory is
-   freed, and nothing is reported: it takes no time for a report, and no memory. They may be of several maps, or empty. No other
-   thread is in a call on one of them.
+/* Releases all these handles, in any order, each as vbr_map_drop does; they are empty afterwards. With the last handle of a map its
+   memory is freed, and nothing is reported: it takes no time for a report, and no memory. They may belong to several maps, or be
+   empty, and one that stands there twice, as a copy, is released once. No other thread may be in a call on one of them.
 
        vbr_map_end_all(map, 2); // nothing is reported, and the memory of the map is freed */
 void vbr_map_end_all(vbr_map_handle *handles, size_t count) VBR_NOEXCEPT VBR_NONNULL;
 
 /* Slots in hand, for records beside the entries */
 
-/* Where an entry stands: the slot of its node, and the birth of that node; of a map also its value, and of a set 0. No other node that
-   was ever in that slot has this birth. So it names one entry, which may have left meanwhile, and no later one of the same key. It is
-   good until the set is renewed or closed.
+/* Where an entry stands: the slot of its node, and the birth of that node; in a map also its value, and in a set 0. No other node that
+   was ever in that slot has this birth. So it names one entry, which may have left meanwhile, and no later one with the same key. It
+   stays valid until the set is renewed or closed.
 
        vbr_incarnation at = {0, 0, 0}; // what a call that finds the key writes */
 typedef struct vbr_incarnation {
@@ -874,7 +885,7 @@ typedef struct vbr_incarnation {
 
 /* Takes a slot in hand: VBR_YES, and its number is then in `*slot`, which is below vbr_slots. It is in the hand of this handle alone,
    until a call makes it the node of a key, or it is let go. So a program that keeps a record for each slot may write this one
-   meanwhile, and nobody else does. Else VBR_HELD, where a slot is held already, or what an insert answers that finds none:
+   meanwhile, and nobody else does. Else VBR_HELD if a slot is held already, or what an insert that finds none returns:
    VBR_OUT_OF_STEPS, VBR_NO_SLOT, VBR_EPOCH_SPENT or VBR_NO_HANDLE. Unless it answers VBR_YES nothing is written.
 
    A slot that is held is one of the 64 that are counted for each handle. While there is one, the calls that would take another answer
@@ -884,56 +895,53 @@ typedef struct vbr_incarnation {
        if (vbr_hold(&handle[0], &slot) == VBR_YES) beside[slot] = 7; // nobody else writes there */
 VBR_NODISCARD static inline vbr_answer vbr_hold(vbr_handle *handle, uint32_t *slot) VBR_NOEXCEPT VBR_NONNULL;
 
-/* Takes a slot in hand as vbr_hold does, within `steps` steps, in place of the budget of the handle. What it answers is what vbr_hold
-   answers.
+/* Takes a slot in hand as vbr_hold does, within `steps` steps, instead of the budget of the handle. Returns what vbr_hold returns.
 
        told = vbr_hold_within(&handle[0], &slot, 500); // at most 500 steps */
 VBR_NODISCARD vbr_answer vbr_hold_within(vbr_handle *handle, uint32_t *slot, uint32_t steps) VBR_NOEXCEPT VBR_NONNULL;
 
-/* Takes a slot of a map in hand, as vbr_hold does of a set.
+/* Takes a slot of a map in hand, as vbr_hold does for a set.
 
        if (vbr_map_hold(&map[0], &slot) == VBR_YES) beside[slot] = 7; // nobody else writes there */
 VBR_NODISCARD static inline vbr_answer vbr_map_hold(vbr_map_handle *handle, uint32_t *slot) VBR_NOEXCEPT VBR_NONNULL;
 
-/* Takes a slot in hand as vbr_map_hold does, within `steps` steps, in place of the budget of the handle. What it answers is what
-   vbr_map_hold answers.
+/* Takes a slot in hand as vbr_map_hold does, within `steps` steps, instead of the budget of the handle. Returns what vbr_map_hold
+   returns.
 
        told = vbr_map_hold_within(&map[0], &slot, 500); // at most 500 steps */
 VBR_NODISCARD vbr_answer vbr_map_hold_within(vbr_map_handle *handle, uint32_t *slot, uint32_t steps) VBR_NOEXCEPT VBR_NONNULL;
 
-/* Puts the slot that is held back: VBR_YES. Else VBR_HELD, where none is held, or VBR_NO_HANDLE. It makes at most one step.
+/* Puts the held slot back: VBR_YES. Else VBR_HELD if none is held, or VBR_NO_HANDLE. It makes at most one step.
 
        if (vbr_let_go(&handle[0]) == VBR_YES) let_go++; // and its record isn't written any more */
 VBR_NODISCARD vbr_answer vbr_let_go(vbr_handle *handle) VBR_NOEXCEPT VBR_NONNULL;
 
-/* Puts the slot of a map that is held back, as vbr_let_go does of a set.
+/* Puts the held slot of a map back, as vbr_let_go does for a set.
 
        if (vbr_map_let_go(&map[0]) == VBR_YES) let_go++; // and its record isn't written any more */
 VBR_NODISCARD vbr_answer vbr_map_let_go(vbr_map_handle *handle) VBR_NOEXCEPT VBR_NONNULL;
 
 /* Adds a key by the slot that is held: VBR_YES if it was absent, and this slot is then its node, and none is held; VBR_NO if it was
-   there. Else VBR_OUT_OF_STEPS, VBR_HELD, where none is held, or VBR_NO_HANDLE. Unless it answers VBR_YES the slot is held still, and
-   its record may be written on. Where it adds the key, the handle then fills its reserve, as vbr_reserve says. It takes no memory and
+   there. Else VBR_OUT_OF_STEPS, VBR_HELD if none is held, or VBR_NO_HANDLE. Unless it answers VBR_YES the slot is still held, and its
+   record may still be written. If it adds the key, the handle then tops up its reserve, as vbr_reserve says. It takes no memory and
    never waits.
 
        if (vbr_insert_held(&handle[0], 5) == VBR_YES) added++; // 5 stands in this slot, with what was written beside it */
 VBR_NODISCARD static inline vbr_answer vbr_insert_held(vbr_handle *handle, uint64_t key) VBR_NOEXCEPT VBR_NONNULL;
 
-/* Adds a key as vbr_insert_held does, within `steps` steps, in place of the budget of the handle. What it answers is what
-   vbr_insert_held answers.
+/* Adds a key as vbr_insert_held does, within `steps` steps, instead of the budget of the handle. Returns what vbr_insert_held returns.
 
        told = vbr_insert_held_within(&handle[0], 7, 500); // at most 500 steps */
 VBR_NODISCARD vbr_answer vbr_insert_held_within(vbr_handle *handle, uint64_t key, uint32_t steps) VBR_NOEXCEPT VBR_NONNULL;
 
-/* Adds a key with its value by the slot that is held, as vbr_insert_held does of a set: where it answers VBR_NO the key keeps its
-   value.
+/* Adds a key with its value by the slot that is held, as vbr_insert_held does for a set: after VBR_NO the key keeps its value.
 
        if (vbr_map_insert_held(&map[0], 5, 70) == VBR_YES) added++; // 5 stands in this slot, with what was written beside it */
 VBR_NODISCARD static inline vbr_answer vbr_map_insert_held(vbr_map_handle *handle, uint64_t key,
                                                            uint64_t value) VBR_NOEXCEPT VBR_NONNULL;
 
-/* Adds a key with its value as vbr_map_insert_held does, within `steps` steps, in place of the budget of the handle. What it answers is
-   what vbr_map_insert_held answers.
+/* Adds a key with its value as vbr_map_insert_held does, within `steps` steps, instead of the budget of the handle. Returns what
+   vbr_map_insert_held returns.
 
        told = vbr_map_insert_held_within(&map[0], 7, 71, 500); // at most 500 steps */
 VBR_NODISCARD vbr_answer vbr_map_insert_held_within(vbr_map_handle *handle, uint64_t key, uint64_t value,
@@ -941,107 +949,106 @@ VBR_NODISCARD vbr_answer vbr_map_insert_held_within(vbr_map_handle *handle, uint
 
 /* Gives a key this value by the slot that is held, in place of the very entry that was found: VBR_YES if the key still had that entry,
    and this slot is then its node, and none is held; VBR_NO if it is absent, or has another entry by now, also one with the same value.
-   Else VBR_OUT_OF_STEPS, VBR_HELD, where none is held, or VBR_NO_HANDLE. Unless it answers VBR_YES nothing was changed, and the slot is
-   held still. The slot of the old entry is given back as vbr_map_replace does it. It takes no memory and never waits.
+   Else VBR_OUT_OF_STEPS, VBR_HELD if none is held, or VBR_NO_HANDLE. Unless it answers VBR_YES nothing was changed, and the slot is
+   still held. The slot of the old entry is given back as by vbr_map_replace. It takes no memory and never waits.
 
        if (vbr_map_replace_held(&map[0], 5, &at, 71) == VBR_YES) changed++; // nobody had changed 5 since it was found */
 VBR_NODISCARD static inline vbr_answer vbr_map_replace_held(vbr_map_handle *handle, uint64_t key, const vbr_incarnation *at,
                                                             uint64_t value) VBR_NOEXCEPT VBR_NONNULL;
 
-/* Gives a key this value as vbr_map_replace_held does, within `steps` steps, in place of the budget of the handle. What it answers is
-   what vbr_map_replace_held answers.
+/* Gives a key this value as vbr_map_replace_held does, within `steps` steps, instead of the budget of the handle. Returns what
+   vbr_map_replace_held returns.
 
        told = vbr_map_replace_held_within(&map[0], 7, &at, 72, 500); // at most 500 steps */
 VBR_NODISCARD vbr_answer vbr_map_replace_held_within(vbr_map_handle *handle, uint64_t key, const vbr_incarnation *at, uint64_t value,
                                                      uint32_t steps) VBR_NOEXCEPT VBR_NONNULL;
 
 /* Gives a key this value by the slot that is held, whether it is there or not: VBR_YES if it was there, and the value that it had is
-   then in `*found`; VBR_NO if it was absent, and it is then inserted. In both cases this slot is its node, and none is held. Else
-   VBR_OUT_OF_STEPS, and the slot is held still; VBR_HELD, where none is held; or VBR_NO_HANDLE. Unless it answers VBR_YES nothing is
-   written, and `found` may be null. It takes no memory and never waits.
+   then in `*there`; VBR_NO if it was absent, and it is then inserted. In both cases this slot is its node, and none is held. Else
+   VBR_OUT_OF_STEPS, and the slot is still held; VBR_HELD if none is held; or VBR_NO_HANDLE. Unless it answers VBR_YES nothing is
+   written, and `there` may be null. It takes no memory and never waits.
 
        if (vbr_map_put_held(&map[0], 6, 60, NULL) == VBR_NO) added++; // 6 was absent; either way it stands in this slot */
 VBR_NODISCARD static inline vbr_answer vbr_map_put_held(vbr_map_handle *handle, uint64_t key, uint64_t value,
-                                                        uint64_t *found) VBR_NOEXCEPT VBR_NONNULL_FIRST;
+                                                        uint64_t *there) VBR_NOEXCEPT VBR_NONNULL_FIRST;
 
-/* Gives a key this value as vbr_map_put_held does, within `steps` steps, in place of the budget of the handle. What it answers is what
-   vbr_map_put_held answers.
+/* Gives a key this value as vbr_map_put_held does, within `steps` steps, instead of the budget of the handle. Returns what
+   vbr_map_put_held returns.
 
        told = vbr_map_put_held_within(&map[0], 7, 73, &value, 500); // at most 500 steps */
-VBR_NODISCARD vbr_answer vbr_map_put_held_within(vbr_map_handle *handle, uint64_t key, uint64_t value, uint64_t *found,
+VBR_NODISCARD vbr_answer vbr_map_put_held_within(vbr_map_handle *handle, uint64_t key, uint64_t value, uint64_t *there,
                                                  uint32_t steps) VBR_NOEXCEPT VBR_NONNULL_FIRST;
 
-/* Looks a key up as vbr_has does, and tells where it stands: VBR_YES if it is there, and `*at` names its entry then; VBR_NO if it is
+/* Looks a key up as vbr_has does, and says where it stands: VBR_YES if it is there, and `*at` names its entry then; VBR_NO if it is
    absent. Else VBR_OUT_OF_STEPS or VBR_NO_HANDLE. Unless it answers VBR_YES nothing is written. Its steps are those of vbr_has, all
    loads. It takes no memory and never waits.
 
        if (vbr_get_entry(&handle[1], 5, &at) == VBR_YES) there++; // 5 stood in at.slot during the call */
 VBR_NODISCARD static inline vbr_answer vbr_get_entry(vbr_handle *handle, uint64_t key, vbr_incarnation *at) VBR_NOEXCEPT VBR_NONNULL;
 
-/* Looks a key up as vbr_get_entry does, within `steps` steps, in place of the budget of the handle. What it answers is what
-   vbr_get_entry answers.
+/* Looks a key up as vbr_get_entry does, within `steps` steps, instead of the budget of the handle. Returns what vbr_get_entry returns.
 
        told = vbr_get_entry_within(&handle[1], 7, &at, 500); // at most 500 steps */
 VBR_NODISCARD vbr_answer vbr_get_entry_within(vbr_handle *handle, uint64_t key, vbr_incarnation *at,
                                               uint32_t steps) VBR_NOEXCEPT VBR_NONNULL;
 
-/* Looks a key up as vbr_map_get does, and tells where it stands, as vbr_get_entry does of a set: where it answers VBR_YES, `at->value`
-   is the value.
+/* Looks a key up as vbr_map_get does, and says where it stands, as vbr_get_entry does for a set: after VBR_YES `at->value` is the
+   value.
 
        if (vbr_map_get_entry(&map[1], 5, &at) == VBR_YES) there++; // 5 stood in at.slot, and had at.value */
 VBR_NODISCARD static inline vbr_answer vbr_map_get_entry(vbr_map_handle *handle, uint64_t key,
                                                          vbr_incarnation *at) VBR_NOEXCEPT VBR_NONNULL;
 
-/* Looks a key up as vbr_map_get_entry does, within `steps` steps, in place of the budget of the handle. What it answers is what
-   vbr_map_get_entry answers.
+/* Looks a key up as vbr_map_get_entry does, within `steps` steps, instead of the budget of the handle. Returns what vbr_map_get_entry
+   returns.
 
        told = vbr_map_get_entry_within(&map[1], 7, &at, 500); // at most 500 steps */
 VBR_NODISCARD vbr_answer vbr_map_get_entry_within(vbr_map_handle *handle, uint64_t key, vbr_incarnation *at,
                                                   uint32_t steps) VBR_NOEXCEPT VBR_NONNULL;
 
-/* Whether a slot is still that of the entry that was found there, in one step, a load: VBR_YES if it is. Then, at each moment since the
-   entry was found, no other node was in the slot, and nobody had it in hand; so a record that was copied from beside it in between is
-   that of the entry, whole. The entry itself may have been taken out meanwhile. VBR_NO: the slot was handed out anew, and what was
-   copied is of nobody. Else VBR_NO_HANDLE.
+/* Says whether a slot still belongs to the entry that was found there, in one step, a load: VBR_YES if it does. Then, at each moment
+   since the entry was found, no other node was in the slot, and nobody had it in hand. So a record that was copied from beside it in
+   between is the entry's, and whole. The entry itself may have been taken out meanwhile. VBR_NO: the slot was handed out anew, and what
+   was copied belongs to no entry. Else VBR_NO_HANDLE.
 
        if (vbr_is_still(&handle[1], &at) == VBR_YES) copied++; // what was copied since at was found is of this entry */
 VBR_NODISCARD vbr_answer vbr_is_still(vbr_handle *handle, const vbr_incarnation *at) VBR_NOEXCEPT VBR_NONNULL;
 
-/* Whether a slot of a map is still that of the entry that was found there, as vbr_is_still says of a set.
+/* Says whether a slot of a map still belongs to the entry that was found there, as vbr_is_still does for a set.
 
        if (vbr_map_is_still(&map[1], &at) == VBR_YES) copied++; // what was copied since at was found is of this entry */
 VBR_NODISCARD vbr_answer vbr_map_is_still(vbr_map_handle *handle, const vbr_incarnation *at) VBR_NOEXCEPT VBR_NONNULL;
 
 /* Takes a key out if it still has the very entry that was found: VBR_YES if it had, and it is then absent; VBR_NO if it is absent, or
    was taken out and added again since it was found, and then nothing was changed. Else VBR_OUT_OF_STEPS or VBR_NO_HANDLE. A budget that
-   is enough for vbr_remove is enough. What vbr_remove says of the node of the key holds here too. It takes no memory and never waits.
+   is enough for vbr_remove is enough. What vbr_remove says about the key's node holds here too. It takes no memory and never waits.
 
        if (vbr_remove_entry(&handle[0], 5, &at) == VBR_YES) taken++; // 5 stood in at.slot all the while since it was found */
 VBR_NODISCARD static inline vbr_answer vbr_remove_entry(vbr_handle *handle, uint64_t key,
                                                         const vbr_incarnation *at) VBR_NOEXCEPT VBR_NONNULL;
 
-/* Takes a key out as vbr_remove_entry does, within `steps` steps, in place of the budget of the handle. What it answers is what
-   vbr_remove_entry answers.
+/* Takes a key out as vbr_remove_entry does, within `steps` steps, instead of the budget of the handle. Returns what vbr_remove_entry
+   returns.
 
        told = vbr_remove_entry_within(&handle[0], 7, &at, 500); // at most 500 steps */
 VBR_NODISCARD vbr_answer vbr_remove_entry_within(vbr_handle *handle, uint64_t key, const vbr_incarnation *at,
                                                  uint32_t steps) VBR_NOEXCEPT VBR_NONNULL;
 
-/* Takes a key out with its value if it still has the very entry that was found, as vbr_remove_entry does of a set. Where it was given a
-   value since then, also the same one, it has another entry: VBR_NO.
+/* Takes a key out with its value if it still has the very entry that was found, as vbr_remove_entry does for a set. If the key was
+   given a value since then, even the same one, it has another entry: VBR_NO.
 
        if (vbr_map_remove_entry(&map[0], 5, &at) == VBR_YES) taken++; // nobody had changed 5 since it was found */
 VBR_NODISCARD static inline vbr_answer vbr_map_remove_entry(vbr_map_handle *handle, uint64_t key,
                                                             const vbr_incarnation *at) VBR_NOEXCEPT VBR_NONNULL;
 
-/* Takes a key out as vbr_map_remove_entry does, within `steps` steps, in place of the budget of the handle. What it answers is what
-   vbr_map_remove_entry answers.
+/* Takes a key out as vbr_map_remove_entry does, within `steps` steps, instead of the budget of the handle. Returns what
+   vbr_map_remove_entry returns.
 
        told = vbr_map_remove_entry_within(&map[0], 7, &at, 500); // at most 500 steps */
 VBR_NODISCARD vbr_answer vbr_map_remove_entry_within(vbr_map_handle *handle, uint64_t key, const vbr_incarnation *at,
                                                      uint32_t steps) VBR_NOEXCEPT VBR_NONNULL;
 
-/* Gives the next key of a walk as vbr_next does, and tells where it stands, as vbr_get_entry does: VBR_YES, and the key is then in
+/* Gives the next key of a walk as vbr_next does, and says where it stands, as vbr_get_entry does: VBR_YES, and the key is then in
    `*key`, and its entry in `*at`; VBR_NO at the end. Else VBR_OUT_OF_STEPS or VBR_NO_HANDLE. Unless it answers VBR_YES no key and no
    entry is written. Its steps are those of vbr_next. It takes no memory and never waits.
 
@@ -1052,15 +1059,15 @@ VBR_NODISCARD vbr_answer vbr_map_remove_entry_within(vbr_map_handle *handle, uin
 VBR_NODISCARD static inline vbr_answer vbr_next_at(vbr_handle *handle, vbr_cursor *cursor, uint64_t *key,
                                                    vbr_incarnation *at) VBR_NOEXCEPT VBR_NONNULL;
 
-/* Gives the next key of a walk as vbr_next_at does, within `steps` steps, in place of the budget of the handle. What it answers is what
-   vbr_next_at answers.
+/* Gives the next key of a walk as vbr_next_at does, within `steps` steps, instead of the budget of the handle. Returns what vbr_next_at
+   returns.
 
        told = vbr_next_at_within(&handle[0], &cursor, &key, &at, 5000); // at most 5000 steps */
 VBR_NODISCARD vbr_answer vbr_next_at_within(vbr_handle *handle, vbr_cursor *cursor, uint64_t *key, vbr_incarnation *at,
                                             uint32_t steps) VBR_NOEXCEPT VBR_NONNULL;
 
-/* Gives the next key of a walk as vbr_map_next does, and tells where it stands, as vbr_next_at does of a set: where it answers VBR_YES,
-   `at->value` is the value. Its steps are those of vbr_map_next.
+/* Gives the next key of a walk as vbr_map_next does, and says where it stands, as vbr_next_at does for a set: after VBR_YES `at->value`
+   is the value. Its steps are those of vbr_map_next.
 
        do {
            told = vbr_map_next_at(&map[0], &cursor, &key, &at);
@@ -1069,22 +1076,22 @@ VBR_NODISCARD vbr_answer vbr_next_at_within(vbr_handle *handle, vbr_cursor *curs
 VBR_NODISCARD static inline vbr_answer vbr_map_next_at(vbr_map_handle *handle, vbr_cursor *cursor, uint64_t *key,
                                                        vbr_incarnation *at) VBR_NOEXCEPT VBR_NONNULL;
 
-/* Gives the next key of a walk as vbr_map_next_at does, within `steps` steps, in place of the budget of the handle. What it answers is
-   what vbr_map_next_at answers.
+/* Gives the next key of a walk as vbr_map_next_at does, within `steps` steps, instead of the budget of the handle. Returns what
+   vbr_map_next_at returns.
 
        told = vbr_map_next_at_within(&map[0], &cursor, &key, &at, 5000); // at most 5000 steps */
 VBR_NODISCARD vbr_answer vbr_map_next_at_within(vbr_map_handle *handle, vbr_cursor *cursor, uint64_t *key, vbr_incarnation *at,
                                                 uint32_t steps) VBR_NOEXCEPT VBR_NONNULL;
 
-/* Tells what is in a set as vbr_report_all does, and in which slots: keys[i] stands in slots[i]. Both arrays have `room` places, which
-   are initialised before. A renewal after it, with no call in between, gives keys[i] slot i: so the record beside slots[i] is the one
-   to put beside slot i. What it answers is what vbr_report_all answers.
+/* Reports what is in a set as vbr_report_all does, and in which slots: keys[i] stands in slots[i]. Both arrays have `room` elements;
+   initialise them first. A renewal after it, with no call in between, gives keys[i] slot i, so the record beside slots[i] is the one to
+   put beside slot i. It returns what vbr_report_all returns.
 
        vbr_answer told = vbr_report_slots(handle, 2, keys, slots, 8, &report); // VBR_YES: keys[i] stands in slots[i] */
 VBR_NODISCARD vbr_answer vbr_report_slots(vbr_handle *handles, size_t count, uint64_t *keys, uint32_t *slots, size_t room,
                                           vbr_report *report) VBR_NOEXCEPT VBR_NONNULL;
 
-/* Tells what is in a map as vbr_map_report_all does, and in which slots, as vbr_report_slots does of a set.
+/* Reports what is in a map as vbr_map_report_all does, and in which slots, as vbr_report_slots does for a set.
 
        vbr_answer told = vbr_map_report_slots(map, 2, entries, slots, 8, &report); // VBR_YES: entries[i] stands in slots[i] */
 VBR_NODISCARD vbr_answer vbr_map_report_slots(vbr_map_handle *handles, size_t count, vbr_entry *entries, uint32_t *slots, size_t room,
@@ -1102,7 +1109,7 @@ VBR_NODISCARD vbr_answer vbr_map_report_slots(vbr_map_handle *handles, size_t co
 #endif
 #endif
 
-/* The calls without a budget: with that of their handle, and by vbr_tsan.h where a program is compiled for ThreadSanitizer. */
+/* The calls without a budget: they use their handle's, and go by vbr_tsan.h if a program is compiled for ThreadSanitizer. */
 
 static inline vbr_answer vbr_insert(vbr_handle *handle, uint64_t key) VBR_NOEXCEPT {
     return vbr_insert_within(handle, key, vbr_steps_of(handle));
@@ -1128,21 +1135,21 @@ static inline vbr_answer vbr_map_remove(vbr_map_handle *handle, uint64_t key, ui
 static inline vbr_answer vbr_map_get(vbr_map_handle *handle, uint64_t key, uint64_t *value) VBR_NOEXCEPT {
     return vbr_map_get_within(handle, key, value, vbr_map_steps_of(handle));
 }
-static inline vbr_answer vbr_map_replace(vbr_map_handle *handle, uint64_t key, uint64_t value, uint64_t *found) VBR_NOEXCEPT {
-    return vbr_map_replace_within(handle, key, value, found, vbr_map_steps_of(handle));
+static inline vbr_answer vbr_map_replace(vbr_map_handle *handle, uint64_t key, uint64_t value, uint64_t *there) VBR_NOEXCEPT {
+    return vbr_map_replace_within(handle, key, value, there, vbr_map_steps_of(handle));
 }
-static inline vbr_answer vbr_map_put(vbr_map_handle *handle, uint64_t key, uint64_t value, uint64_t *found) VBR_NOEXCEPT {
-    return vbr_map_put_within(handle, key, value, found, vbr_map_steps_of(handle));
+static inline vbr_answer vbr_map_put(vbr_map_handle *handle, uint64_t key, uint64_t value, uint64_t *there) VBR_NOEXCEPT {
+    return vbr_map_put_within(handle, key, value, there, vbr_map_steps_of(handle));
 }
-static inline vbr_answer vbr_map_get_or_insert(vbr_map_handle *handle, uint64_t key, uint64_t value, uint64_t *found) VBR_NOEXCEPT {
-    return vbr_map_get_or_insert_within(handle, key, value, found, vbr_map_steps_of(handle));
+static inline vbr_answer vbr_map_get_or_insert(vbr_map_handle *handle, uint64_t key, uint64_t value, uint64_t *there) VBR_NOEXCEPT {
+    return vbr_map_get_or_insert_within(handle, key, value, there, vbr_map_steps_of(handle));
 }
 static inline vbr_answer vbr_map_compare_exchange(vbr_map_handle *handle, uint64_t key, uint64_t expected, uint64_t value,
-                                                  uint64_t *found) VBR_NOEXCEPT {
-    return vbr_map_compare_exchange_within(handle, key, expected, value, found, vbr_map_steps_of(handle));
+                                                  uint64_t *there) VBR_NOEXCEPT {
+    return vbr_map_compare_exchange_within(handle, key, expected, value, there, vbr_map_steps_of(handle));
 }
-static inline vbr_answer vbr_map_remove_if(vbr_map_handle *handle, uint64_t key, uint64_t expected, uint64_t *found) VBR_NOEXCEPT {
-    return vbr_map_remove_if_within(handle, key, expected, found, vbr_map_steps_of(handle));
+static inline vbr_answer vbr_map_remove_if(vbr_map_handle *handle, uint64_t key, uint64_t expected, uint64_t *there) VBR_NOEXCEPT {
+    return vbr_map_remove_if_within(handle, key, expected, there, vbr_map_steps_of(handle));
 }
 static inline vbr_answer vbr_map_has(vbr_map_handle *handle, uint64_t key) VBR_NOEXCEPT {
     return vbr_map_has_within(handle, key, vbr_map_steps_of(handle));
@@ -1172,8 +1179,8 @@ static inline vbr_answer vbr_map_replace_held(vbr_map_handle *handle, uint64_t k
                                               uint64_t value) VBR_NOEXCEPT {
     return vbr_map_replace_held_within(handle, key, at, value, vbr_map_steps_of(handle));
 }
-static inline vbr_answer vbr_map_put_held(vbr_map_handle *handle, uint64_t key, uint64_t value, uint64_t *found) VBR_NOEXCEPT {
-    return vbr_map_put_held_within(handle, key, value, found, vbr_map_steps_of(handle));
+static inline vbr_answer vbr_map_put_held(vbr_map_handle *handle, uint64_t key, uint64_t value, uint64_t *there) VBR_NOEXCEPT {
+    return vbr_map_put_held_within(handle, key, value, there, vbr_map_steps_of(handle));
 }
 static inline vbr_answer vbr_get_entry(vbr_handle *handle, uint64_t key, vbr_incarnation *at) VBR_NOEXCEPT {
     return vbr_get_entry_within(handle, key, at, vbr_steps_of(handle));
@@ -1193,5 +1200,19 @@ static inline vbr_answer vbr_next_at(vbr_handle *handle, vbr_cursor *cursor, uin
 static inline vbr_answer vbr_map_next_at(vbr_map_handle *handle, vbr_cursor *cursor, uint64_t *key, vbr_incarnation *at) VBR_NOEXCEPT {
     return vbr_map_next_at_within(handle, cursor, key, at, vbr_map_steps_of(handle));
 }
+
+#ifdef __GNUC__
+#pragma GCC diagnostic push
+#pragma GCC diagnostic ignored "-Wdeprecated-declarations"
+#endif
+static inline uint32_t vbr_give_slots_back(vbr_handle *handle) VBR_NOEXCEPT {
+    return vbr_spare(handle);
+}
+static inline uint32_t vbr_map_give_slots_back(vbr_map_handle *handle) VBR_NOEXCEPT {
+    return vbr_map_spare(handle);
+}
+#ifdef __GNUC__
+#pragma GCC diagnostic pop
+#endif
 
 #endif

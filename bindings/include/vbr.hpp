@@ -62,13 +62,15 @@
 
 namespace vbr {
 
-/* The most slots, buckets and handles of a set, and a last epoch that every shape takes, which means what VBR_MAX_EPOCH does.
+/* The most slots and buckets of a set, a last epoch that every shape takes, which means what VBR_MAX_EPOCH does, and the most handles
+   that open and open_with give; open_many gives more.
 
-       auto most = vbr::open(vbr::shape::for_keys(1024, vbr::max_handles), vbr::max_handles); */
+       auto most = vbr::open(vbr::shape::for_keys(1024, vbr::max_few_handles), vbr::max_few_handles); */
 inline constexpr std::uint32_t max_slots = VBR_MAX_SLOTS;
 inline constexpr std::uint32_t max_buckets = VBR_MAX_BUCKETS;
 inline constexpr std::uint64_t max_epoch = VBR_MAX_EPOCH;
-inline constexpr std::size_t max_handles = VBR_MAX_HANDLES;
+inline constexpr std::size_t max_few_handles = VBR_MAX_FEW_HANDLES;
+[[deprecated("max_few_handles")]] inline constexpr std::size_t max_handles = max_few_handles; /* the old name, for one version */
 
 /* The greatest last epoch of a set or a map with so many slots, as vbr_max_epoch; 0 where there can't be so many.
 
@@ -138,7 +140,7 @@ struct shape {
        least power of two that isn't below the number of keys for the buckets. vbr(3) says what that is enough
        for, and what to do at refusal::no_slot.
 
-           auto most = vbr::open(vbr::shape::for_keys(1024, vbr::max_handles), vbr::max_handles); */
+           auto most = vbr::open(vbr::shape::for_keys(1024, vbr::max_few_handles), vbr::max_few_handles); */
     static constexpr shape for_keys(std::uint32_t keys, std::size_t handles) noexcept {
         shape made;
         std::uint64_t slots = std::uint64_t{keys} + 64 * (handles < max_many_handles ? handles : max_many_handles);
@@ -156,7 +158,7 @@ inline std::uint64_t random_seed() noexcept { return vbr_random_seed(); }
 
 /* Why a call was refused. What each leaves is said at the call.
 
-       if (full.error() == vbr::refusal::no_slot) other.spare(); // the other handle may keep free ones */
+       if (full.error() == vbr::refusal::no_slot) other.give_slots_back(); // the other handle may keep free ones */
 enum class [[nodiscard]] refusal : std::int32_t {
     out_of_steps = VBR_OUT_OF_STEPS, /* the budget is spent; no call was made; a greater one may help; a cursor keeps how far it has come */
     no_slot = VBR_NO_SLOT,           /* the handle found no slot for a node; no call was made; insert, get_or_insert: the key is absent */
@@ -281,7 +283,7 @@ public:
 
     /* Why the call was refused; refusal{} where it wasn't.
 
-           if (full.error() == vbr::refusal::no_slot) other.spare(); // the other handle may keep free ones */
+           if (full.error() == vbr::refusal::no_slot) other.give_slots_back(); // the other handle may keep free ones */
     constexpr refusal error() const noexcept { return why; }
 
     /* Whether it is this value, or this refusal.
@@ -577,7 +579,7 @@ struct set_calls {
     static std::uint32_t buckets(const raw *handle) noexcept { return vbr_buckets(handle); }
     static std::uint64_t seed(const raw *handle) noexcept { return vbr_seed(handle); }
     static std::int64_t balance(const raw *handle) noexcept { return vbr_balance(handle); }
-    static std::uint32_t spare(raw *handle) noexcept { return vbr_spare(handle); }
+    static std::uint32_t give_slots_back(raw *handle) noexcept { return vbr_give_slots_back(handle); }
     static std::uint32_t reserve(raw *handle, std::uint32_t wanted) noexcept { return vbr_reserve(handle, wanted); }
     static vbr_answer close_all(raw *handles, std::size_t count, words *keys, std::size_t room, vbr_report *report) noexcept {
         return vbr_close_all(handles, count, keys, room, report);
@@ -639,7 +641,7 @@ struct map_calls {
     static std::uint32_t buckets(const raw *handle) noexcept { return vbr_map_buckets(handle); }
     static std::uint64_t seed(const raw *handle) noexcept { return vbr_map_seed(handle); }
     static std::int64_t balance(const raw *handle) noexcept { return vbr_map_balance(handle); }
-    static std::uint32_t spare(raw *handle) noexcept { return vbr_map_spare(handle); }
+    static std::uint32_t give_slots_back(raw *handle) noexcept { return vbr_map_give_slots_back(handle); }
     static std::uint32_t reserve(raw *handle, std::uint32_t wanted) noexcept { return vbr_map_reserve(handle, wanted); }
     static vbr_answer close_all(raw *handles, std::size_t count, words *entries, std::size_t room, vbr_report *report) noexcept {
         return vbr_map_close_all(handles, count, entries, room, report);
@@ -870,7 +872,7 @@ public:
     /* Whether a key is there. It isn't const, since it changes what the handle owns.
 
            if (*mine.has(7)) there++; // 7 was there during the call */
-    result<bool> has(key_type key) noexcept { return has_within(key, steps()); }
+    result<bool> has(key_type key) noexcept { return has_within(key, this->steps()); }
     result<bool> has_within(key_type key, vbr::steps budget) noexcept {
         return detail::yes_or_no(Kind::has(&raw, detail::word_of(key), budget.count()));
     }
@@ -880,7 +882,9 @@ public:
        for memory together.
 
            mine.has_all(wanted.data(), wanted.size(), answers.data()); // answers[i] is that of wanted[i] */
-    void has_all(const key_type *keys, std::size_t count, result<bool> *answers) noexcept { has_all_within(keys, count, answers, steps()); }
+    void has_all(const key_type *keys, std::size_t count, result<bool> *answers) noexcept {
+        has_all_within(keys, count, answers, this->steps());
+    }
     void has_all_within(const key_type *keys, std::size_t count, result<bool> *answers, vbr::steps budget) noexcept {
         in_parts(keys, count, [&](const std::uint64_t *words, std::size_t from, std::size_t some) {
             vbr_answer told[part];
@@ -895,7 +899,7 @@ public:
            auto next = mine.next(from);
            while (next == vbr::refusal::out_of_steps) next = mine.next(from); // from where it came to
            if (*next) sum += **next; */
-    result<std::optional<item_type>> next(cursor &from) noexcept { return next_within(from, steps()); }
+    result<std::optional<item_type>> next(cursor &from) noexcept { return next_within(from, this->steps()); }
     result<std::optional<item_type>> next_within(cursor &from, vbr::steps budget) noexcept {
         typename Kind::words words = {};
         vbr_answer told = Kind::next(&raw, &from.raw, &words, budget.count());
@@ -932,12 +936,13 @@ public:
        many they were. It keeps none then; the next insert that adds a key takes some in reserve again. Call it of a handle that
        inserts nothing for a time; one that is closed or ends does so by itself.
 
-           std::uint32_t given = mine.spare(); // the other handles can have them now */
-    std::uint32_t spare() noexcept { return Kind::spare(&raw); }
+           std::uint32_t given = mine.give_slots_back(); // the other handles can have them now */
+    std::uint32_t give_slots_back() noexcept { return Kind::give_slots_back(&raw); }
+    [[deprecated("give_slots_back")]] std::uint32_t spare() noexcept { return give_slots_back(); } /* the old name, for one version */
 
     /* Takes slots out of the pool that all handles share until the handle keeps `wanted` to itself, or 63 if that is less, and
        returns how many it took: fewer only where it finds no more. A handle keeps up to 32 by itself, from its opening on:
-       vbr_reserve says how many, what they are for, and when to take more. spare gives the slots back.
+       vbr_reserve says how many, what they are for, and when to take more. give_slots_back does the opposite.
 
            std::uint32_t reserved = mine.reserve(32); // for its inserts to come */
     std::uint32_t reserve(std::uint32_t wanted) noexcept { return Kind::reserve(&raw, wanted); }
@@ -949,7 +954,7 @@ public:
        look-ups, walks and removes go on.
 
            vbr::map_held slot = mine.hold().value(); */
-    result<held> hold() noexcept { return hold_within(steps()); }
+    result<held> hold() noexcept { return hold_within(this->steps()); }
     result<held> hold_within(vbr::steps budget) noexcept {
         std::uint32_t slot = 0;
         vbr_answer told = Kind::hold(&raw, &slot, budget.count());
@@ -960,7 +965,7 @@ public:
     /* Looks a key up, and tells where it stands; none where it is absent. Its steps are loads.
 
            std::optional<vbr::map_incarnation> at = mine.get_entry(6).value(); // at->slot() is where 6 stands */
-    result<std::optional<incarnation>> get_entry(key_type key) noexcept { return get_entry_within(key, steps()); }
+    result<std::optional<incarnation>> get_entry(key_type key) noexcept { return get_entry_within(key, this->steps()); }
     result<std::optional<incarnation>> get_entry_within(key_type key, vbr::steps budget) noexcept {
         incarnation at;
         vbr_answer told = Kind::get_entry(&raw, detail::word_of(key), &at.raw, budget.count());
@@ -977,7 +982,7 @@ public:
     /* Takes a key out if it still has the very entry that was found. Else nothing is changed.
 
            if (mine.remove_entry(7, *at).value()) taken_out++; // nobody had changed 7 since it was found */
-    result<bool> remove_entry(key_type key, const incarnation &at) noexcept { return remove_entry_within(key, at, steps()); }
+    result<bool> remove_entry(key_type key, const incarnation &at) noexcept { return remove_entry_within(key, at, this->steps()); }
     result<bool> remove_entry_within(key_type key, const incarnation &at, vbr::steps budget) noexcept {
         return detail::yes_or_no(Kind::remove_entry(&raw, detail::word_of(key), &at.raw, budget.count()));
     }
@@ -985,7 +990,7 @@ public:
     /* The next key of a walk, and where it stands; none at the end. It is as `next` otherwise.
 
            auto stands = mine.next_at(from).value(); // a key, and its incarnation */
-    result<std::optional<std::pair<key_type, incarnation>>> next_at(cursor &from) noexcept { return next_at_within(from, steps()); }
+    result<std::optional<std::pair<key_type, incarnation>>> next_at(cursor &from) noexcept { return next_at_within(from, this->steps()); }
     result<std::optional<std::pair<key_type, incarnation>>> next_at_within(cursor &from, vbr::steps budget) noexcept {
         std::uint64_t key = 0;
         incarnation at;
@@ -1068,13 +1073,13 @@ public:
     /* All keys, one after another. The pass has a name, since it has to live as long as the walk.
 
            for (std::uint64_t key : mine.keys()) sum += key; */
-    basic_walk<kind> keys() & noexcept { return this->walk(nullptr, this->steps()); }
+    basic_walk<kind> keys() & noexcept { return keys_within(this->steps()); }
     basic_walk<kind> keys_within(vbr::steps budget) & noexcept { return this->walk(nullptr, budget); }
 
     /* The same from a cursor on, which moves along: a walk that was left, or came to no end, goes on from there.
 
            for (std::uint64_t key : mine.keys(from)) sum += key; */
-    basic_walk<kind> keys(cursor &from) & noexcept { return this->walk(&from, this->steps()); }
+    basic_walk<kind> keys(cursor &from) & noexcept { return keys_within(from, this->steps()); }
     basic_walk<kind> keys_within(cursor &from, vbr::steps budget) & noexcept { return this->walk(&from, budget); }
 };
 
@@ -1143,21 +1148,13 @@ public:
 
            std::optional<std::uint64_t> taken = mine.remove(6).value(); // what 6 had */
     found remove(Key key) noexcept { return remove_within(key, this->steps()); }
-    found remove_within(Key key, vbr::steps budget) noexcept {
-        std::uint64_t value = 0;
-        vbr_answer told = vbr_map_remove_within(&this->raw, detail::word_of(key), &value, budget.count());
-        return detail::value_by<Value>(told, value);
-    }
+    found remove_within(Key key, vbr::steps budget) noexcept { return found_by(vbr_map_remove_within, budget, key); }
 
     /* The value of a key. As `has` it isn't const.
 
            if (std::optional<std::uint64_t> got = mine.get(6).value()) sum += *got; */
     found get(Key key) noexcept { return get_within(key, this->steps()); }
-    found get_within(Key key, vbr::steps budget) noexcept {
-        std::uint64_t value = 0;
-        vbr_answer told = vbr_map_get_within(&this->raw, detail::word_of(key), &value, budget.count());
-        return detail::value_by<Value>(told, value);
-    }
+    found get_within(Key key, vbr::steps budget) noexcept { return found_by(vbr_map_get_within, budget, key); }
 
     /* The value of each of some keys: values[i] is what `get` answers of keys[i], as `has_all` asks for keys alone.
 
@@ -1177,9 +1174,7 @@ public:
            std::optional<std::uint64_t> was = mine.replace(6, 61).value(); // 6 had it, and has 61 */
     found replace(Key key, Value value) noexcept { return replace_within(key, value, this->steps()); }
     found replace_within(Key key, Value value, vbr::steps budget) noexcept {
-        std::uint64_t had = 0;
-        vbr_answer told = vbr_map_replace_within(&this->raw, detail::word_of(key), detail::word_of(value), &had, budget.count());
-        return detail::value_by<Value>(told, had);
+        return found_by(vbr_map_replace_within, budget, key, value);
     }
 
     /* Gives a key this value, and returns the one that it had; if it was absent it is inserted.
@@ -1187,9 +1182,7 @@ public:
            if (mine.put(7, 70).has_value()) puts++; // 7 has 70, whether it was there or not */
     found put(Key key, Value value) noexcept { return put_within(key, value, this->steps()); }
     found put_within(Key key, Value value, vbr::steps budget) noexcept {
-        std::uint64_t had = 0;
-        vbr_answer told = vbr_map_put_within(&this->raw, detail::word_of(key), detail::word_of(value), &had, budget.count());
-        return detail::value_by<Value>(told, had);
+        return found_by(vbr_map_put_within, budget, key, value);
     }
 
     /* The value of a key; if it was absent there is none, and it is inserted with this one.
@@ -1197,9 +1190,7 @@ public:
            std::uint64_t has = mine.get_or_insert(8, 80).value().value_or(80); */
     found get_or_insert(Key key, Value value) noexcept { return get_or_insert_within(key, value, this->steps()); }
     found get_or_insert_within(Key key, Value value, vbr::steps budget) noexcept {
-        std::uint64_t has = 0;
-        vbr_answer told = vbr_map_get_or_insert_within(&this->raw, detail::word_of(key), detail::word_of(value), &has, budget.count());
-        return detail::value_by<Value>(told, has);
+        return found_by(vbr_map_get_or_insert_within, budget, key, value);
     }
 
     /* Gives a key another value if it has the one that is expected, by its bits. Else nothing is changed.
@@ -1209,10 +1200,7 @@ public:
         return compare_exchange_within(key, expected, value, this->steps());
     }
     result<compared<Value>> compare_exchange_within(Key key, Value expected, Value value, vbr::steps budget) noexcept {
-        std::uint64_t had = 0;
-        vbr_answer told = vbr_map_compare_exchange_within(&this->raw, detail::word_of(key), detail::word_of(expected),
-                                                          detail::word_of(value), &had, budget.count());
-        return detail::compared_by<Value>(told, had);
+        return compared_by(vbr_map_compare_exchange_within, budget, key, expected, value);
     }
 
     /* Takes a key out if it has the value that is expected, by its bits. Else nothing is changed.
@@ -1220,9 +1208,7 @@ public:
            vbr::compared<std::uint64_t> left = mine.remove_if(6, 60).value(); // not done: 6 has *left.found, and is still there */
     result<compared<Value>> remove_if(Key key, Value expected) noexcept { return remove_if_within(key, expected, this->steps()); }
     result<compared<Value>> remove_if_within(Key key, Value expected, vbr::steps budget) noexcept {
-        std::uint64_t had = 0;
-        vbr_answer told = vbr_map_remove_if_within(&this->raw, detail::word_of(key), detail::word_of(expected), &had, budget.count());
-        return detail::compared_by<Value>(told, had);
+        return compared_by(vbr_map_remove_if_within, budget, key, expected);
     }
 
     /* Gives a key the value that `update` makes of the one that it has, and returns that one; none, and nothing is changed, if the key is
@@ -1254,14 +1240,31 @@ public:
     /* All entries, one after another. The pass has a name, as for keys.
 
            for (auto [key, value] : mine.entries()) sum += key * value; */
-    basic_walk<kind> entries() & noexcept { return this->walk(nullptr, this->steps()); }
+    basic_walk<kind> entries() & noexcept { return entries_within(this->steps()); }
     basic_walk<kind> entries_within(vbr::steps budget) & noexcept { return this->walk(nullptr, budget); }
 
     /* The same from a cursor on, which moves along: a walk that was left, or came to no end, goes on from there.
 
            for (auto [key, value] : mine.entries(from)) sum += key * value; */
-    basic_walk<kind> entries(cursor &from) & noexcept { return this->walk(&from, this->steps()); }
+    basic_walk<kind> entries(cursor &from) & noexcept { return entries_within(from, this->steps()); }
     basic_walk<kind> entries_within(cursor &from, vbr::steps budget) & noexcept { return this->walk(&from, budget); }
+
+private:
+    /* Makes a call of the library that is given these, and writes what its key had. */
+    template <class Call, class... Given>
+    found found_by(const Call &call, vbr::steps budget, const Given &...given) noexcept {
+        std::uint64_t had = 0;
+        vbr_answer told = call(&this->raw, detail::word_of(given)..., &had, budget.count());
+        return detail::value_by<Value>(told, had);
+    }
+
+    /* The same of one that expects a value. */
+    template <class Call, class... Given>
+    result<compared<Value>> compared_by(const Call &call, vbr::steps budget, const Given &...given) noexcept {
+        std::uint64_t had = 0;
+        vbr_answer told = call(&this->raw, detail::word_of(given)..., &had, budget.count());
+        return detail::compared_by<Value>(told, had);
+    }
 };
 
 /* What a handle to a set and one to a map have in common; each may be empty. One thread at a time makes calls with it, by its pass. Its
@@ -1415,7 +1418,7 @@ private:
     bool is_last() noexcept {
         if (shared->open.load(std::memory_order_acquire) == 1) return true;
         static_cast<void>(kind::let_go(&raw)); // those that are open can have its slots
-        this->spare();
+        this->give_slots_back();
         shared->parked[number] = raw;
         if (shared->open.fetch_sub(1, std::memory_order_acq_rel) == 1) {
             shared->open.store(1, std::memory_order_relaxed);
@@ -1565,7 +1568,7 @@ public:
 
     static result<std::vector<Handle>> open(const shape &wanted, std::size_t count) { return open_with(wanted, count, nullptr, 0); }
     static result<std::vector<Handle>> open_with(const shape &wanted, std::size_t count, const item *items, std::size_t item_count) {
-        return opened(kind::open_seeded, wanted, count, max_handles, items, item_count);
+        return opened(kind::open_seeded, wanted, count, max_few_handles, items, item_count);
     }
     static result<std::vector<Handle>> open_with(const shape &wanted, std::size_t count, std::initializer_list<item> items) {
         return open_with(wanted, count, items.begin(), items.size());
@@ -1638,6 +1641,7 @@ using handle = set<>::handle;
 using report = set<>::report;
 using held = pass::held;
 using incarnation = pass::incarnation;
+
 using map_pass = map<>::pass;
 using map_handle = map<>::handle;
 using map_report = map<>::report;

@@ -1,5 +1,5 @@
-/* Handles that are lent: for programs whose threads come and go, or are more than the handles of a set. A lender has
-   open handles. Whoever wants to make calls borrows one, at once or not at all, and gives it back.
+/* Handles that are lent: for programs whose threads come and go, or outnumber the handles of a set. A lender has open handles. A
+   thread that wants to make calls borrows one, at once or not at all, and gives it back.
 
        vbr_handle handle[8] = {{0}};
        vbr_lender lender = {0};
@@ -12,17 +12,17 @@
            vbr_give_back(&lender, mine);
        }
 
-   It takes no lock and no memory, never waits, and stands above the calls of vbr.h, which are proved; this header is tested.
-   A thread is lent the handle that it had last, by any lender, where that is free: a loan and its return are then one atomic
-   exchange on a word that other threads don't write, and threads that are no more than handles come to have one each. A lender
-   has the words of 64 handles; for more of them vbr_lender_init_many takes some. No pointer that a call is given is null.
+   It takes no lock and no memory, never waits, and stands above the calls of vbr.h, which are proved; this header is tested. A thread
+   gets the handle that it had last, from any lender, if that one is free: a loan and its return are then one atomic exchange on a
+   word that other threads don't write, and if there are no more threads than handles, each comes to have its own. A lender has words
+   for 64 handles; for more, give vbr_lender_init_many some. No pointer that a call is given may be null.
 
-   What is done with a handle before it is given back comes before what the next borrower does (a release and an acquire).
-   The handles and the lender stay where they are while there are loans. A lender has 8 KiB, for words that are apart. The
-   number of a loan is `mine - handle`: for data that lies beside each handle. A signal handler may borrow. Once all are given
-   back, the handles are closed by vbr_close as ever, or go on over a fresh set by vbr_lender_renew, which doesn't wait for them
-   either: a program calls it again until they are. Handles to a map are lent by the calls with `vbr_map_` in their names.
-   It is written for GCC and Clang, in C99 to C++23. */
+   What is done with a handle before it is given back comes before what the next borrower does (a release and an acquire). The handles
+   and the lender stay where they are while there are loans. A lender takes 8 KiB, since its words lie apart. The number of a loan is
+   `mine - handle`: for data that lies beside each handle. A signal handler may borrow. Once all are given back, the handles are
+   closed by vbr_close as always, or go on over a fresh set by vbr_lender_renew. That doesn't wait for them either: a program calls it
+   again until all are back. Handles to a map are lent by the calls with `vbr_map_` in their names. It is written for GCC and Clang,
+   in C99 to C++23. */
 #ifndef VBR_LEND_H
 #define VBR_LEND_H
 
@@ -34,8 +34,8 @@
 #define VBR_LENDS_NONE NULL
 #endif
 
-/* Whether a handle is lent, for vbr_lender_init_many: 128 bytes, so no two of them share a cache line, wherever they lie. All zero: it
-   isn't.
+/* Whether a handle is lent, for vbr_lender_init_many: 128 bytes, so no two of them share a cache line, wherever they lie. All zero:
+   it isn't lent.
 
        static vbr_lend_word many_words[1000]; */
 typedef struct vbr_lend_word {
@@ -50,9 +50,9 @@ typedef struct vbr_lend_word {
 typedef struct vbr_lender {
     vbr_handle *handles;
     size_t count;
-    size_t lends; /* of so many one may be lent: of all, and of none while they are renewed */
-    vbr_lend_word *many; /* one for each handle, or none: then its own */
-    vbr_lend_word own[VBR_MAX_HANDLES];
+    size_t lends; /* how many handles may be lent: all, or 0 during a renewal */
+    vbr_lend_word *many; /* one for each handle, or null: then its own are used */
+    vbr_lend_word own[VBR_MAX_FEW_HANDLES];
 } vbr_lender;
 
 /* Open handles of a map, and whether each is lent.
@@ -63,16 +63,16 @@ typedef struct vbr_map_lender {
     size_t count;
     size_t lends;
     vbr_lend_word *many;
-    vbr_lend_word own[VBR_MAX_HANDLES];
+    vbr_lend_word own[VBR_MAX_FEW_HANDLES];
 } vbr_map_lender;
 
-/* What both lenders do finds their words by this. It is no part of the interface. */
+/* Finds the words of both lenders. It is no part of the interface. */
 #define VBR_LEND_WORDS(lender) ((lender)->many ? (lender)->many : (lender)->own)
 
-/* What both lenders do first: the number of the handle that this thread was lent last. It is no part of the interface. */
+/* The number of the handle that this thread was lent last, by either lender. It is no part of the interface. */
 static __thread size_t vbr_lent_last;
 
-/* What both lenders do: the number of a free handle, which is lent now, or SIZE_MAX where none is free or none is to be lent.
+/* What both lenders do: lends a free handle and returns its number, or SIZE_MAX if none is free or none may be lent.
    It is no part of the interface. */
 VBR_NODISCARD VBR_NONNULL static inline size_t vbr_lend_number(vbr_lend_word *words, const size_t *lends) VBR_NOEXCEPT {
     size_t count = __atomic_load_n(lends, __ATOMIC_RELAXED), number = vbr_lent_last < count ? vbr_lent_last : 0, tried;
@@ -86,8 +86,8 @@ VBR_NODISCARD VBR_NONNULL static inline size_t vbr_lend_number(vbr_lend_word *wo
     return SIZE_MAX;
 }
 
-/* What both lenders do for a renewal: none is lent from now on, and each handle that is free is taken; whether all are. Where not
-   all are, those are given back, and still none is lent. It is no part of the interface. */
+/* What both lenders do for a renewal: lends none from now on, takes each free handle, and says whether it took all. If not, it gives
+   back those that it took, and still lends none. It is no part of the interface. */
 VBR_NODISCARD VBR_NONNULL static inline int vbr_lend_takes_all(vbr_lend_word *words, size_t count, size_t *lends) VBR_NOEXCEPT {
     size_t taken = 0;
     __atomic_store_n(lends, 0, __ATOMIC_RELAXED);
@@ -104,18 +104,18 @@ VBR_NONNULL static inline void vbr_lend_gives_all(vbr_lend_word *words, size_t c
     __atomic_store_n(lends, count, __ATOMIC_RELAXED);
 }
 
-/* Lends these handles, `count` of them, from now on: of more than 64 the first 64. No thread uses the lender before.
+/* Lends these `count` handles from now on, or the first 64 if there are more. No thread may use the lender before.
 
        vbr_lender lender = {0};
        vbr_lender_init(&lender, handle, 2); */
 VBR_NONNULL static inline void vbr_lender_init(vbr_lender *lender, vbr_handle *handles, size_t count) VBR_NOEXCEPT {
     lender->handles = handles;
-    lender->count = count < VBR_MAX_HANDLES ? count : VBR_MAX_HANDLES;
+    lender->count = count < VBR_MAX_FEW_HANDLES ? count : VBR_MAX_FEW_HANDLES;
     lender->many = VBR_LENDS_NONE;
     vbr_lend_gives_all(lender->own, lender->count, &lender->lends);
 }
 
-/* Lends any number of handles: as vbr_lender_init, with a word for each. The words stay where they are as long as the lender is used.
+/* Lends any number of handles, as vbr_lender_init does, with a word for each. The words stay where they are as long as the lender is used.
 
        vbr_lender_init_many(&of_many, many, 1000, many_words); // of handles that vbr_open_many opened */
 VBR_NONNULL static inline void vbr_lender_init_many(vbr_lender *lender, vbr_handle *handles, size_t count, vbr_lend_word *words) VBR_NOEXCEPT {
@@ -125,8 +125,8 @@ VBR_NONNULL static inline void vbr_lender_init_many(vbr_lender *lender, vbr_hand
     vbr_lend_gives_all(words, count, &lender->lends);
 }
 
-/* A free handle, or a null pointer where each was lent at a moment of the call, or they are being renewed. It tries each handle
-   at most once, so it never waits, and first the one that this thread was lent last.
+/* Lends a free handle, or returns a null pointer if each was lent at some moment of the call, or they are being renewed. It tries each handle
+   at most once, so it never waits, and begins with the one that this thread was lent last.
 
        vbr_handle *mine = vbr_lend(&lender); // NULL: both are lent */
 VBR_NODISCARD VBR_NONNULL static inline vbr_handle *vbr_lend(vbr_lender *lender) VBR_NOEXCEPT {
@@ -141,9 +141,9 @@ VBR_NONNULL static inline void vbr_give_back(vbr_lender *lender, vbr_handle *han
     __atomic_store_n(&VBR_LEND_WORDS(lender)[handle - lender->handles].lent, 0, __ATOMIC_RELEASE);
 }
 
-/* Lets the handles go on over a fresh set of this shape, as vbr_renew_all does, once none is on loan. From the first call on none is
-   lent: VBR_IN_USE, and a handle is still on loan, so call it again when it may be back. What it answers else is what vbr_renew_all
-   answers, and then all are lent again. A lender's renewals are one thread's. It waits for nobody.
+/* Lets the handles go on over a fresh set of this shape, as vbr_renew_all does, once none is on loan. From the first call on none is lent.
+   VBR_IN_USE: a handle is still on loan, so call it again when it may be back. Otherwise it returns what vbr_renew_all returns, and then all
+   are lent again. Only one thread at a time may renew a lender. It waits for nobody.
 
        while ((renewed = vbr_lender_renew(&lender, 2048 + 2 * 64, 2048, VBR_MAX_EPOCH)) == VBR_IN_USE) sched_yield(); // until all are back */
 VBR_NODISCARD VBR_NONNULL static inline vbr_answer vbr_lender_renew(vbr_lender *lender, uint32_t slots, uint32_t buckets,
@@ -156,25 +156,25 @@ VBR_NODISCARD VBR_NONNULL static inline vbr_answer vbr_lender_renew(vbr_lender *
     return answer;
 }
 
-/* Lends again, where a renewal was answered VBR_IN_USE and is given up.
+/* Lends again, after a renewal that was answered VBR_IN_USE and is given up.
 
        if (vbr_lender_renew(&lender, 1024 + 2 * 64, 1024, VBR_MAX_EPOCH) == VBR_IN_USE) vbr_lender_lend_on(&lender); // not now */
 VBR_NONNULL static inline void vbr_lender_lend_on(vbr_lender *lender) VBR_NOEXCEPT {
     __atomic_store_n(&lender->lends, lender->count, __ATOMIC_RELAXED);
 }
 
-/* As vbr_lender_init, of handles to a map.
+/* As vbr_lender_init, for handles to a map.
 
        vbr_map_lender lender = {0};
        vbr_map_lender_init(&lender, map, 2); */
 VBR_NONNULL static inline void vbr_map_lender_init(vbr_map_lender *lender, vbr_map_handle *handles, size_t count) VBR_NOEXCEPT {
     lender->handles = handles;
-    lender->count = count < VBR_MAX_HANDLES ? count : VBR_MAX_HANDLES;
+    lender->count = count < VBR_MAX_FEW_HANDLES ? count : VBR_MAX_FEW_HANDLES;
     lender->many = VBR_LENDS_NONE;
     vbr_lend_gives_all(lender->own, lender->count, &lender->lends);
 }
 
-/* As vbr_lender_init_many, of handles to a map.
+/* As vbr_lender_init_many, for handles to a map.
 
        vbr_map_lender_init_many(&of_many, many, 1000, many_words); */
 VBR_NONNULL static inline void vbr_map_lender_init_many(vbr_map_lender *lender, vbr_map_handle *handles, size_t count,
@@ -185,7 +185,7 @@ VBR_NONNULL static inline void vbr_map_lender_init_many(vbr_map_lender *lender, 
     vbr_lend_gives_all(words, count, &lender->lends);
 }
 
-/* As vbr_lend: a free handle to a map, or a null pointer.
+/* As vbr_lend: lends a free handle to a map, or returns a null pointer.
 
        vbr_map_handle *mine = vbr_map_lend(&lender); // NULL: both are lent */
 VBR_NODISCARD VBR_NONNULL static inline vbr_map_handle *vbr_map_lend(vbr_map_lender *lender) VBR_NOEXCEPT {
@@ -200,7 +200,7 @@ VBR_NONNULL static inline void vbr_map_give_back(vbr_map_lender *lender, vbr_map
     __atomic_store_n(&VBR_LEND_WORDS(lender)[handle - lender->handles].lent, 0, __ATOMIC_RELEASE);
 }
 
-/* As vbr_lender_renew, of handles to a map: each key keeps its value.
+/* As vbr_lender_renew, for handles to a map: each key keeps its value.
 
        vbr_answer renewed = vbr_map_lender_renew(&lender, 2048 + 2 * 64, 2048, VBR_MAX_EPOCH); // VBR_IN_USE: a handle is on loan */
 VBR_NODISCARD VBR_NONNULL static inline vbr_answer vbr_map_lender_renew(vbr_map_lender *lender, uint32_t slots, uint32_t buckets,
@@ -213,7 +213,7 @@ VBR_NODISCARD VBR_NONNULL static inline vbr_answer vbr_map_lender_renew(vbr_map_
     return answer;
 }
 
-/* Lends again, where a renewal was answered VBR_IN_USE and is given up.
+/* Lends again, after a renewal that was answered VBR_IN_USE and is given up.
 
        vbr_map_lender_lend_on(&lender); // and the renewal isn't made */
 VBR_NONNULL static inline void vbr_map_lender_lend_on(vbr_map_lender *lender) VBR_NOEXCEPT {

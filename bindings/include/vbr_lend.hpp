@@ -482,8 +482,9 @@ public:
 
     /* Ends all handles without a report, or none of them, likewise. It takes no memory, and no time for the keys.
 
-           vbr::result<void> ended = another.end_all(); */
-    result<void> end_all() noexcept { return all ? all->end_all() : refusal::no_handle; }
+           vbr::result<void> ended = another.end(); */
+    result<void> end() noexcept { return all ? all->end_all() : refusal::no_handle; }
+    [[deprecated("end")]] result<void> end_all() noexcept { return end(); } /* the old name, for one version */
 
 private:
     template <class Record>

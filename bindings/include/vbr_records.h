@@ -11,16 +11,16 @@
        vbr_answer there = vbr_map_records_read(&map[1], &accounts, 5, &seen, &at); // VBR_YES: seen is that record, whole
 
    A record is written while its slot is held, and then never again, so an entry has one record for as long as it is there. To change the
-   record of a key, hold another slot, write the whole record there, and put that slot in the place of the entry that was read, by
+   record of a key, hold another slot, write the whole record there, and put that slot in place of the entry that was read, by
    vbr_map_replace_held. The old record stays as it is for those who still read it. Nobody frees it: it goes where its slot goes.
 
-   A reader copies a record, and then asks whether the slot is the entry's own still. If it isn't, it finds the key again. So it holds
-   nobody up, takes no memory, and begins anew only where others took the entry out, or changed it, while it copied. Which record
-   belongs to which entry is proved of the calls of vbr.h; that copies are whole is argued, and this header is tested.
+   A reader copies a record, and then asks whether the slot is still the entry's own. If it isn't, it finds the key again. So it holds
+   nobody up, takes no memory, and begins anew only if others took the entry out, or changed it, while it copied. Which record belongs to
+   which entry is proved for the calls of vbr.h; that copies are whole is argued, and this header is tested.
 
    The words of records are atomic: a writer stores each with release, and a reader loads each with acquire. That costs nothing on x86-64.
-   Fences would do too, but ThreadSanitizer doesn't know them. No pointer that a call is given is null, but where it is said.
-   It is written for GCC and Clang, in C99 to C23 and C++11 to C++23. */
+   Fences would do too, but ThreadSanitizer doesn't know them. No pointer that a call is given may be null, unless its comment says so. It
+   is written for GCC and Clang, in C99 to C23 and C++11 to C++23. */
 #ifndef VBR_RECORDS_H
 #define VBR_RECORDS_H
 
@@ -35,8 +35,8 @@
 #define VBR_RECORDS_AS(type, pointer) ((type)(pointer))
 #endif
 
-/* A record for each slot of a set or a map. All zero: none. Many threads may use it at a time. It is opened, closed and renewed by one
-   that no other is beside.
+/* A record for each slot of a set or a map. All zero: none. Many threads may use it at a time. While one thread opens, closes or renews
+   it, no other uses it.
 
        static vbr_records accounts; */
 typedef struct vbr_records {
@@ -47,7 +47,8 @@ typedef struct vbr_records {
     uint32_t is_given;
 } vbr_records;
 
-/* How many bytes the records of so many slots take, where each has so many: whole words of 8 bytes. SIZE_MAX where no block is so large.
+/* Returns how many bytes the records of so many slots take, if each has `bytes` bytes: whole words of 8 bytes. SIZE_MAX if no block is so
+   large.
 
        size_t size = vbr_records_size(vbr_map_slots(&map[0]), sizeof(struct account)); */
 VBR_NODISCARD static inline size_t vbr_records_size(uint32_t slots, size_t bytes) VBR_NOEXCEPT {
@@ -55,10 +56,10 @@ VBR_NODISCARD static inline size_t vbr_records_size(uint32_t slots, size_t bytes
     return slots && each > SIZE_MAX / 8 / slots ? SIZE_MAX : 8 * each * slots;
 }
 
-/* Opens records of so many bytes each, one for each of these slots, which are those of the set or the map: VBR_OK. They are all zero. The
-   memory is taken by malloc's kin where `block` is null. Else it is that block of vbr_records_size bytes, which are zero, and aligned
-   as words of 64 bits are. It stays the program's. So records may lie in memory that processes share. Else VBR_IN_USE, where they are
-   open; VBR_BAD_SHAPE, where slots or bytes is 0; or VBR_NO_MEMORY.
+/* Opens records of so many bytes each, one for each slot of the set or the map: VBR_OK. They are all zero. If `block` is null the memory
+   is taken by calloc. Otherwise it is that block of vbr_records_size bytes, which are zero, and aligned as words of 64 bits are; it stays
+   the program's. So records may lie in memory that processes share. Else VBR_IN_USE, if they are open; VBR_BAD_SHAPE, if slots or bytes
+   is 0; or VBR_NO_MEMORY.
 
        if (vbr_records_open(&accounts, vbr_map_slots(&map[0]), sizeof(struct account), NULL) != VBR_OK) return 1; */
 VBR_NODISCARD static inline vbr_answer vbr_records_open(vbr_records *records, uint32_t slots, size_t bytes, void *block) VBR_NOEXCEPT {
@@ -84,8 +85,8 @@ VBR_NONNULL static inline void vbr_records_close(vbr_records *records) VBR_NOEXC
     memset(records, 0, sizeof *records);
 }
 
-/* Writes the record of a slot that is held, from `data`, which has as many bytes as a record. Whoever finds the entry that is then made
-   of the slot finds the record, too. It may be written several times before that, and not after it.
+/* Writes the record of a held slot, from `data`, which has as many bytes as a record. Whoever finds the entry that is then made of the
+   slot finds the record too. It may be written several times before that, and never after it.
 
        vbr_records_write(&accounts, slot, &mine); */
 VBR_NONNULL static inline void vbr_records_write(vbr_records *records, uint32_t slot, const void *data) VBR_NOEXCEPT {
@@ -102,9 +103,9 @@ VBR_NONNULL static inline void vbr_records_write(vbr_records *records, uint32_t 
     __atomic_store_n(to, word, __ATOMIC_RELEASE);
 }
 
-/* Copies the record of a slot to `data`. Of a slot that is held it is what was written. Of another one the copy counts for nothing until
-   vbr_is_still or vbr_map_is_still has said yes to the entry that was found there before. It may be of two records until then: follow
-   no pointer and no index that is in it. vbr_records_read and its kin do all that.
+/* Copies the record of a slot to `data`. For a held slot that is what was written. For any other the copy counts for nothing until
+   vbr_is_still or vbr_map_is_still has said yes to the entry that was found there before. Until then it may mix two records: follow no
+   pointer and no index in it. vbr_records_read and its kin do all that.
 
        vbr_records_copy(&accounts, at.slot, &seen);
        if (vbr_map_is_still(&map[1], &at) == VBR_YES) copied++; // else it was changed meanwhile: find the key again */
@@ -125,7 +126,7 @@ VBR_NONNULL static inline void vbr_records_copy(const vbr_records *records, uint
 /* Reads the record of a key of a set: VBR_YES if it is there, and `*data` is then its record, as it was written before the key was
    inserted, and `*at` its entry, which was there at a moment of the call; VBR_NO if it is absent. Else VBR_OUT_OF_STEPS or VBR_NO_HANDLE.
    Unless it answers VBR_YES, `*data` is zero, byte by byte, and what is in `*at` means nothing. It looks up, copies, and asks. It does so
-   again only where the slot was handed out anew while it copied. Each look-up has the budget of the handle. All its steps are loads.
+   again only if the slot was handed out anew while it copied. Each look-up has the budget of the handle. All its steps are loads.
 
        vbr_answer there = vbr_records_read(&handle[1], &accounts, 5, &seen, &at); // VBR_YES: seen is that record, whole */
 VBR_NODISCARD VBR_NONNULL static inline vbr_answer vbr_records_read(vbr_handle *handle, const vbr_records *records, uint64_t key,
@@ -139,8 +140,8 @@ VBR_NODISCARD VBR_NONNULL static inline vbr_answer vbr_records_read(vbr_handle *
     return told;
 }
 
-/* Reads the record of a key of a map, as vbr_records_read does of a set. Its value is in `at->value`, and is free for other use: a length,
-   or what is read more often than the record.
+/* Reads the record of a key of a map, as vbr_records_read does for a set. Its value is in `at->value`, and is free for other use: a
+   length, or what is read more often than the record.
 
        vbr_answer there = vbr_map_records_read(&map[1], &accounts, 5, &seen, &at); // VBR_YES: seen is that record, whole */
 VBR_NODISCARD VBR_NONNULL static inline vbr_answer vbr_map_records_read(vbr_map_handle *handle, const vbr_records *records, uint64_t key,
@@ -178,7 +179,7 @@ VBR_NODISCARD VBR_NONNULL static inline vbr_answer vbr_records_next(vbr_handle *
     return told;
 }
 
-/* Gives the next key of a walk over a map with its record, as vbr_records_next does of a set. The value of the key is in `at->value`.
+/* Gives the next key of a walk over a map with its record, as vbr_records_next does for a set. The value of the key is in `at->value`.
 
        do {
            told = vbr_map_records_next(&map[0], &cursor, &accounts, &key, &seen, &at);
@@ -209,14 +210,14 @@ VBR_NONNULL static inline void vbr_records_carry(vbr_records *records, vbr_recor
     *records = *fresh;
 }
 
-/* Renews a set as vbr_renew_all does, and carries its records over to the slots that its keys have then: VBR_OK. Where `block` is null the
-   memory of the fresh records is taken by malloc's kin; else it is another block than the old one, as vbr_records_open takes it. Else the
-   set and its records are as they were, and it answers what vbr_renew_all answers. It takes 12 bytes for each slot besides, while it
-   runs. No other thread uses the set or the records meanwhile.
+/* Renews a set as vbr_renew_all does, and carries its records over to the slots that its keys have then: VBR_OK. If `block` is null,
+   calloc gives the memory of the fresh records; otherwise it is another block than the old one, as vbr_records_open takes it. Else the
+   set and its records stay as they were, and it returns what vbr_renew_all returns. It takes 12 bytes for each slot besides, while it
+   runs. No other thread may use the set or the records meanwhile.
 
-       vbr_answer renewed = vbr_records_renew(handle, 2, 2048 + 2 * 64, 2048, VBR_MAX_EPOCH, &accounts, NULL); // VBR_OK: twice as large */
-VBR_NODISCARD static inline vbr_answer vbr_records_renew(vbr_handle *handles, size_t count, uint32_t slots, uint32_t buckets,
-                                                         uint64_t last_epoch, vbr_records *records, void *block) VBR_NOEXCEPT {
+       vbr_answer renewed = vbr_records_renew_all(handle, 2, 2048 + 2 * 64, 2048, VBR_MAX_EPOCH, &accounts, NULL); // VBR_OK: twice as large */
+VBR_NODISCARD static inline vbr_answer vbr_records_renew_all(vbr_handle *handles, size_t count, uint32_t slots, uint32_t buckets,
+                                                             uint64_t last_epoch, vbr_records *records, void *block) VBR_NOEXCEPT {
     vbr_records fresh;
     vbr_report report;
     memset(&fresh, 0, sizeof fresh), memset(&report, 0, sizeof report);
@@ -232,12 +233,13 @@ VBR_NODISCARD static inline vbr_answer vbr_records_renew(vbr_handle *handles, si
     return told;
 }
 
-/* Renews a map as vbr_map_renew_all does, and carries its records over, as vbr_records_renew does of a set. It takes 20 bytes for each
-   slot besides, while it runs.
+/* Renews a map as vbr_map_renew_all does, and carries its records over, as vbr_records_renew_all does for a set. It takes 20 bytes for
+   each slot besides, while it runs.
 
-       vbr_answer renewed = vbr_map_records_renew(map, 2, 2048 + 2 * 64, 2048, VBR_MAX_EPOCH, &accounts, NULL); // VBR_OK: twice as large */
-VBR_NODISCARD static inline vbr_answer vbr_map_records_renew(vbr_map_handle *handles, size_t count, uint32_t slots, uint32_t buckets,
-                                                             uint64_t last_epoch, vbr_records *records, void *block) VBR_NOEXCEPT {
+       vbr_answer renewed = vbr_map_records_renew_all(map, 2, 2048 + 2 * 64, 2048, VBR_MAX_EPOCH, &accounts, NULL); // VBR_OK: twice as large */
+VBR_NODISCARD static inline vbr_answer vbr_map_records_renew_all(vbr_map_handle *handles, size_t count, uint32_t slots,
+                                                                 uint32_t buckets, uint64_t last_epoch, vbr_records *records,
+                                                                 void *block) VBR_NOEXCEPT {
     vbr_records fresh;
     vbr_report report;
     memset(&fresh, 0, sizeof fresh), memset(&report, 0, sizeof report);
@@ -251,6 +253,18 @@ VBR_NODISCARD static inline vbr_answer vbr_map_records_renew(vbr_map_handle *han
     else vbr_records_close(&fresh);
     free(entries), free(old);
     return told;
+}
+
+/* The old name of vbr_records_renew_all, for one version. */
+VBR_NODISCARD VBR_DEPRECATED("vbr_records_renew_all") static inline vbr_answer vbr_records_renew(
+    vbr_handle *handles, size_t count, uint32_t slots, uint32_t buckets, uint64_t last_epoch, vbr_records *records, void *block) VBR_NOEXCEPT {
+    return vbr_records_renew_all(handles, count, slots, buckets, last_epoch, records, block);
+}
+
+/* The old name of vbr_map_records_renew_all, for one version. */
+VBR_NODISCARD VBR_DEPRECATED("vbr_map_records_renew_all") static inline vbr_answer vbr_map_records_renew(
+    vbr_map_handle *handles, size_t count, uint32_t slots, uint32_t buckets, uint64_t last_epoch, vbr_records *records, void *block) VBR_NOEXCEPT {
+    return vbr_map_records_renew_all(handles, count, slots, buckets, last_epoch, records, block);
 }
 
 #endif

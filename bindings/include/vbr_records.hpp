@@ -100,10 +100,14 @@ public:
        then. Else all stays as it was. It takes memory for both, for a report and for 4 bytes of each slot; where a vector finds none it
        throws std::bad_alloc.
 
-           vbr::result<void> renewed = accounts.renew(both, vbr::shape::for_keys(2048, 2)); */
+           vbr::result<void> renewed = accounts.renew_all(both, vbr::shape::for_keys(2048, 2)); */
     template <class Handle>
-    result<void> renew(std::vector<Handle> &handles, const shape &wanted) {
+    result<void> renew_all(std::vector<Handle> &handles, const shape &wanted) {
         return renew<Handle>(handles.size(), Handle::in_order(handles), wanted);
+    }
+    template <class Handle>
+    [[deprecated("renew_all")]] result<void> renew(std::vector<Handle> &handles, const shape &wanted) { /* the old name, for one version */
+        return renew_all(handles, wanted);
     }
 
     /* Renews the handles of a lender so, as its `renew` does, once all loans are back. Where a program renews by the records alone, no

@@ -67,30 +67,32 @@ struct shared_calls;
 template <class Key>
 struct shared_calls<basic_set_pass<Key>> {
     using kind = set_of<Key>;
+    using words = std::uint64_t;
     static vbr_handle *raw(vbr_shared_handle &it) noexcept { return &it.set; }
     static vbr_handle *gather(vbr_shared_handle *all) noexcept { return vbr_gather(all); }
-    static vbr_answer open(vbr_shared_handle **all, std::size_t count, const shape &wanted, const std::uint64_t *keys,
-                           std::size_t key_count) noexcept {
-        return vbr_open_shared(all, count, wanted.slots, wanted.buckets, wanted.last_epoch, keys, key_count);
+    static vbr_answer open(vbr_shared_handle **all, std::size_t count, const shape &wanted, const words *items,
+                           std::size_t item_count) noexcept {
+        return vbr_open_shared(all, count, wanted.slots, wanted.buckets, wanted.last_epoch, items, item_count);
     }
-    static vbr_answer open_in(int file, vbr_shared_handle **all, std::size_t count, const shape &wanted, const std::uint64_t *keys,
-                              std::size_t key_count) noexcept {
-        return vbr_open_shared_in(file, all, count, wanted.slots, wanted.buckets, wanted.last_epoch, keys, key_count);
+    static vbr_answer open_in(int file, vbr_shared_handle **all, std::size_t count, const shape &wanted, const words *items,
+                              std::size_t item_count) noexcept {
+        return vbr_open_shared_in(file, all, count, wanted.slots, wanted.buckets, wanted.last_epoch, items, item_count);
     }
 };
 
 template <class Key, class Value>
 struct shared_calls<basic_map_pass<Key, Value>> {
     using kind = map_of<Key, Value>;
+    using words = vbr_entry;
     static vbr_map_handle *raw(vbr_shared_handle &it) noexcept { return &it.map; }
     static vbr_map_handle *gather(vbr_shared_handle *all) noexcept { return vbr_map_gather(all); }
-    static vbr_answer open(vbr_shared_handle **all, std::size_t count, const shape &wanted, const vbr_entry *entries,
-                           std::size_t entry_count) noexcept {
-        return vbr_map_open_shared(all, count, wanted.slots, wanted.buckets, wanted.last_epoch, entries, entry_count);
+    static vbr_answer open(vbr_shared_handle **all, std::size_t count, const shape &wanted, const words *items,
+                           std::size_t item_count) noexcept {
+        return vbr_map_open_shared(all, count, wanted.slots, wanted.buckets, wanted.last_epoch, items, item_count);
     }
-    static vbr_answer open_in(int file, vbr_shared_handle **all, std::size_t count, const shape &wanted, const vbr_entry *entries,
-                              std::size_t entry_count) noexcept {
-        return vbr_map_open_shared_in(file, all, count, wanted.slots, wanted.buckets, wanted.last_epoch, entries, entry_count);
+    static vbr_answer open_in(int file, vbr_shared_handle **all, std::size_t count, const shape &wanted, const words *items,
+                              std::size_t item_count) noexcept {
+        return vbr_map_open_shared_in(file, all, count, wanted.slots, wanted.buckets, wanted.last_epoch, items, item_count);
     }
 };
 
@@ -354,6 +356,7 @@ using shared = basic_shared<typename Of::pass>;
        vbr::claim worker = jobs.claim(2); */
 using shared_set = shared<set<>>;
 using claim = shared_set::claim_type;
+
 using shared_map = shared<map<>>;
 using map_claim = shared_map::claim_type;
 

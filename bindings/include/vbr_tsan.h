@@ -1,5 +1,5 @@
-/* Tells ThreadSanitizer of sets and maps, which are compiled without it. vbr.h includes this where a program is compiled
-   with -fsanitize=thread, in C and C++; a program needs no line for it.
+/* Makes sets and maps known to ThreadSanitizer, since they are compiled without it. vbr.h includes this if a program is compiled with
+   -fsanitize=thread, in C and C++; a program needs no line for it.
 
    The calls go through functions that tell it
    - that a handle is used: two threads that use one, with no order between them, are reported, unless both ask for a number of it;
@@ -7,17 +7,17 @@
      before it removed one before what a thread does that then finds it absent;
    - that what was done before a slot was let go, or its key removed or given another value, comes before what a thread does that then
      holds it;
-   - that what was done before a handle was closed comes before what the last close tells, and that this one writes the report.
+   - that what was done before a handle was closed comes before what the last close reports, and that this close writes the report.
 
-   For maps it says the same, where a get is a look-up, and besides that a value was written. A call that may give a key
-   another value counts as a remove and an insert, also one by a slot that is held. A call of a walk counts as a write of its cursor, and one that gives a key finds
-   it, and writes it. So a right program is silent, and one that reads what it didn't look up, or what is absent, is reported.
-   What the library itself copies and frees while it closes, drops, reports and renews isn't reported, since the sanitizer doesn't
-   see the steps that order it: threads may close and drop handles of their own at the same time. The names of the calls within
-   steps and of the others stand for the functions, and those without a budget call these; so pointers to calls go through them
-   too, and members of these names keep one name. The sanitizer has a place for each of 16,384 groups of keys, whatever the set,
-   and takes a call that would have changed something, and is answered otherwise or refused, for one that has: where keys of a
-   group meet, or after such an answer, it may miss a race. It knows one process alone, and isn't told of the calls of vbr_shared.h. */
+   For maps it says the same, with a get as a look-up, and also that a value was written. A call that may give a key another value
+   counts as a remove and an insert, even by a held slot. A call of a walk counts as a write of its cursor, and one that gives a key
+   finds it, and writes it. So a right program is silent, and one that reads what it didn't look up, or what is absent, is reported.
+   What the library itself copies and frees while it closes, drops, reports and renews isn't reported, since the sanitizer doesn't see
+   the steps that order it: threads may close and drop handles of their own at the same time. The names of the calls within steps and
+   of the others stand for the functions, and those without a budget call these; so pointers to calls go through them too, and members
+   of these names keep one name. The sanitizer has a place for each of 16,384 groups of keys, whatever the set, and takes a call that
+   would have changed something, but was answered otherwise or refused, for one that did. If keys of a group meet, or after such an
+   answer, it may miss a race. It knows one process alone, and the calls of vbr_shared.h aren't known to it. */
 #ifndef VBR_TSAN_H
 #define VBR_TSAN_H
 
@@ -36,7 +36,7 @@ void __tsan_write_range(void *address, long size); /* signed, as in GCC, where i
 void __tsan_ignore_thread_begin(void);
 void __tsan_ignore_thread_end(void);
 
-/* For each group of keys whom inserts come before, and whom removes; then whom closes come before, and whom what frees a slot. */
+/* For each group of keys: what inserts release, and what removes release; then what closes and freed slots release. */
 #define VBR_TSAN_GROUPS (1u << 14)
 __attribute__((weak)) uint64_t vbr_tsan_places[2 * VBR_TSAN_GROUPS + 2];
 
@@ -285,39 +285,39 @@ VBR_NODISCARD static inline vbr_answer vbr_tsan_map_get_within(vbr_map_handle *h
 }
 
 VBR_NODISCARD static inline vbr_answer vbr_tsan_map_replace_within(vbr_map_handle *handle, uint64_t key, uint64_t value,
-                                                                   uint64_t *found, uint32_t steps) VBR_NOEXCEPT {
+                                                                   uint64_t *there, uint32_t steps) VBR_NOEXCEPT {
     vbr_tsan_map_uses(handle);
     vbr_tsan_changes(key);
-    return vbr_tsan_given(found, vbr_tsan_found(key, vbr_map_replace_within(handle, key, value, found, steps)));
+    return vbr_tsan_given(there, vbr_tsan_found(key, vbr_map_replace_within(handle, key, value, there, steps)));
 }
 
 VBR_NODISCARD static inline vbr_answer vbr_tsan_map_put_within(vbr_map_handle *handle, uint64_t key, uint64_t value,
-                                                               uint64_t *found, uint32_t steps) VBR_NOEXCEPT {
+                                                               uint64_t *there, uint32_t steps) VBR_NOEXCEPT {
     vbr_tsan_map_uses(handle);
     vbr_tsan_changes(key);
-    return vbr_tsan_given(found, vbr_tsan_found(key, vbr_map_put_within(handle, key, value, found, steps)));
+    return vbr_tsan_given(there, vbr_tsan_found(key, vbr_map_put_within(handle, key, value, there, steps)));
 }
 
 VBR_NODISCARD static inline vbr_answer vbr_tsan_map_get_or_insert_within(vbr_map_handle *handle, uint64_t key, uint64_t value,
-                                                                         uint64_t *found, uint32_t steps) VBR_NOEXCEPT {
+                                                                         uint64_t *there, uint32_t steps) VBR_NOEXCEPT {
     vbr_tsan_map_uses(handle);
     __tsan_release(vbr_tsan_there(key));
-    return vbr_tsan_given(found, vbr_tsan_found(key, vbr_map_get_or_insert_within(handle, key, value, found, steps)));
+    return vbr_tsan_given(there, vbr_tsan_found(key, vbr_map_get_or_insert_within(handle, key, value, there, steps)));
 }
 
 VBR_NODISCARD static inline vbr_answer vbr_tsan_map_compare_exchange_within(vbr_map_handle *handle, uint64_t key, uint64_t expected,
-                                                                            uint64_t value, uint64_t *found,
+                                                                            uint64_t value, uint64_t *there,
                                                                             uint32_t steps) VBR_NOEXCEPT {
     vbr_tsan_map_uses(handle);
     vbr_tsan_changes(key);
-    return vbr_tsan_given(found, vbr_tsan_found(key, vbr_map_compare_exchange_within(handle, key, expected, value, found, steps)));
+    return vbr_tsan_given(there, vbr_tsan_found(key, vbr_map_compare_exchange_within(handle, key, expected, value, there, steps)));
 }
 
 VBR_NODISCARD static inline vbr_answer vbr_tsan_map_remove_if_within(vbr_map_handle *handle, uint64_t key, uint64_t expected,
-                                                                     uint64_t *found, uint32_t steps) VBR_NOEXCEPT {
+                                                                     uint64_t *there, uint32_t steps) VBR_NOEXCEPT {
     vbr_tsan_map_uses(handle);
     vbr_tsan_removes(key);
-    return vbr_tsan_given(found, vbr_tsan_found(key, vbr_map_remove_if_within(handle, key, expected, found, steps)));
+    return vbr_tsan_given(there, vbr_tsan_found(key, vbr_map_remove_if_within(handle, key, expected, there, steps)));
 }
 
 VBR_NODISCARD static inline vbr_answer vbr_tsan_map_has_within(vbr_map_handle *handle, uint64_t key, uint32_t steps) VBR_NOEXCEPT {
@@ -493,10 +493,10 @@ VBR_NODISCARD static inline vbr_answer vbr_tsan_map_replace_held_within(vbr_map_
 }
 
 VBR_NODISCARD static inline vbr_answer vbr_tsan_map_put_held_within(vbr_map_handle *handle, uint64_t key, uint64_t value,
-                                                                    uint64_t *found, uint32_t steps) VBR_NOEXCEPT {
+                                                                    uint64_t *there, uint32_t steps) VBR_NOEXCEPT {
     vbr_tsan_map_uses(handle);
     vbr_tsan_changes(key);
-    return vbr_tsan_given(found, vbr_tsan_found(key, vbr_map_put_held_within(handle, key, value, found, steps)));
+    return vbr_tsan_given(there, vbr_tsan_found(key, vbr_map_put_held_within(handle, key, value, there, steps)));
 }
 
 VBR_NODISCARD static inline vbr_answer vbr_tsan_get_entry_within(vbr_handle *handle, uint64_t key, vbr_incarnation *at,

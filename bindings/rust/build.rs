@@ -1,6 +1,7 @@
-//! Finds the static library: in the directory that `VBR_LIB_DIR` names, or else by pkg-config, where it has this crate's version, or
-//! else among the files that were built before, where the crate lies in its repository and that has them. What is linked is printed.
-//! Pages (`DOCS_RS`) need none.
+//! Finds the static library: in the directory that `VBR_LIB_DIR` names, or else the crate's own, `libvbr.a` beside this file. The
+//! feature `system` takes that of pkg-config before it, if it has this crate's version; without the feature it is looked for if the
+//! crate has none. If another one than the crate's own is linked, a warning of cargo tells which. Pages (`DOCS_RS`) need none. A
+//! program that is compiled with `-Zsanitizer=thread` gets the cfg `vbr_tsan`.
 use std::env;
 use std::path::{Path, PathBuf};
 use std::process::Command;
@@ -12,6 +13,9 @@ fn main() {
     println!("cargo:rerun-if-env-changed=DOCS_RS");
     if env::var_os("DOCS_RS").is_some() {
         return;
+    }
+    if env::var("CARGO_CFG_SANITIZE").is_ok_and(|all| all.split(',').any(|it| it == "thread")) {
+        println!("cargo:rustc-cfg=vbr_tsan");
     }
     let [arch, width, os] =
         ["ARCH", "POINTER_WIDTH", "OS"].map(|it| env::var(format!("CARGO_CFG_TARGET_{it}")).unwrap_or_default());
@@ -25,7 +29,7 @@ fn main() {
     println!("cargo:rustc-link-lib=static=vbr");
 }
 
-/// The directory of the library, or why there is none. Where nobody named it, a warning of cargo tells which it is.
+/// The directory of the library, or why there is none.
 fn found() -> Result<String, String> {
     if let Some(named) = env::var_os("VBR_LIB_DIR") {
         return match named.to_str() {
@@ -33,20 +37,30 @@ fn found() -> Result<String, String> {
             _ => Err(format!("VBR_LIB_DIR is {}, and there is no libvbr.a", named.to_string_lossy())),
         };
     }
-    let installed = installed();
-    if let Ok(dir) = &installed {
-        println!("cargo:warning=links {dir}/libvbr.a, which pkg-config names");
+    let (own, is_of_system) = (own(), env::var_os("CARGO_FEATURE_SYSTEM").is_some());
+    if let (Some(dir), false) = (&own, is_of_system) {
         return Ok(dir.clone());
     }
-    if let Some(dir) = built_before() {
-        println!("cargo:warning=links {dir}/libvbr.a, which was built before");
-        return Ok(dir);
+    match (installed(), own) {
+        (Ok(dir), _) => {
+            println!("cargo:warning=links {dir}/libvbr.a, which pkg-config names");
+            Ok(dir)
+        }
+        (Err(why), Some(dir)) => {
+            println!("cargo:warning=links the crate's own libvbr.a: {why}");
+            Ok(dir)
+        }
+        (Err(why), None) => Err(format!(
+            "libvbr.a is not found ({why}): run `make install PREFIX=DIR` in the repository and put DIR/lib/pkgconfig \
+             on PKG_CONFIG_PATH, or `make lib`, and set VBR_LIB_DIR to the directory of libvbr.a"
+        )),
     }
-    Err(format!(
-        "libvbr.a is not found ({}): run `make install PREFIX=DIR` in the repository and put DIR/lib/pkgconfig \
-         on PKG_CONFIG_PATH, or `make lib`, and set VBR_LIB_DIR to the directory of libvbr.a",
-        installed.unwrap_err()
-    ))
+}
+
+/// The directory of the crate, if the library lies in it.
+fn own() -> Option<String> {
+    let dir = PathBuf::from(env::var_os("CARGO_MANIFEST_DIR")?);
+    has_library(&dir).then(|| dir.to_str().map(str::to_owned)).flatten()
 }
 
 fn has_library(dir: &Path) -> bool {
@@ -77,13 +91,4 @@ fn told_by_pkg_config(what: &str) -> Result<String, String> {
     } else {
         Err("pkg-config knows no vbr".to_owned())
     }
-}
-
-/// The folder `prebuilt` of the repository, above the crate; also where cargo unpacks it there, to see that it builds.
-fn built_before() -> Option<String> {
-    let own = PathBuf::from(env::var_os("CARGO_MANIFEST_DIR")?);
-    let repository = own.ancestors().find(|it| it.join("bindings/rust/Cargo.toml").is_file())?;
-    let dir = repository.join("prebuilt");
-    let is_whole = has_library(&dir) && dir.join("ORIGIN").is_file();
-    is_whole.then(|| dir.to_str().map(str::to_owned)).flatten()
 }

@@ -430,9 +430,9 @@ private:
         bool bad = !is_shape(s, b, e);
         std::vector<typename Of::Item> items;
         if (with_keys) items = opening_items();
-        int want = in_use                               ? VBR_IN_USE
-                   : bad                                ? VBR_BAD_SHAPE
+        int want = bad                                  ? VBR_BAD_SHAPE
                    : count < 1 || count > 64            ? VBR_BAD_COUNT
+                   : in_use                             ? VBR_IN_USE
                    : items.size() > s || !ascend(items) ? VBR_BAD_KEYS
                                                         : VBR_NO;
         refused_one = false;

@@ -8,26 +8,30 @@ import textwrap
 from crates import ROOT, text_of
 
 KINDS = ("set", "map")
-MARKS = ("within", "proved", "shim", "drawn", "named", "tsan", "hidden")
-PROTOTYPE = re.compile(r"^(?=\w)((?:VBR_NODISCARD |VBR_NONNULL )*)(static inline )?([\w ]+?[ *]+)(vbr_\w+)\(([^{;]*?)\)([A-Z_ ]*)[;{]", re.M)
+MARKS = ("within", "proved", "shim", "drawn", "named", "was", "tsan", "hidden")
+PROTOTYPE = re.compile(r"^(?=\w)((?:VBR_NODISCARD |VBR_NONNULL )*)(static inline )?([\w ]+?[ *]+)(vbr_\w+)\(([^{;]*?)\)((?:[A-Z_ ]|\(\"\w+\"\))*)[;{]", re.M)
+
+# Around what calls a function by its old name.
+NO_WARNING = "#ifdef __GNUC__", "#pragma GCC diagnostic push", '#pragma GCC diagnostic ignored "-Wdeprecated-declarations"', "#endif"
+WARNINGS = "#ifdef __GNUC__", "#pragma GCC diagnostic pop", "#endif"
 
 
 class Call:
     """A call of a set or of a map: its declaration, its comment, and what else is made of it."""
 
-    def __init__(self, head, comment, said, columns):
-        self.columns, self.comment = columns, comment
+    def __init__(self, head, comment, said, columns, is_defined=False):
+        self.columns, self.comment, self.is_defined = columns, comment, is_defined  # by the header itself
         self.marks, _, returns, self.name, given, self.attributes = head.groups()
         self.returns, self.given = returns.strip(), parameters(given)
         self.within, *self.example = said.get("within", [None])
         self.tsan, self.shim, self.drawn, self.is_hidden = said.get("tsan"), said.get("shim"), said.get("drawn"), "hidden" in said
-        self.named = said.get("named", [None])[0]
+        self.named, self.was = said.get("named", [None])[0], said.get("was", [None])[0]
         proved, _, names = said.get("proved", [""])[0].partition("(")
         self.proved, self.proved_names = proved, names.rstrip(")").split(", ") if names else None
 
     def export(self):
         """The name and the parameters of the function of the library: with a budget, if the call may be given one."""
-        return (self.name, self.given) if self.within is None else (f"{self.name}_within", [*self.given, "uint32_t steps"])
+        return (self.was or self.name, self.given) if self.within is None else (f"{self.name}_within", [*self.given, "uint32_t steps"])
 
 
 def parameters(text):
@@ -36,6 +40,10 @@ def parameters(text):
 
 def name_of(parameter):
     return re.search(r"\w+$", parameter)[0]
+
+
+def type_of(parameter):
+    return parameter[: -len(name_of(parameter))]
 
 
 def of_kind(text, kind):
@@ -48,7 +56,7 @@ def blocks(source):
     """The source in blocks: the mark that each begins with, how many columns it has, and its lines."""
     how, columns, lines = "end", 0, []
     for line in source.split("\n"):
-        mark = re.match(r"%(each|pairs|end|inline)\b *(\d*)$", line)
+        mark = re.match(r"%(each|pairs|twice|end|inline)\b *(\d*)$", line)
         if mark:
             yield how, columns, lines
             how, columns, lines = mark[1], int(mark[2] or 0), []
@@ -79,6 +87,12 @@ def lines_of(item, kind):
             at = line[1:]
         elif at in ("both", kind):
             yield line
+
+
+def text_of_kind(source, kind):
+    """A source that has no blocks, as it is for a set, or for a map; for neither, where it has no marks of kinds."""
+    lines = [it for it in source.split("\n") if not it.startswith("%%")]
+    return "\n".join(of_kind(it, kind) for it in lines_of(lines, kind)) if kind else "\n".join(lines)
 
 
 def comment_of(lines, kind, columns):
@@ -130,7 +144,7 @@ def parts_of(item, kind):
 
 
 def read_item(item, kind, columns):
-    """An item for this kind: its text, and its call if it declares one. Nothing, where it has no line for the kind."""
+    """An item for this kind: its text, and its call if it declares or defines one. Nothing, where it has no line for the kind."""
     said, comment, rest = parts_of(item, kind)
     comment = [comment_of(comment, kind, columns)] if comment else []
     head = PROTOTYPE.match(rest[0]) if rest else None
@@ -140,6 +154,7 @@ def read_item(item, kind, columns):
     if head:  # of a function that the header defines
         begin, end = f"{head[1]}{head[2] or ''}{head[3]}{head[4]}(", f"){head[6]}{{"
         rest[0] = declaration(begin, parameters(head[5]), end, columns)
+        return "\n".join([*comment, *rest]), Call(head, "".join(comment), said, columns, is_defined=True)
     return "\n".join([*comment, *rest]), None
 
 
@@ -152,10 +167,14 @@ def text_of_call(call):
 
     if call.is_hidden:
         return ""
+    if call.was:
+        old = declared(call.was, call.given)[:-1] + f' VBR_DEPRECATED("{call.name}"); /* the old name, for one version */'
+        return f"{call.comment}\n{declared(call.name, call.given, 'static inline ')}\n{old}"
     if call.within is None:
         return f"{call.comment}\n{declared(call.name, call.given)}"
     each = " for each key" if call.returns == "void" else ""
-    prose = f"{call.within} as {call.name} does, within `steps` steps{each}, in place of the budget of the handle. What it answers is what {call.name} answers."
+    returns = "" if call.returns == "void" else f" Returns what {call.name} returns."
+    prose = f"{call.within} as {call.name} does, within `steps` steps{each}, instead of the budget of the handle.{returns}"
     example = "\n".join(f"       {it}" for it in call.example)
     within = f"{fill(prose, call.columns)}\n\n{example} */\n{declared(*call.export())}"
     return f"{call.comment}\n{declared(call.name, call.given, 'static inline ')}\n\n{within}"
@@ -166,11 +185,12 @@ def spaced(returns):
 
 
 def body_of_call(call):
-    """The form without a budget."""
+    """The form without a budget, or that with the new name."""
     begin = declaration(f"static inline {spaced(call.returns)}{call.name}(", call.given, ") VBR_NOEXCEPT {", call.columns)
     steps = "vbr_map_steps_of" if call.name.startswith("vbr_map_") else "vbr_steps_of"
     returns = "" if call.returns == "void" else "return "
-    return f"{begin}\n    {returns}{call.name}_within({', '.join([*map(name_of, call.given), f'{steps}(handle)'])});\n}}"
+    made = f"{call.was}({', '.join(map(name_of, call.given))})" if call.was else f"{call.name}_within({', '.join([*map(name_of, call.given), f'{steps}(handle)'])})"
+    return f"{begin}\n    {returns}{made};\n}}"
 
 
 def made(source):
@@ -178,7 +198,12 @@ def made(source):
     text, calls = [], []
     for how, columns, lines in blocks(source):
         if how in ("end", "inline"):
-            text += [body_of_call(it) for it in calls if it.within and how == "inline"] + lines
+            if how == "inline":
+                text += [*[body_of_call(it) for it in calls if it.within], "", *NO_WARNING, *[body_of_call(it) for it in calls if it.was], *WARNINGS]
+            text += lines
+            continue
+        if how == "twice":
+            text.append("\n\n".join(text_of_kind("\n".join(lines), kind).strip("\n") for kind in KINDS))
             continue
         listed = list(items(lines))
         order = [(it, kind) for kind in KINDS for it in listed] if how == "each" else [(it, kind) for it in listed for kind in KINDS]
@@ -199,3 +224,14 @@ def prototypes(header):
     for _, is_inline, returns, name, given, _ in PROTOTYPE.findall(header):
         if not is_inline and "typedef" not in returns:
             yield name, " ".join(returns.split()), parameters(given)
+
+
+def examples(headers):
+    """The lines of the example of each call, by its name."""
+    told = re.findall(r"^/\* ((?:(?!\*/).)*?) ?\*/\n[^\n(]*?(vbr_\w+)\(", "\n".join(headers), re.M | re.S)
+    return {name: re.findall(r"^       (.+?) ?$", comment, re.M) for comment, name in told}
+
+
+def with_examples(text, of):
+    """A client in C, which has the examples of calls in place of the marks that name them."""
+    return re.sub(r"^( *)%example (.*)", lambda it: "\n".join(it[1] + line for name in it[2].split() for line in of[f"vbr_{name}"]), text, flags=re.M)

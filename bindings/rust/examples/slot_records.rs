@@ -118,7 +118,7 @@ impl Accounts<'_> {
                 }
             }
             if self.is_narrow {
-                self.map.spare(); // the others want what it has
+                self.map.give_slots_back(); // the others want what it has
             }
         }
         Ok((paid, ended))

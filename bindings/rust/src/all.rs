@@ -7,10 +7,10 @@ use crate::{order, Kind, RenewError, ReportError, Shape};
 use alloc::vec::Vec;
 use core::ptr::NonNull;
 
-/// Calls of all handles of a set, in any order, of which none is in a call meanwhile.
+/// Calls of all handles of a set, in any order. None of them is in a call meanwhile.
 impl<T: Kind> HandleOf<T> {
-    /// Tells what is in the set, as the close of its last handle does. The handles stay as they are, and go on. It takes the memory
-    /// of a close.
+    /// Reports what is in the set, as the close of its last handle does. The handles stay as they are, and go on. It takes
+    /// the memory of a close.
     ///
     /// ```
     /// # use vbr::{Handle, Set, Shape};
@@ -36,11 +36,11 @@ impl<T: Kind> HandleOf<T> {
         Ok(room.report(told.map_err(|_| ReportError::Memory)?))
     }
 
-    /// Lets the handles go on over a fresh set of this shape, with the keys that were in it, or a map with the entries: at epoch 1,
-    /// and larger where there are to be more of them. The balance of the first handle is the number of keys then, and that of the
-    /// others is 0. The fresh set is opened before the other one is given up, so it takes the memory of both and of a report. It
-    /// has the seed of the shape, and where that has none, the seed of the set as it was; so it is of the handles' budgets. How many
-    /// handles the shape is for isn't asked: those that there are go on.
+    /// Lets the handles go on over a fresh set of this shape, with the keys that were in it, or a map with the entries: at
+    /// epoch 1, and larger if you want more of them. The balance of the first handle is the number of keys then, and the
+    /// others' is 0. The fresh set is opened before the old one is given up, so it takes the memory of both and of a report.
+    /// It has the seed of the shape, or if the shape has none, the seed of the old set; likewise the handles' budgets. The
+    /// shape's handle count is ignored: the handles that there are go on.
     ///
     /// ```
     /// # use vbr::{Handle, Set, Shape};
@@ -102,7 +102,7 @@ pub(crate) trait All<T: Kind> {
         let seed = seed.unwrap_or_else(|| self.at(0).seed());
         let told = self.with_raw(|all, count| {
             // SAFETY: these are all handles of the set or map, and nothing else has one of them.
-            order::of_all(|| unsafe { T::RENEW_ALL(all, count, slots, buckets, last_epoch, seed) })
+            order::of_all(|| unsafe { T::RENEW_ALL_SEEDED(all, count, slots, buckets, last_epoch, seed) })
         });
         match told {
             code::DONE => {
@@ -121,7 +121,7 @@ pub(crate) trait All<T: Kind> {
         }
     }
 
-    /// The slot of each item, in the order of the report, where the set has so many slots; none where there is no memory.
+    /// The slot of each item, in the order of the report, in a set with so many slots; none if there is no memory.
     fn slots_of_items(&mut self, slots: u32) -> Option<Vec<u32>> {
         let mut room = Room::<T>::of(slots)?;
         let mut told = Vec::new();
@@ -135,8 +135,8 @@ pub(crate) trait All<T: Kind> {
         Some(told)
     }
 
-    /// Makes a call of the library with all handles, which are all of one set and at least one, side by side; then each handle has
-    /// what is at its place.
+    /// Makes a call of the library with all handles side by side, which belong to one set and are at least one; then each
+    /// handle has what is at its place.
     fn with_raw<R>(&mut self, call: impl FnOnce(*mut Raw, usize) -> R) -> R {
         let count = self.count();
         let shared = self.at(0).shared.expect("a handle that is open");

@@ -1,13 +1,14 @@
-//! Types of at most 64 bits, which keys and values are of.
+//! Types of at most 64 bits, for keys and values.
 use core::cmp::Ordering;
 use core::fmt::Debug;
 use core::hash::{Hash, Hasher};
 use core::num::NonZero;
 
-/// A type that is kept in 64 bits: that of the keys of a set or a map, or of the values of a map.
+/// A type that is kept in 64 bits: the type of the keys of a set or a map, or of the values of a map.
 ///
-/// The unsigned and signed integers up to 64 bits have it, `usize` and `isize`, those that are [`NonZero`], `bool`, `char`, pairs
-/// of `u32`, eight bytes, `()`, and by [`ByBits`] `f64`. For a type of your own say how it is made of 64 bits, and they of it:
+/// The unsigned and signed integers up to 64 bits have it, `usize` and `isize`, those that are [`NonZero`], `bool`, `char`,
+/// pairs of `u32`, eight bytes, `()`, and by [`ByBits`] `f64`. For a type of your own say how it is made from 64 bits, and
+/// they from it:
 ///
 /// ```
 /// use vbr::{Bits, Set, Shape};
@@ -30,10 +31,14 @@ use core::num::NonZero;
 /// # Ok::<(), Box<dyn std::error::Error>>(())
 /// ```
 ///
-/// `from_bits` is given nothing but what `to_bits` of the same type gave: a `Set<Page>` takes in bits by calls that take a `Page`,
-/// keeps them as they are, and gives them out by calls that give a `Page`, and no call of the crate takes or gives bits. So it may
-/// panic where it is given others. It isn't unsafe to implement: where the two aren't each other's inverse, keys are taken for others
-/// or not found, and nothing worse happens.
+/// A set gives `from_bits` nothing but what `to_bits` of the same type gave: a `Set<Page>` takes in bits by calls that take a
+/// `Page`, keeps them as they are, and gives them out by calls that give a `Page`. But it is a safe function, and anybody may
+/// call it with any number. So `unsafe` code in it mustn't rely on more: it looks whether the number stands for a value, and
+/// may panic if it doesn't.
+///
+/// The trait isn't unsafe to implement: if the two aren't each other's inverse, keys are taken for others or not found, and
+/// nothing worse happens: calls that exchange a value for another expect the bits that they read, so they end as they do
+/// otherwise.
 ///
 /// Two values that are equal have the same bits, and two that differ have different ones. Sets compare and order keys by their
 /// bits as a `u64`. With the types of this crate that is their own order, so the reports of a `Set<i64>` ascend from negative
@@ -42,7 +47,7 @@ pub trait Bits: Copy + Eq + Debug + Send + Sync + 'static {
     /// The bits that stand for this value.
     fn to_bits(self) -> u64;
 
-    /// The value that these bits stand for, which `to_bits` gave.
+    /// The value that these bits stand for. Any number may be given; those of a set are such as `to_bits` gave.
     fn from_bits(bits: u64) -> Self;
 }
 

@@ -1,11 +1,12 @@
-//! Calls of maps that do one thing or another by what is there.
+//! Calls of maps that do one thing or another, depending on what is there.
+// tools/interface makes this file of bindings/interface/changing.rs.in.
 use crate::library::{
     compared, looked_up, updated, vbr_map_compare_exchange_within, vbr_map_get_or_insert_within, vbr_map_put_within,
     vbr_map_remove_if_within, vbr_map_replace_within, with_value,
 };
 use crate::{order, Bits, Cursor, Entries, OutOfSteps, PassOf, Refusal, Steps};
 
-/// What a call did that changes an entry only where it has an expected value.
+/// What a call did that changes an entry only if it has an expected value.
 ///
 /// ```
 /// # use vbr::{Compared, MapPass, OutOfSteps};
@@ -32,7 +33,7 @@ pub enum Compared<V = u64> {
 }
 
 impl Compared {
-    /// The same of the value that has the bits.
+    /// The same for the value that has the bits.
     #[inline]
     fn typed<V: Bits>(self) -> Compared<V> {
         match self {
@@ -43,7 +44,7 @@ impl Compared {
     }
 }
 
-/// The calls of maps that do one thing or another by what is there, each at one moment.
+/// The calls of maps that do one thing or another, depending on what is there, each at one moment.
 ///
 /// A call that gives a key another value is, in the history, a remove of the old value and an insert of the new one, next to
 /// each other: no call finds the key absent in between. One that changed nothing is a look-up. While the other handles stand
@@ -53,8 +54,8 @@ impl Compared {
 /// A new value takes a slot before the slot of the old one is free, so these calls want one slot more than there are keys. The
 /// 64 of the handle in [`Shape`](crate::Shape) cover that.
 impl<K: Bits, V: Bits> PassOf<Entries<K, V>> {
-    /// Gives a key that is there another value, and gives the one that it had; `None` where it was absent, and then nothing was
-    /// changed.
+    /// Gives a key that is there another value, and returns the one that it had; `None` if it was absent, and then nothing
+    /// was changed.
     ///
     /// ```
     /// # use vbr::{Map, Shape};
@@ -67,14 +68,14 @@ impl<K: Bits, V: Bits> PassOf<Entries<K, V>> {
     ///
     /// # Errors
     ///
-    /// [`Refusal::OutOfSteps`], and, where the key was there at a moment, [`Refusal::NoSlot`] and [`Refusal::EpochSpent`]. No
+    /// [`Refusal::OutOfSteps`], and, if the key was there at a moment, [`Refusal::NoSlot`] and [`Refusal::EpochSpent`]. No
     /// call was made then.
     #[inline]
     pub fn replace(&mut self, key: K, value: V) -> Result<Option<V>, Refusal> {
         self.replace_within(key, value, self.steps())
     }
 
-    /// As [`MapPass::replace`](PassOf::replace), with a budget of its own.
+    /// As [`PassOf::replace`], with a budget of its own.
     ///
     /// ```
     /// # use vbr::{Map, Refusal, Shape, Steps};
@@ -85,7 +86,7 @@ impl<K: Bits, V: Bits> PassOf<Entries<K, V>> {
     ///
     /// # Errors
     ///
-    /// Those of [`replace`](PassOf::replace).
+    /// The same as for [`PassOf::replace`].
     #[inline]
     pub fn replace_within(&mut self, key: K, value: V, steps: Steps) -> Result<Option<V>, Refusal> {
         let (key, value) = (key.to_bits(), value.to_bits());
@@ -95,7 +96,7 @@ impl<K: Bits, V: Bits> PassOf<Entries<K, V>> {
         })
     }
 
-    /// Gives a key this value, and gives the one that it had; `None` where it was absent, and then it is inserted, as
+    /// Gives a key this value, and returns the one that it had; `None` if it was absent, and then it is inserted, as
     /// `HashMap::insert` does.
     ///
     /// ```
@@ -115,7 +116,7 @@ impl<K: Bits, V: Bits> PassOf<Entries<K, V>> {
         self.put_within(key, value, self.steps())
     }
 
-    /// As [`put`](PassOf::put), with a budget of its own.
+    /// As [`PassOf::put`], with a budget of its own.
     ///
     /// ```
     /// # use vbr::{Map, Refusal, Shape, Steps};
@@ -126,7 +127,7 @@ impl<K: Bits, V: Bits> PassOf<Entries<K, V>> {
     ///
     /// # Errors
     ///
-    /// Those of [`put`](PassOf::put).
+    /// The same as for [`PassOf::put`].
     #[inline]
     pub fn put_within(&mut self, key: K, value: V, steps: Steps) -> Result<Option<V>, Refusal> {
         let (key, value) = (key.to_bits(), value.to_bits());
@@ -136,8 +137,8 @@ impl<K: Bits, V: Bits> PassOf<Entries<K, V>> {
         })
     }
 
-    /// The value of a key; `None` where it was absent, and then it is inserted with this one. [`MapPass::entry`](PassOf::entry) is
-    /// another way to say so.
+    /// Returns the value of a key; `None` if it was absent, and then it is inserted with this value.
+    /// [`MapPass::entry`](PassOf::entry) is another way to say so.
     ///
     /// ```
     /// # use vbr::{Map, Shape};
@@ -149,14 +150,14 @@ impl<K: Bits, V: Bits> PassOf<Entries<K, V>> {
     ///
     /// # Errors
     ///
-    /// [`Refusal::OutOfSteps`], and, where the key is absent, [`Refusal::NoSlot`] and [`Refusal::EpochSpent`]. No call was
-    /// made then.
+    /// [`Refusal::OutOfSteps`], and, if the key is absent, [`Refusal::NoSlot`] and [`Refusal::EpochSpent`]. No call was made
+    /// then.
     #[inline]
     pub fn get_or_insert(&mut self, key: K, value: V) -> Result<Option<V>, Refusal> {
         self.get_or_insert_within(key, value, self.steps())
     }
 
-    /// As [`get_or_insert`](PassOf::get_or_insert), with a budget of its own.
+    /// As [`PassOf::get_or_insert`], with a budget of its own.
     ///
     /// ```
     /// # use vbr::{Map, Refusal, Shape, Steps};
@@ -167,7 +168,7 @@ impl<K: Bits, V: Bits> PassOf<Entries<K, V>> {
     ///
     /// # Errors
     ///
-    /// Those of [`get_or_insert`](PassOf::get_or_insert).
+    /// The same as for [`PassOf::get_or_insert`].
     #[inline]
     pub fn get_or_insert_within(&mut self, key: K, value: V, steps: Steps) -> Result<Option<V>, Refusal> {
         let (key, value) = (key.to_bits(), value.to_bits());
@@ -192,14 +193,14 @@ impl<K: Bits, V: Bits> PassOf<Entries<K, V>> {
     ///
     /// # Errors
     ///
-    /// [`Refusal::OutOfSteps`], and, where the key had the expected value at a moment, [`Refusal::NoSlot`] and
+    /// [`Refusal::OutOfSteps`], and, if the key had the expected value at a moment, [`Refusal::NoSlot`] and
     /// [`Refusal::EpochSpent`]. No call was made then.
     #[inline]
     pub fn compare_exchange(&mut self, key: K, expected: V, value: V) -> Result<Compared<V>, Refusal> {
         self.compare_exchange_within(key, expected, value, self.steps())
     }
 
-    /// As [`compare_exchange`](PassOf::compare_exchange), with a budget of its own.
+    /// As [`PassOf::compare_exchange`], with a budget of its own.
     ///
     /// ```
     /// # use vbr::{Map, Refusal, Shape, Steps};
@@ -210,14 +211,14 @@ impl<K: Bits, V: Bits> PassOf<Entries<K, V>> {
     ///
     /// # Errors
     ///
-    /// Those of [`compare_exchange`](PassOf::compare_exchange).
+    /// The same as for [`PassOf::compare_exchange`].
     #[inline]
     pub fn compare_exchange_within(&mut self, key: K, expected: V, value: V, steps: Steps) -> Result<Compared<V>, Refusal> {
         Ok(self.exchange_bits_within(key, expected.to_bits(), value, steps)?.typed())
     }
 
-    /// The same, where the value that was seen is expected by its bits: a loop that expects these ends, whatever bits its type makes of
-    /// the value.
+    /// The same, with the value that was seen expected by its bits: a loop that expects these ends, whatever bits its type
+    /// makes of the value.
     #[inline]
     pub(crate) fn exchange_bits_within(
         &mut self,
@@ -255,7 +256,7 @@ impl<K: Bits, V: Bits> PassOf<Entries<K, V>> {
         self.remove_if_within(key, expected, self.steps())
     }
 
-    /// As [`remove_if`](PassOf::remove_if), with a budget of its own.
+    /// As [`PassOf::remove_if`], with a budget of its own.
     ///
     /// ```
     /// # use vbr::{Map, OutOfSteps, Shape, Steps};
@@ -266,13 +267,13 @@ impl<K: Bits, V: Bits> PassOf<Entries<K, V>> {
     ///
     /// # Errors
     ///
-    /// [`OutOfSteps`]. No call was made then.
+    /// The same as for [`PassOf::remove_if`].
     #[inline]
     pub fn remove_if_within(&mut self, key: K, expected: V, steps: Steps) -> Result<Compared<V>, OutOfSteps> {
         Ok(self.remove_bits_within(key, expected.to_bits(), steps)?.typed())
     }
 
-    /// The same, where the value that was seen is expected by its bits.
+    /// The same, with the value that was seen expected by its bits.
     #[inline]
     fn remove_bits_within(&mut self, key: K, expected: u64, steps: Steps) -> Result<Compared, OutOfSteps> {
         let key = key.to_bits();
@@ -282,10 +283,10 @@ impl<K: Bits, V: Bits> PassOf<Entries<K, V>> {
         })
     }
 
-    /// Gives a key the value that `update` makes of the one that it has, and gives the one before; `None` where the key is
+    /// Gives a key the value that `update` makes from the one that it has, and returns the old one; `None` if the key is
     /// absent, or `update` makes none, and then nothing was changed.
     ///
-    /// No update is lost. Where another comes in between, `update` is asked again, with the value that it left. Each call that
+    /// No update is lost. If another comes in between, `update` is called again, with the value that it left. Each call that
     /// it takes has the budget of the handle.
     ///
     /// ```
@@ -301,24 +302,25 @@ impl<K: Bits, V: Bits> PassOf<Entries<K, V>> {
     ///
     /// # Errors
     ///
-    /// Those of [`compare_exchange`](PassOf::compare_exchange). Nothing was changed then.
+    /// The same as for [`compare_exchange`](PassOf::compare_exchange). Nothing was changed then.
     #[inline]
     pub fn fetch_update(&mut self, key: K, update: impl FnMut(V) -> Option<V>) -> Result<Option<V>, Refusal> {
         self.fetch_update_within(key, update, self.steps())
     }
 
-    /// As [`fetch_update`](PassOf::fetch_update), each of whose calls has this budget.
+    /// As [`PassOf::fetch_update`], each of whose calls has this budget.
     ///
     /// ```
     /// # use vbr::{Map, Refusal, Shape, Steps};
-    /// let mut handle = Map::handles_with(Shape::for_keys(8, 1), &[(5, 70)])?.remove(0);
+    /// let mut handle = Map::handles_with(Shape::for_keys(8, 1), &[(5, 1_u64)])?.remove(0);
     /// assert_eq!(handle.fetch_update_within(5, |value| Some(value + 1), Steps::new(1)), Err(Refusal::OutOfSteps));
     /// # Ok::<(), vbr::OpenError>(())
     /// ```
     ///
     /// # Errors
     ///
-    /// Those of [`compare_exchange`](PassOf::compare_exchange). Nothing was changed then.
+    /// The same as for [`PassOf::fetch_update`].
+    #[inline]
     pub fn fetch_update_within(
         &mut self,
         key: K,
@@ -343,8 +345,8 @@ impl<K: Bits, V: Bits> PassOf<Entries<K, V>> {
     /// Goes over all entries while other threads make calls, as [`PassOf::iter`] does, takes out those for which `keep` says no,
     /// and returns how many it took out. Each call that it takes has the budget of the handle.
     ///
-    /// An entry is taken out only with a value that `keep` saw, by [`remove_if`](PassOf::remove_if): where it has another one
-    /// meanwhile, `keep` is asked again, with that.
+    /// An entry is taken out only with a value that `keep` saw, by [`remove_if`](PassOf::remove_if): if it has another one
+    /// meanwhile, `keep` is called again, with that.
     ///
     /// ```
     /// # use vbr::{Map, Shape};
@@ -357,7 +359,7 @@ impl<K: Bits, V: Bits> PassOf<Entries<K, V>> {
     ///
     /// # Errors
     ///
-    /// [`OutOfSteps`], as of [`PassOf::iter`] or of a remove. What was taken out before stays out.
+    /// [`OutOfSteps`], as for [`PassOf::iter`] or a remove. What was taken out before stays out.
     pub fn retain(&mut self, mut keep: impl FnMut(K, V) -> bool) -> Result<u64, OutOfSteps> {
         let (mut cursor, mut count) = (Cursor::first(), 0);
         while let Some((key, value)) = self.walk_on(&mut cursor, self.steps())? {

@@ -1,11 +1,11 @@
-//! A key of a map, with what is to be done where it is there and where it isn't.
+//! A key of a map, with what to do if it is there and if it isn't.
 use crate::{Bits, Compared, MapPass, Refusal};
 use core::cell::LazyCell;
 
-/// A key of a map, there or not, as [`MapPass::entry`](crate::MapPass::entry) names it. It makes no call, and holds nobody up: what
-/// is to be done is what its methods say, and is done by their calls, at one moment for all threads.
+/// A key of a map, there or not, as [`MapPass::entry`](crate::MapPass::entry) names it. It makes no call, and holds nobody
+/// up: its methods say what to do, and their calls do it, at one moment for all threads.
 ///
-/// What they give is the value, and not a reference to it, since other threads may change it at any time.
+/// They return the value, and not a reference to it, since other threads may change it at any time.
 ///
 /// ```
 /// use vbr::{MapPass, Refusal};
@@ -29,7 +29,7 @@ pub struct Entry<'p, K: Bits = u64, V: Bits = u64> {
 
 /// The calls of an entry.
 impl<K: Bits, V: Bits> MapPass<K, V> {
-    /// A key, with what is to be done where it is there and where it isn't. It makes no call.
+    /// A key, with what to do if it is there and if it isn't. It makes no call.
     ///
     /// ```
     /// # use vbr::{Map, Shape};
@@ -59,8 +59,8 @@ impl<'p, K: Bits, V: Bits> Entry<'p, K, V> {
         self.key
     }
 
-    /// Inserts the key with this value where it is absent, and gives the value that it has: this one, or that which was there. It
-    /// is one call, [`get_or_insert`](crate::MapPass::get_or_insert), with the budget of the handle.
+    /// Inserts the key with this value if it is absent, and returns the value that it has: this one, or the one that was
+    /// there. It is one call, [`get_or_insert`](crate::MapPass::get_or_insert), with the budget of the handle.
     ///
     /// ```
     /// # use vbr::{Map, Shape};
@@ -72,14 +72,14 @@ impl<'p, K: Bits, V: Bits> Entry<'p, K, V> {
     ///
     /// # Errors
     ///
-    /// Those of [`get_or_insert`](crate::MapPass::get_or_insert). No call was made then.
+    /// The same as for [`get_or_insert`](crate::MapPass::get_or_insert). No call was made then.
     #[inline]
     pub fn or_insert(self, value: V) -> Result<V, Refusal> {
         Ok(self.pass.get_or_insert(self.key, value)?.unwrap_or(value))
     }
 
-    /// The same with a value that is made where the key is absent. It looks first, so it is one call more; where another thread
-    /// inserts the key in between, that one's value is given, and what was made is dropped.
+    /// The same with a value that is made if the key is absent. It looks first, so it is one call more; if another thread
+    /// inserts the key in between, that thread's value is returned, and what was made is dropped.
     ///
     /// ```
     /// # use vbr::{Map, Shape};
@@ -91,7 +91,7 @@ impl<'p, K: Bits, V: Bits> Entry<'p, K, V> {
     ///
     /// # Errors
     ///
-    /// Those of [`get_or_insert`](crate::MapPass::get_or_insert). Nothing was inserted then.
+    /// The same as for [`get_or_insert`](crate::MapPass::get_or_insert). Nothing was inserted then.
     pub fn or_insert_with(self, make: impl FnOnce() -> V) -> Result<V, Refusal> {
         match self.pass.get(self.key)? {
             Some(value) => Ok(value),
@@ -111,7 +111,7 @@ impl<'p, K: Bits, V: Bits> Entry<'p, K, V> {
     ///
     /// # Errors
     ///
-    /// Those of [`get_or_insert`](crate::MapPass::get_or_insert). No call was made then.
+    /// The same as for [`get_or_insert`](crate::MapPass::get_or_insert). No call was made then.
     #[inline]
     pub fn or_default(self) -> Result<V, Refusal>
     where
@@ -120,7 +120,7 @@ impl<'p, K: Bits, V: Bits> Entry<'p, K, V> {
         self.or_insert(V::default())
     }
 
-    /// Says what is to become of the value where the key is there. It is done when it is said what to insert, so no thread comes in
+    /// Says what becomes of the value if the key is there. It is done once you say what to insert, so no thread comes in
     /// between: of two that count a new word at the same time one inserts it, and the other counts on.
     ///
     /// ```
@@ -136,7 +136,7 @@ impl<'p, K: Bits, V: Bits> Entry<'p, K, V> {
     }
 }
 
-/// A key of a map, with what is to become of its value where it is there, as [`Entry::and_modify`] says it.
+/// A key of a map, with what becomes of its value if it is there, as [`Entry::and_modify`] says it.
 ///
 /// ```
 /// # use vbr::{Map, Shape};
@@ -153,11 +153,11 @@ pub struct ModifiedEntry<'p, K: Bits, V: Bits, F: FnMut(&mut V)> {
 }
 
 impl<K: Bits, V: Bits, F: FnMut(&mut V)> ModifiedEntry<'_, K, V, F> {
-    /// Changes the value of the key where it is there, and inserts the key with this value where it is absent. It gives the value
-    /// that the key has then.
+    /// Changes the value of the key if it is there, and inserts the key with this value if it is absent. It returns the value
+    /// that the key then has.
     ///
-    /// No change is lost. Where another comes in between, what is to become of the value is asked again, of the value that it
-    /// left. Each call that it takes has the budget of the handle.
+    /// No change is lost. If another comes in between, the closure is called again, with the value that it left. Each call
+    /// that it takes has the budget of the handle.
     ///
     /// ```
     /// # use vbr::{Map, Shape};
@@ -169,7 +169,7 @@ impl<K: Bits, V: Bits, F: FnMut(&mut V)> ModifiedEntry<'_, K, V, F> {
     ///
     /// # Errors
     ///
-    /// Those of [`compare_exchange`](crate::MapPass::compare_exchange) and
+    /// The same as for [`compare_exchange`](crate::MapPass::compare_exchange) and
     /// [`get_or_insert`](crate::MapPass::get_or_insert). Nothing was changed then.
     pub fn or_insert(self, value: V) -> Result<V, Refusal> {
         self.or_insert_with(|| value)
@@ -187,7 +187,7 @@ impl<K: Bits, V: Bits, F: FnMut(&mut V)> ModifiedEntry<'_, K, V, F> {
     ///
     /// # Errors
     ///
-    /// Those of [`ModifiedEntry::or_insert`]. Nothing was changed then.
+    /// The same as for [`ModifiedEntry::or_insert`]. Nothing was changed then.
     #[inline]
     pub fn or_default(self) -> Result<V, Refusal>
     where
@@ -196,7 +196,7 @@ impl<K: Bits, V: Bits, F: FnMut(&mut V)> ModifiedEntry<'_, K, V, F> {
         self.or_insert_with(V::default)
     }
 
-    /// The same with a value that is made where the key is absent, once at most.
+    /// The same with a value that is made if the key is absent, once at most.
     ///
     /// ```
     /// # use vbr::{Map, Shape};
@@ -207,7 +207,7 @@ impl<K: Bits, V: Bits, F: FnMut(&mut V)> ModifiedEntry<'_, K, V, F> {
     ///
     /// # Errors
     ///
-    /// Those of [`ModifiedEntry::or_insert`]. Nothing was changed then.
+    /// The same as for [`ModifiedEntry::or_insert`]. Nothing was changed then.
     pub fn or_insert_with(self, make: impl FnOnce() -> V) -> Result<V, Refusal> {
         let ModifiedEntry { entry: Entry { pass, key }, mut modify } = self;
         let (mut seen, absent) = (pass.bits_within(key, pass.steps())?, LazyCell::new(make));

@@ -16,11 +16,12 @@ use core::fmt;
 pub enum OpenError {
     /// A number of the shape is out of range: the first such one.
     Shape(ShapeError),
-    /// The keys, or those of the entries, aren't such as a set opens with.
+    /// The keys, or the entries' keys, don't ascend, or are more than the slots.
     Keys(KeysError),
     /// There is no memory.
     Memory,
-    /// The file is shorter than the memory of the set ([`SharedTable::size`](crate::SharedTable::size)), of an opening in a file alone.
+    /// The file is shorter than the memory of the set ([`SharedTable::size`](crate::SharedTable::size)). Only an opening in a
+    /// file returns this.
     ShortFile,
 }
 
@@ -34,7 +35,7 @@ pub enum OpenError {
 #[derive(Clone, Copy, Debug, PartialEq, Eq, Hash)]
 #[non_exhaustive]
 pub enum KeysError {
-    /// There are so many of them, and fewer slots.
+    /// There are more keys than slots.
     TooMany {
         /// How many keys there are.
         keys: usize,
@@ -79,23 +80,24 @@ pub struct OutOfSteps;
 pub enum Refusal {
     /// The budget is spent. Make the call again, with twice the budget if that may have been too small:
     /// [`Steps::AMPLE`](crate::Steps::AMPLE) is enough in short buckets, unless others disturb the call more than a hundred
-    /// times. A look-up or a remove with steps enough alone runs out of them only where others inserted or removed in the key's
+    /// times. A look-up or a remove with steps enough alone runs out of them only if others inserted or removed in the key's
     /// bucket meanwhile, or advanced the epoch.
     OutOfSteps,
     /// An insert of an absent key, or a call that gives a key another value, found no slot: its handle had none of its own, and
-    /// none was found in the shared pool. Other handles may keep free ones: have them give these back (`spare`), remove keys,
+    /// none was found in the shared pool. Other handles may keep free ones: have them give these back (`give_slots_back`), remove keys,
     /// or make the call again; a greater budget alone doesn't help.
     NoSlot,
     /// An insert of an absent key, or a call that gives a key another value, would have needed an epoch beyond the last one.
-    /// Renew the set or the map ([`Table::renew`], [`HandleOf::renew_all`]); until then look-ups and removes are answered as ever.
+    /// Renew the set or the map ([`Table::renew`], [`HandleOf::renew_all`]); until then look-ups and removes are answered as
+    /// always.
     EpochSpent,
     /// A call would take a slot, and the handle has one in hand, since a [`Held`](crate::Held) was forgotten ([`core::mem::forget`]).
     /// [`PassOf::hold`](crate::PassOf::hold) takes another one in its place; drop that.
     Held,
 }
 
-/// Why the last handle got no report: of a map's as `CloseError<MapHandle>`, and of a set that lends its handles as
-/// `CloseError<Set>`.
+/// Why the last handle got no report: `CloseError<MapHandle>` for a map, and `CloseError<Set>` for a set that lends its
+/// handles.
 ///
 /// ```
 /// # use vbr::{CloseError, Handle, Report};
@@ -112,15 +114,16 @@ pub enum Refusal {
 /// ```
 #[non_exhaustive]
 pub enum CloseError<H = Handle> {
-    /// It was the last handle, and a pass of the set or map is not there. The set or map is gone. No program is known to get
-    /// this, so there is no example of it: a handle that is dropped is closed, and one that is forgotten keeps its set open.
+    /// It was the last handle, and a pass of the set or map is missing. The set or map is gone, and its memory is freed. No
+    /// program is known to get this, so there is no example: a dropped handle is closed, and a forgotten one keeps its set
+    /// open.
     Lost,
     /// There is no memory for the report. The handle, or the set with all its handles, is as it was, and can be closed again.
     Memory(Unclosed<H>),
 }
 
-/// A handle that couldn't be closed, within an error that threads may share: a map's as `Unclosed<MapHandle>`; or as
-/// `Unclosed<Set>` a set that lends its handles.
+/// A handle that couldn't be closed, within an error that threads may share: `Unclosed<MapHandle>` for a map's handle, and
+/// `Unclosed<Set>` for a set that lends its handles.
 ///
 /// ```
 /// # use vbr::{Handle, Unclosed};
@@ -138,7 +141,7 @@ impl<T: Kind> Unclosed<Table<T>> {
     ///
     /// ```
     /// # use vbr::{CloseError, Report, Set};
-    /// /// Closes a set that lends its handles, and waits for memory where there is none.
+    /// /// Closes a set that lends its handles, and waits for memory if there is none.
     /// fn close(mut set: Set) -> Option<Report> {
     ///     loop {
     ///         match set.close() {
@@ -162,7 +165,7 @@ impl<T: Kind> Unclosed<HandleOf<T>> {
     ///
     /// ```
     /// # use vbr::{CloseError, Handle, Report};
-    /// /// Closes the last handle, and waits for memory where there is none.
+    /// /// Closes the last handle, and waits for memory if there is none.
     /// fn close(mut handle: Handle) -> Option<Report> {
     ///     loop {
     ///         match handle.close() {
@@ -192,7 +195,7 @@ impl<T: Kind> Unclosed<HandleOf<T>> {
 #[derive(Clone, Copy, Debug, PartialEq, Eq, Hash)]
 #[non_exhaustive]
 pub enum ReportError {
-    /// Two of the handles are of different sets.
+    /// Two of the handles belong to different sets.
     Mixed,
     /// There are fewer handles than were opened with the set, or none.
     Missing,
@@ -213,7 +216,7 @@ pub enum ReportError {
 pub enum RenewError {
     /// A number of the shape is out of range: the first such one.
     Shape(ShapeError),
-    /// Two of the handles are of different sets.
+    /// Two of the handles belong to different sets.
     Mixed,
     /// There are fewer handles than were opened with the set, or none.
     Missing,
@@ -221,7 +224,7 @@ pub enum RenewError {
     Slots,
     /// There is no memory for the report or for the fresh set, and there are no more keys than slots.
     Memory,
-    /// Of [`Table::renew_timeout`]: a handle was on loan until the time was over.
+    /// From [`Table::renew_timeout`]: a handle was still on loan when the time was over.
     Lent,
 }
 

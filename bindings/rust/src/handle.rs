@@ -15,12 +15,12 @@ use core::ops::{Deref, DerefMut};
 use core::ptr::{null_mut, NonNull};
 use core::sync::atomic::{AtomicPtr, AtomicU64, AtomicUsize, Ordering};
 
-/// A handle to a set, by the name of [`Handle`](crate::Handle), or to a map, by that of [`MapHandle`](crate::MapHandle): a pass,
-/// the right of one thread at a time to make calls, and a share of the set. The calls are those of the pass, to which it
-/// derefs: [`PassOf`]. What is said here of a set and its keys is so of a map and its entries.
+/// A handle to a set, called [`Handle`](crate::Handle), or to a map, called [`MapHandle`](crate::MapHandle): a pass, the
+/// right of one thread at a time to make calls, and a share of the set. The calls are those of the pass, to which it derefs:
+/// [`PassOf`]. What is said here of a set and its keys holds for a map and its entries too.
 ///
-/// It may go to another thread, and is neither `Clone` nor `Sync`. One that is dropped is closed, and nothing is lost by it: the
-/// handle that is closed last gets the report. Where the last one is dropped, the set goes with it.
+/// It may go to another thread, and is neither `Clone` nor `Sync`. A dropped handle is closed, and nothing is lost by it: the
+/// handle that is closed last gets the report. If the last one is dropped, the set goes with it.
 ///
 /// ```
 /// # use vbr::{Set, Shape};
@@ -78,8 +78,9 @@ impl<T: Kind> HandleOf<T> {
         raw.resize_with(handles, || Raw::EMPTY);
         let seed = seed.unwrap_or_else(random_seed);
         // SAFETY: the handles are empty, and nothing else reaches them; and `items` has as many as the call is given.
-        let told =
-            unsafe { T::OPEN(raw.as_mut_ptr(), handles, slots, buckets, last_epoch, seed, items.as_ptr(), items.len()) };
+        let told = unsafe {
+            T::OPEN_MANY_SEEDED(raw.as_mut_ptr(), handles, slots, buckets, last_epoch, seed, items.as_ptr(), items.len())
+        };
         if told != code::DONE {
             return Err(OpenError::Memory);
         }
@@ -111,12 +112,12 @@ impl<T: Kind> HandleOf<T> {
         self.raw.get_mut().steps = steps.count();
     }
 
-    /// Closes the handle. The answer is `None` while other handles of the set are open; the last one gets the report.
-    /// It alone takes memory: for each slot 8 bytes of a set, 16 of a map, and where keys or entries aren't laid out as those of
-    /// `u64` are, the size of one besides; what isn't needed is given back where there is memory for the keys alone. While it runs
-    /// it takes as much as the words of the set, and 9 bytes for each slot, or 17 of a map.
+    /// Closes the handle. The answer is `None` while other handles of the set are open; the last one gets the report. It
+    /// alone takes memory: 8 bytes for each slot of a set, 16 of a map, and the size of one key or entry besides if these
+    /// aren't laid out as those of `u64` are; what isn't needed is given back if there is memory for the keys alone. While it
+    /// runs it takes as much as the words of the set, and 9 bytes for each slot, or 17 of a map.
     ///
-    /// Where nobody wants the report, drop the handle: with the last one the set ends, in a fraction of the time.
+    /// If nobody wants the report, drop the handle: with the last one the set ends, in a fraction of the time.
     ///
     /// ```
     /// # use vbr::{Set, Shape};
@@ -130,8 +131,7 @@ impl<T: Kind> HandleOf<T> {
     ///
     /// # Errors
     ///
-    /// [`CloseError::Memory`], with the handle as it was; of the last handle alone. [`CloseError::Lost`], which no program is
-    /// known to get.
+    /// [`CloseError::Memory`], with the handle as it was, and only from the last handle; or [`CloseError::Lost`].
     pub fn close(mut self) -> Result<Option<T::Report>, CloseError<HandleOf<T>>> {
         let Some(shared) = self.last() else {
             return Ok(None);
@@ -144,7 +144,7 @@ impl<T: Kind> HandleOf<T> {
         }
     }
 
-    /// Closes all handles of a set at once, which are open. Where it is refused memory they stay as they were.
+    /// Closes all handles of a set at once, which are open. If memory is refused they stay as they were.
     pub(crate) fn close_all(handles: &mut [impl AsMut<Self>]) -> Result<T::Report, Unreported> {
         let (last, others) = handles.split_last_mut().ok_or(Unreported::Lost)?;
         for other in others.iter_mut() {
@@ -162,7 +162,7 @@ impl<T: Kind> HandleOf<T> {
         told
     }
 
-    /// Closes all handles of a set by the last one. Where it is refused memory they stay as they were.
+    /// Closes all handles of a set by the last one. If memory is refused they stay as they were.
     fn close_last(&mut self, shared: &Shared) -> Result<T::Report, Unreported> {
         let mut room = Room::<T>::of(shared.slots).ok_or(Unreported::Memory)?;
         shared.park(self.number, self.take_owned());

@@ -1,4 +1,5 @@
 //! Slots in hand, and what stands in slots: for records beside the entries.
+// tools/interface makes this file of bindings/interface/holding.rs.in.
 use crate::library::{
     code, looked_up, updated, vbr_insert_held_within, vbr_map_insert_held_within, vbr_map_put_held_within,
     vbr_map_replace_held_within, with_value, Stands,
@@ -9,9 +10,9 @@ use core::marker::PhantomData;
 use core::mem::ManuallyDrop;
 use core::ops::Deref;
 
-/// Where an entry stands: its slot, and the birth of its node; of a map also its value. No other node that was ever in that slot has
-/// this birth, so it names one entry, which may have left meanwhile, and no later one of the same key. It is good until the set is
-/// renewed or closed.
+/// Where an entry stands: its slot, and the birth of its node; in a map also its value. No other node that was ever in that
+/// slot has this birth, so it names one entry, which may have left meanwhile, and no later one with the same key. It stays
+/// valid until the set is renewed or closed.
 ///
 /// ```
 /// # use vbr::{Map, Shape};
@@ -120,7 +121,7 @@ impl<T: Kind> PassOf<T> {
     ///
     /// # Errors
     ///
-    /// [`Refusal::OutOfSteps`], [`Refusal::NoSlot`] and [`Refusal::EpochSpent`], as of an insert of an absent key.
+    /// [`Refusal::OutOfSteps`], [`Refusal::NoSlot`] and [`Refusal::EpochSpent`], as for an insert of an absent key.
     #[inline]
     pub fn hold(&mut self) -> Result<Held<'_, T>, Refusal> {
         self.hold_within(self.steps())
@@ -137,7 +138,7 @@ impl<T: Kind> PassOf<T> {
     ///
     /// # Errors
     ///
-    /// Those of [`PassOf::hold`].
+    /// The same as for [`PassOf::hold`].
     #[inline]
     pub fn hold_within(&mut self, steps: Steps) -> Result<Held<'_, T>, Refusal> {
         let mut slot = 0;
@@ -152,7 +153,7 @@ impl<T: Kind> PassOf<T> {
         Ok(Held { pass: self, slot })
     }
 
-    /// Looks a key up, and tells where it stands. Its steps are those of [`PassOf::has`], or of a map's `get`: all loads.
+    /// Looks a key up, and says where it stands. Its steps are those of [`PassOf::has`], or of a map's `get`: all loads.
     ///
     /// ```
     /// # use vbr::{Set, Shape};
@@ -180,7 +181,7 @@ impl<T: Kind> PassOf<T> {
     ///
     /// # Errors
     ///
-    /// [`OutOfSteps`]. No call was made then.
+    /// The same as for [`PassOf::get_entry`].
     #[inline]
     pub fn get_entry_within(&self, key: T::Key, steps: Steps) -> Result<Option<Incarnation<T>>, OutOfSteps> {
         let (key, mut stands) = (key.to_bits(), Stands::default());
@@ -190,9 +191,10 @@ impl<T: Kind> PassOf<T> {
         Ok(looked_up(told)?.then_some(Incarnation { stands, kind: PhantomData }))
     }
 
-    /// Whether a slot is still that of the entry that was found there, in one step, a load. If so, at each moment since the entry was
-    /// found no other node was in the slot, and nobody had it in hand. So what was copied from beside it since then is of that entry,
-    /// whole; [`Records::read`](crate::Records::read) copies and asks. The entry itself may have been taken out meanwhile.
+    /// Says whether a slot still belongs to the entry that was found there, in one step, a load. If so, at each moment since
+    /// the entry was found no other node was in the slot, and nobody had it in hand. So what was copied from beside it since
+    /// then is that entry's, and whole; [`Records::read`](crate::Records::read) copies and asks. The entry itself may have
+    /// been taken out meanwhile.
     ///
     /// ```
     /// # use vbr::{Map, Shape};
@@ -211,8 +213,8 @@ impl<T: Kind> PassOf<T> {
         unsafe { T::IS_STILL(self.raw(), &at.stands) == code::YES }
     }
 
-    /// Takes a key out if it still has the very entry that was found, and says whether it had. Else nothing was changed. The budgets
-    /// that are enough are those of a remove.
+    /// Takes a key out if it still has the very entry that was found, and says whether it had. Otherwise nothing was changed.
+    /// A budget that is enough for a remove is enough.
     ///
     /// ```
     /// # use vbr::{Set, Shape};
@@ -225,7 +227,7 @@ impl<T: Kind> PassOf<T> {
     /// # Ok::<(), Box<dyn std::error::Error>>(())
     /// ```
     ///
-    /// A key of a map that was given a value has another entry, also with the same value.
+    /// A key of a map that was given a value since then has another entry, even with the same value.
     ///
     /// ```
     /// # use vbr::{Map, Shape};
@@ -257,7 +259,7 @@ impl<T: Kind> PassOf<T> {
     ///
     /// # Errors
     ///
-    /// [`OutOfSteps`]. No call was made then.
+    /// The same as for [`PassOf::remove_entry`].
     #[inline]
     pub fn remove_entry_within(&mut self, key: T::Key, at: &Incarnation<T>, steps: Steps) -> Result<bool, OutOfSteps> {
         let key = key.to_bits();
@@ -265,7 +267,7 @@ impl<T: Kind> PassOf<T> {
         looked_up(order::removes(key, || unsafe { T::REMOVE_ENTRY(self.raw(), key, &at.stands, steps.count()) }))
     }
 
-    /// The next key of a walk, and where it stands; `None` at its end. It is as [`PassOf::next`] otherwise.
+    /// Returns the next key of a walk, and where it stands; `None` at the end. Otherwise it is as [`PassOf::next`].
     ///
     /// ```
     /// # use vbr::{Cursor, Set, Shape};
@@ -282,7 +284,7 @@ impl<T: Kind> PassOf<T> {
     ///
     /// # Errors
     ///
-    /// [`OutOfSteps`], as of [`PassOf::next`].
+    /// [`OutOfSteps`], as for [`PassOf::next`].
     #[inline]
     #[allow(clippy::type_complexity, reason = "it is what `next` gives, with the entry")]
     pub fn next_at(&self, cursor: &mut Cursor) -> Result<Option<(T::Key, Incarnation<T>)>, OutOfSteps> {
@@ -303,7 +305,7 @@ impl<T: Kind> PassOf<T> {
     ///
     /// # Errors
     ///
-    /// [`OutOfSteps`], as of [`PassOf::next`].
+    /// The same as for [`PassOf::next_at`].
     #[inline]
     #[allow(clippy::type_complexity, reason = "it is what `next` gives, with the entry")]
     pub fn next_at_within(&self, cursor: &mut Cursor, steps: Steps) -> Result<Option<(T::Key, Incarnation<T>)>, OutOfSteps> {
@@ -317,7 +319,7 @@ impl<T: Kind> PassOf<T> {
         Ok(Some((T::Key::from_bits(key), Incarnation { stands, kind: PhantomData })))
     }
 
-    /// Goes over all keys as [`PassOf::iter`] does, and tells where each stands.
+    /// Goes over all keys as [`PassOf::iter`] does, and says where each stands.
     ///
     /// ```
     /// # use vbr::{Map, Shape};
@@ -331,7 +333,7 @@ impl<T: Kind> PassOf<T> {
     ///
     /// # Errors
     ///
-    /// An item is [`OutOfSteps`] where that of [`PassOf::iter`] is.
+    /// An item is [`OutOfSteps`] whenever [`PassOf::iter`]'s would be.
     #[inline]
     pub fn iter_at(&self) -> IterAt<'_, T> {
         self.iter_at_within(self.steps())
@@ -340,12 +342,16 @@ impl<T: Kind> PassOf<T> {
     /// As [`PassOf::iter_at`], each of whose calls has this budget.
     ///
     /// ```
-    /// # use vbr::{OutOfSteps, Set, Shape, Steps};
-    /// let handle = Set::handles_with(Shape::for_keys(8, 1), &[2, 5, 9])?.remove(0);
-    /// assert_eq!(handle.iter_at_within(Steps::new(100)).count(), 3);
+    /// # use vbr::{Map, OutOfSteps, Shape, Steps};
+    /// let handle = Map::handles_with(Shape::for_keys(8, 1), &[(5, 70), (7, 71)])?.remove(0);
+    /// assert_eq!(handle.iter_at_within(Steps::new(100)).count(), 2);
     /// assert_eq!(handle.iter_at_within(Steps::new(1)).next(), Some(Err(OutOfSteps)));
     /// # Ok::<(), vbr::OpenError>(())
     /// ```
+    ///
+    /// # Errors
+    ///
+    /// The same as for [`PassOf::iter_at`].
     #[inline]
     pub fn iter_at_within(&self, steps: Steps) -> IterAt<'_, T> {
         IterAt::new(self, steps)
@@ -355,7 +361,7 @@ impl<T: Kind> PassOf<T> {
 /// A slot in hand, by [`PassOf::hold`]. Nobody else has it until it is made the node of a key, or dropped, which puts it back. It
 /// derefs to its pass, for look-ups.
 ///
-/// The calls that spend it take it, so its record can't be written once it is published. Where they don't do what they are asked
+/// The calls that spend it take it, so its record can't be written once it is published. If they don't do what they are asked
 /// for, they give it back.
 ///
 /// ```
@@ -398,7 +404,7 @@ impl<'p, T: Kind> Held<'p, T> {
         self.slot
     }
 
-    /// Makes a call by the slot, which is spent where this answers yes, and put back where it is refused.
+    /// Makes a call by the slot, which is spent if the answer is yes, and put back if the call is refused.
     #[inline]
     fn spent_by(self, call: impl FnOnce(&mut PassOf<T>) -> i32) -> Result<Result<(), Held<'p, T>>, OutOfSteps> {
         if looked_up(call(self.pass))? {

@@ -63,9 +63,9 @@ impl Cursor {
 /// map's as `Iter<'_, Entries>`.
 ///
 /// Each call of the library has the same budget of steps. One that is refused and has come further is made again, as often as
-/// need be. Where a whole call didn't come to a later bucket, the item is `Err(`[`OutOfSteps`]`)`. The walk isn't over
-/// by that: the next item is of a call from the same place, or again such an error, for as long as the budget is too small for
-/// the bucket. So leave it by `?`, or collect into a [`Result`]; what skips errors, as [`Iterator::flatten`] does, may go on for
+/// need be. If a whole call didn't come to a later bucket, the item is `Err(`[`OutOfSteps`]`)`. The walk isn't over by that:
+/// the next item is of a call from the same place, or again such an error, for as long as the budget is too small for the
+/// bucket. So leave it by `?`, or collect into a [`Result`]; what skips errors, as [`Iterator::flatten`] does, may go on for
 /// ever. After the last key it gives `None` for good.
 ///
 /// ```
@@ -101,7 +101,7 @@ impl<T: Kind> Iterator for Iter<'_, T> {
 
 impl<T: Kind> FusedIterator for Iter<'_, T> {}
 
-/// A walk over all keys that tells where each stands, as [`PassOf::iter_at`] begins it. It is as [`Iter`] otherwise.
+/// A walk over all keys that says where each stands, as [`PassOf::iter_at`] begins it. Otherwise it is as [`Iter`].
 ///
 /// ```
 /// # use vbr::{IterAt, Keys, OutOfSteps};

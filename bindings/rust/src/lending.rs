@@ -16,7 +16,7 @@ use std::time::Instant;
 /// The handles of one set or map, which it lends.
 pub(crate) struct Lender<T: Kind> {
     places: Box<[Place<T>]>,
-    /// Of so many one may be lent: of all, and of none while they are renewed. It is never more than there are.
+    /// How many handles may be lent: all, or 0 during a renewal. It is never more than there are.
     lends: AtomicUsize,
     waiters: Waiters,
     /// Apart from what a borrower reads, so that a set is small enough for an error.
@@ -42,7 +42,7 @@ pub(crate) struct SharedShape {
     steps: AtomicU32,
 }
 
-/// A renewal: where it has its turn no handle is lent, and it takes each that is free. At its end all are lent again.
+/// A renewal: while it has its turn no handle is lent, and it takes each that is free. At its end all are lent again.
 struct Renewal<'l, T: Kind> {
     of: &'l Lender<T>,
     has_turn: bool,
@@ -89,7 +89,7 @@ impl<T: Kind> Lender<T> {
         self.places.len()
     }
 
-    /// The number of a free handle, which is lent now, or none where each was lent at a moment of the call, or none is to be lent.
+    /// Lends a free handle and returns its number, or none if each was lent at some moment of the call, or none may be lent.
     #[inline]
     pub(crate) fn take(&self) -> Option<usize> {
         let last = LAST.get();
@@ -109,28 +109,52 @@ impl<T: Kind> Lender<T> {
         Some(number)
     }
 
-    /// The number of a handle, which is lent now, as soon as one is free; none where none was until the deadline.
+    /// Lends a handle as soon as one is free, and returns its number; none if none was free until the deadline.
     #[inline]
     pub(crate) fn take_until(&self, deadline: impl FnOnce() -> Option<Instant>) -> Option<usize> {
         self.take().or_else(|| self.waiters.wait(deadline(), || self.take()))
     }
 
-    /// Closes all handles, and reports what was in the set. Where it is refused memory they stay as they were.
+    /// Closes all handles, and reports what was in the set. If memory is refused they stay as they were, and are all to be lent:
+    /// no loan is left but such as were forgotten.
     pub(crate) fn close(&mut self) -> Result<T::Report, Unreported> {
-        HandleOf::close_all(&mut self.places)
+        let told = HandleOf::close_all(&mut self.places);
+        self.places.iter_mut().for_each(|it| *it.is_lent.get_mut() = false);
+        told
     }
 
-    /// Lets the handles go on over a fresh set of this shape, once all loans are back, if they are before the deadline.
+    /// How often it was renewed: of a thread with a loan, which no renewal overtakes, it is the number of the one that it is of.
+    pub(crate) fn renewals(&self) -> usize {
+        self.made.renewals.load(Ordering::Relaxed)
+    }
+
+    /// Lets the handles go on over a fresh set of this shape, once all loans are back, if they are before the deadline. Where another
+    /// thread gives the set this shape meanwhile, that serves both.
     pub(crate) fn renew(&self, shape: Shape, deadline: Option<Instant>, records: Option<&Words>) -> Result<(), RenewError> {
+        let (before, wanted) = (self.renewals(), shape.opened().with_handles(self.count()));
+        self.renew_unless(|| self.renewals() != before && self.made.shape.get() == wanted, shape, deadline, records)
+    }
+
+    /// The same if it was renewed that often: any later renewal serves.
+    pub(crate) fn renew_once(&self, before: usize, shape: Shape) -> Result<(), RenewError> {
+        self.renew_unless(|| self.renewals() != before, shape, None, None)
+    }
+
+    fn renew_unless(
+        &self,
+        is_made: impl Fn() -> bool,
+        shape: Shape,
+        deadline: Option<Instant>,
+        records: Option<&Words>,
+    ) -> Result<(), RenewError> {
         shape.check_numbers()?;
         let shape = shape.opened().with_handles(self.count());
-        let before = self.made.renewals.load(Ordering::Relaxed);
         let mut mine = Renewal { of: self, has_turn: false, taken: 0 };
         let is_to_be_made = self.waiters.wait_for_all(deadline, || {
-            if self.is_renewed_since(before, shape) {
+            if self.is_lending() && is_made() {
                 return Some(false);
             }
-            mine.takes_all().then_some(true)
+            mine.takes_all().then(|| !is_made()) // another one may have ended just before
         });
         if !is_to_be_made.ok_or(RenewError::Lent)? {
             return Ok(()); // another thread's serves both
@@ -141,10 +165,9 @@ impl<T: Kind> Lender<T> {
         Ok(())
     }
 
-    /// Whether no renewal is under way, and one that came after so many has given the set this shape.
-    fn is_renewed_since(&self, before: usize, shape: Shape) -> bool {
-        let is_lending = self.lends.load(Ordering::Acquire) > 0;
-        is_lending && self.made.renewals.load(Ordering::Relaxed) != before && self.made.shape.get() == shape
+    /// Whether no renewal is under way; what the last one made can be read then.
+    fn is_lending(&self) -> bool {
+        self.lends.load(Ordering::Acquire) > 0
     }
 }
 
@@ -210,7 +233,7 @@ impl SharedShape {
         self.steps.store(steps.unwrap_or_default().count(), Ordering::Relaxed);
     }
 
-    fn get(&self) -> Shape {
+    pub(crate) fn get(&self) -> Shape {
         let seed = self.has_seed.load(Ordering::Relaxed).then(|| self.seed.load(Ordering::Relaxed));
         let steps = self.has_steps.load(Ordering::Relaxed).then(|| Steps::new(self.steps.load(Ordering::Relaxed)));
         let (slots, buckets, last_epoch) = (self.slots(), self.buckets(), self.last_epoch());
@@ -244,11 +267,16 @@ impl<T: Kind> AsMut<HandleOf<T>> for Place<T> {
     }
 }
 
-/// A handle on loan, by the name of [`Lent`] from a set or a map that outlives it, or by that of [`OwnedLent`] with a share of
-/// its own of the set or the map. It goes back when this is dropped, in whatever thread, and what was done with it comes before
-/// what the next borrower does. One that is forgotten ([`core::mem::forget`]) isn't lent again; it is closed with its set.
+/// A handle on loan: [`Lent`] from a set or a map that outlives it, or [`OwnedLent`] with a share of its own of the set or
+/// the map. It goes back when this is dropped, in whatever thread, and what was done with it comes before what the next
+/// borrower does. One that is forgotten ([`core::mem::forget`]) isn't lent again, unless a close is refused; it is closed with
+/// its set.
 ///
 /// It derefs to the handle's pass ([`PassOf`]), which makes all calls and doesn't close: so the handle stays where it is.
+///
+/// A loan without a name is dropped at the end of its statement, and so after the arms of a `match` and after the block of an
+/// `if let`: a second loan there waits for ever if no handle is free. Name the answer or the loan first, or make the call of the
+/// table itself, as by [`Table::has`].
 ///
 /// It may go to another thread, and is not `Sync`.
 ///
@@ -272,7 +300,7 @@ impl<T: Kind> AsMut<HandleOf<T>> for Place<T> {
 /// fn is_sync<T: Sync>() {}
 /// is_sync::<vbr::OwnedLent<vbr::Entries>>();
 /// ```
-#[must_use = "it goes back where it is dropped"]
+#[must_use = "it goes back when it is dropped"]
 #[clippy::has_significant_drop]
 pub struct LentBy<T: Kind, B: Deref<Target = Table<T>>> {
     table: B,

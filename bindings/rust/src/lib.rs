@@ -1,5 +1,5 @@
 //! A hash set, and a map, that threads share, in fixed memory and without a lock: a safe wrapper of a library whose calls are
-//! proved. Keys and values are of any types of at most 64 bits.
+//! proved. Keys and values may have any type of at most 64 bits.
 //!
 //! ```
 //! use vbr::{Set, Shape};
@@ -16,17 +16,18 @@
 //! # Ok::<(), Box<dyn std::error::Error>>(())
 //! ```
 //!
-//! A [`Shape`] says how large the set is, and for how many handles. Each handle is moved to its thread and makes calls; none waits
-//! for another, and each ends within its budget of steps. The last handle that is closed gets a report of what is in the set.
+//! A [`Shape`] says how large the set is, and for how many handles. Each handle is moved to its thread and makes calls; none
+//! waits for another, and each call on a key ends within its budget of steps. The last handle that is closed gets a report of
+//! what is in the set.
 //!
 //! # What to know before you take it
 //!
 //! - **Platform.** Linux on x86-64, processors of x86-64-v2 or later (SSE4.2 and POPCNT). It was run on Xeons in virtual machines
 //!   under Debian 12, and nowhere else. Rust 1.81 or later, with `std`.
-//! - **Limits.** Keys and values of at most 64 bits, and [`Records`] of any size beside them. Up to [`MAX_SLOTS`] slots (2,147,483,647), of which each key takes one and each
-//!   handle keeps up to 64; [`MAX_HANDLES`] handles; memory that is taken at the opening, 8 × (2 + buckets + 4 × slots +
-//!   ⌈slots / 64⌉) bytes for a set, and 8 more for each slot of a map. A set doesn't grow by itself: [`Table::renew`] and
-//!   [`HandleOf::renew_all`] let it go on in another shape.
+//! - **Limits.** Keys and values of at most 64 bits, and [`Records`] of any size beside them. Up to [`MAX_SLOTS`] slots
+//!   (2,147,483,647), of which each key takes one and each handle keeps up to 64; [`MAX_MANY_HANDLES`] handles; memory that is
+//!   taken at the opening, 8 × (2 + buckets + 4 × slots + ⌈slots / 64⌉) bytes for a set, and 8 more for each slot of a map. A
+//!   set doesn't grow by itself: [`Table::renew`], [`Table::call`] and [`HandleOf::renew_all`] let it go on in another shape.
 //! - **The epochs end.** Only calls that take a slot, for a key or a new value, advance the epoch, each by one at most: about three
 //!   of a hundred inserts, also in a full cache that takes a key out before each that it puts in, since a handle keeps slots in
 //!   reserve ([`PassOf::reserve`]); more in small sets. The last epoch [`MAX_EPOCH`] lasts
@@ -34,14 +35,16 @@
 //!   and with more than 16,777,215 slots it is less ([`max_epoch`]). After it inserts are refused by [`Refusal::EpochSpent`] until
 //!   the set is renewed; look-ups and removes go on. So a program that runs for weeks renews its set by a clock
 //!   (`examples/server.rs`).
-//! - **Progress.** Each call ends within its budget, answered or refused. Nobody holds it up: what others can cost it is bounded by
-//!   what they do, and while they stand still, wherever they do, a known budget suffices. A call with a budget that is large
-//!   enough is refused for want of steps only where another handle's update is answered yes meanwhile. So whoever stands still,
-//!   of the callers that go on one is answered within a known number of steps. Fairness, by which each is answered, isn't claimed.
+//! - **Progress.** Each call of the library ends within its budget, answered or refused. What is made of several
+//!   ([budgets](#budgets)) has the budget for each of them, and may make any number. Nobody holds a call up: what others can
+//!   cost it is bounded by what they do, and while they stand still, wherever they do, a known budget suffices. A call with a
+//!   budget that is large enough is refused for want of steps only if another handle's update is answered yes meanwhile. So
+//!   whoever stands still, of the callers that go on one is answered within a known number of steps. Fairness, by which each is
+//!   answered, isn't claimed.
 //! - **Proved** of the library's calls: each answered one takes effect at one step between its beginning and its end, in one legal
 //!   history of what its caller has seen; that memory is reused safely, and what refusals and reports mean.
 //! - **Argued and tested**, and not proved: that calls which a program orders (by a lock, a channel, a join, or a release and an
-//!   acquire) stand in that order; that what was written before an insert can be read by who finds the key; that handles may
+//!   acquire) stand in that order; that what was written before an insert can be read by whoever finds the key; that handles may
 //!   change threads, and signal handlers make calls; that processes which share a set go on when one is killed. This crate, its
 //!   loans and its waiting are tested, and proved by nobody.
 //!
@@ -51,8 +54,8 @@
 //! [`Set::handles`](Table::handles) and `Map::handles` give the handles themselves, one for each thread to own. Both have a form
 //! with keys that are there from the start, `open_with` and `handles_with`.
 //!
-//! Calls have the names of `std` where they do the same. A set's [`insert`](Pass::insert) says whether the key was absent, as that of
-//! `HashSet` does. A map has no `insert`, since that of `HashMap` replaces: [`MapPass::put`] does that, and
+//! Calls have the names of `std` if they do the same. A set's [`insert`](Pass::insert) says whether the key was absent, as
+//! `HashSet`'s does. A map has no `insert`, since `HashMap`'s replaces: [`MapPass::put`] does that, and
 //! [`MapPass::try_insert`] adds a key that is absent and leaves one that is there. [`PassOf::has`] is `contains` of a set and
 //! `contains_key` of a map.
 //!
@@ -62,10 +65,10 @@
 //!
 //! # Keys and values
 //!
-//! `Set` and `Map` are those of `u64` where a type is named. Where one is opened, its types are what its calls are given: integers
-//! (literals without a type are `i32`, as everywhere), `char`, `bool`, `NonZero`, pairs of `u32`, [`ByBits`] for `f64`, and types of
-//! yours that say how they are made of bits ([`Bits`]). What comes out of a set was put in by calls of the same type, so its bits
-//! are always those of a value.
+//! Named as types, `Set` and `Map` are those of `u64`. When one is opened, its types are what its calls are given: integers
+//! (literals without a type are `i32`, as everywhere), `char`, `bool`, `NonZero`, pairs of `u32`, [`ByBits`] for `f64`, and
+//! types of your own that say how they are made from bits ([`Bits`]). What comes out of a set was put in by calls of the same
+//! type, so its bits always stand for a value.
 //!
 //! ```
 //! use vbr::{Bits, Map, MapHandle, Shape};
@@ -94,11 +97,11 @@
 //! # Maps
 //!
 //! [`Map`] has a value beside each key. It is opened, used and closed as a [`Set`], and what is said here of sets and their
-//! handles is so of maps and theirs. [`MapPass::replace`], [`MapPass::put`], [`MapPass::compare_exchange`] and
+//! handles holds for maps and theirs too. [`MapPass::replace`], [`MapPass::put`], [`MapPass::compare_exchange`] and
 //! [`MapPass::fetch_update`] change a value at one moment, so nobody finds the key absent. [`MapPass::get_or_insert`] and
-//! [`MapPass::remove_if`] do one thing or another by what is there; [`MapPass::entry`] says the same in the form of `HashMap`, and
-//! [`MapPass::retain`] takes out what is no longer wanted. [`Table`], [`HandleOf`] and [`PassOf`] have the calls of both, for
-//! either [`Kind`].
+//! [`MapPass::remove_if`] do one thing or another, depending on what is there; [`MapPass::entry`] says the same in the form
+//! of `HashMap`, and [`MapPass::retain`] takes out what is no longer wanted. [`Table`], [`HandleOf`] and [`PassOf`] have the
+//! calls of both, for either [`Kind`].
 //!
 //! ```
 //! use vbr::{Map, Shape};
@@ -116,26 +119,31 @@
 //! # Ok::<(), Box<dyn std::error::Error>>(())
 //! ```
 //!
-//! Programs to begin from are in `examples`: `page_cache.rs`, the index of a page cache; `slot_records.rs`, records of any size beside
-//! the slots of a map, and `records.rs`, records that values name; `limiter.rs`, a rate limiter; `logins.rs`, logins that expire;
-//! `server.rs`, a map that a clock renews; `prefork.rs`, processes that share a map and are killed; and short ones, `routes.rs`,
-//! `interner.rs` and `visited.rs`.
+//! Programs to begin from are in `examples`: `page_cache.rs`, the index of a page cache; `slot_records.rs`, records of any size
+//! beside the slots of a map, and `records.rs`, records that values name; `limiter.rs`, a rate limiter; `logins.rs`, logins that
+//! expire; `server.rs`, a map that a clock renews; `visits.rs`, a map that grows; `prefork.rs`, processes that share a map and
+//! are killed; and short ones, `routes.rs`, `interner.rs` and `visited.rs`.
 //!
 //! # Records of any size
 //!
-//! [`Records`] are values of any size, in fixed memory, one for each slot of a set or a map. A thread holds a slot ([`PassOf::hold`]),
-//! writes its record, which nobody else does meanwhile, and publishes it with a key by the [`Held`] slot. A reader gets a copy that is
-//! whole, and of the entry that the key had at a moment of the call. Nobody waits, and nobody frees a record.
+//! [`Records`] are values of any size, in fixed memory, one for each slot of a set or a map. A thread holds a slot
+//! ([`PassOf::hold`]), writes its record, which nobody else does meanwhile, and publishes it with a key by the [`Held`] slot.
+//! A reader gets a copy that is whole, and belongs to the entry that the key had at a moment of the call. Nobody waits, and
+//! nobody frees a record.
 //!
-//! [`PassOf::get_entry`] tells where a key stands, and [`PassOf::iter_at`] where each key of a walk does. [`PassOf::remove_entry`] takes
-//! a key out only with the entry that was found.
+//! [`PassOf::get_entry`] says where a key stands, and [`PassOf::iter_at`] where each key of a walk does.
+//! [`PassOf::remove_entry`] takes a key out only with the entry that was found.
 //!
 //! # Budgets
 //!
-//! Each call has the budget of its handle, [`Steps::AMPLE`] unless the shape gave another one ([`Shape::with_steps`]), and a form
-//! beside it that takes one for itself: `has_within` beside `has`, and so on. In short buckets the ample one is spent only where
-//! others disturb a call more than a hundred times, so most programs never name one. A refused call made no call: give it up, or
-//! make it again.
+//! Each call has the budget of its handle, [`Steps::AMPLE`] unless the shape gave another one ([`Shape::with_steps`]). Most
+//! have a form beside them that takes one for itself: `has_within` beside `has`, and so on. `contains` and `contains_key` have
+//! none, as they are other names of `has`; nor have [`MapPass::entry`], `retain`, and calls of a table itself.
+//!
+//! `fetch_update`, `retain`, loops over keys, and what [`MapPass::entry`] begins make several calls, and each of these has the
+//! budget. If other threads change the same key again and again, `fetch_update`, `retain` and `and_modify` go on for as long.
+//! In short buckets the ample one is spent only if others disturb a call more than a hundred times, so most programs never
+//! name one. A refused call made no call: give it up, or make it again.
 //!
 //! # Going over all keys
 //!
@@ -162,21 +170,21 @@
 //!
 //! # Threads
 //!
-//! Where a call returns before another one begins, by a lock, a channel, a join, or a release and an acquire, it
-//! stands before that one in the history whose answers the later caller gets: once a thread knows that a
-//! key was inserted, and nobody removes it, [`PassOf::has`] answers yes. What a thread wrote before it inserted a key can be read by
-//! a thread that then finds the key.
+//! If a call returns before another one begins, by a lock, a channel, a join, or a release and an acquire, it stands before
+//! that one in the history whose answers the later caller gets: once a thread knows that a key was inserted, and nobody
+//! removes it, [`PassOf::has`] answers yes. What a thread wrote before it inserted a key can be read by a thread that then
+//! finds the key.
 //!
-//! A handle is no thread's: it may be moved to another one at any time, by whatever Rust has for that, and the library
-//! keeps nothing for each thread. Where a thread ends or panics, the handles that it owns are dropped, which closes them:
-//! nothing is lost, and the last handle of the set still gets the report. A handle that is forgotten
-//! ([`core::mem::forget`]) is never closed, and neither is its set. After a fork the child uses no handle, unless the process
-//! had one thread, or the set is one that processes share.
+//! A handle is no thread's: it may be moved to another one at any time, by whatever Rust has for that, and the library keeps
+//! nothing for each thread. If a thread ends or panics, the handles that it owns are dropped, which closes them: nothing is
+//! lost, and the last handle of the set still gets the report. A handle that is forgotten ([`core::mem::forget`]) is never
+//! closed, and neither is its set. After a fork the child uses no handle, unless the process had one thread, or the set is
+//! one that processes share.
 //!
-//! Threads that come and go, or are more than the handles, borrow those of a [`Set`] that lends them: [`Set::lend`](Table::lend) gives a
-//! free handle or none, [`lend_wait`](Table::lend_wait) and [`lend_timeout`](Table::lend_timeout) wait for one, and
-//! [`lend_owned`](Table::lend_owned) and its kin give a loan with a share of the set, for tasks. A loan makes all calls of its handle,
-//! by the [`Pass`], and goes back when it is dropped.
+//! Threads that come and go, or are more than the handles, borrow those of a [`Set`] that lends them: [`Set::lend`](Table::lend)
+//! gives a free handle or none, [`lend_wait`](Table::lend_wait) and [`lend_timeout`](Table::lend_timeout) wait for one, and
+//! [`lend_owned`](Table::lend_owned) and its kin give a loan with a share of the set, for tasks. A loan makes all calls of its
+//! handle, by the [`Pass`], and goes back when it is dropped.
 //!
 //! ```
 //! use std::sync::Arc;
@@ -196,10 +204,29 @@
 //! # Ok::<(), Box<dyn std::error::Error>>(())
 //! ```
 //!
-//! No call is a point of cancellation; but Rust doesn't say what becomes of a thread that is cancelled (`pthread_cancel`),
-//! so cancel none that has a handle. A call in which a signal comes goes on afterwards. The handler may insert, remove, change
-//! values and look up with a handle that nothing else uses; it opens, closes and drops none, since these take memory or free it,
-//! and borrows none, since a return takes a lock where threads wait.
+//! A loan without a name lasts to the end of its statement: in `match map.lend_wait().get(5)? { .. }` through all arms. A
+//! second loan in an arm is then one beside the first, and the thread waits for ever if no other handle comes back; so it is in
+//! `if let` and `while let`. Keep the answer by a `let` before, or the loan, and make both calls by it. Or make the call of the
+//! map itself: [`get`](Map::get), [`put`](Map::put), [`insert`](Set::insert) of a set and so on lend a handle, call, and have it
+//! back when they return. Clippy tells of such a statement by `significant_drop_in_scrutinee`.
+//!
+//! ```
+//! # use vbr::{Map, Shape};
+//! let map = Map::open(Shape::for_keys(1_024, 1))?;
+//! match map.get(5)? {
+//!     None => assert_eq!(map.put(5, 70)?, None), // by map.lend_wait() twice it would wait for ever
+//!     Some(value) => println!("{value}"),
+//! }
+//! # Ok::<(), Box<dyn std::error::Error>>(())
+//! ```
+//!
+//! [`Table::call`] makes calls by such a loan too. If one is refused for want of a slot or an epoch it renews the set, to a
+//! larger shape as far as it is told to ([`Growth`]), and makes the call again.
+//!
+//! No call is a point of cancellation; but Rust doesn't say what becomes of a thread that is cancelled (`pthread_cancel`), so
+//! cancel none that has a handle. A call in which a signal comes goes on afterwards. The handler may insert, remove, change
+//! values and look up with a handle that nothing else uses; it opens, closes and drops none, since these take memory or free
+//! it, and borrows none, since a return takes a lock if threads wait.
 //!
 //! The exports of the library ask nothing of their caller but what the types here say: a handle is moved
 //! and never copied, and one call at a time has it, since it is not `Sync`.
@@ -223,19 +250,27 @@
 //! # Ok::<(), Box<dyn std::error::Error>>(())
 //! ```
 //!
-//! Once `waitpid` has told of a death, [`SharedTable::inherit`] takes the handle over for the next process. A death within a turn
-//! takes up to 66 slots along, and [`SharedTable::renew`] wins them back. `examples/prefork.rs` is a pre-fork server whose workers
-//! are killed at random moments.
+//! Once `waitpid` has reported a death, [`SharedTable::inherit`] takes the handle over for the next process. A death within a
+//! turn takes up to 66 slots along, and [`SharedTable::renew`] wins them back. `examples/prefork.rs` is a pre-fork server
+//! whose workers are killed at random moments.
 //!
 //! # How it finds the library
 //!
-//! The crate links `libvbr.a` statically: that in the directory that `VBR_LIB_DIR` names, or else that which pkg-config names, if it
-//! is of the crate's version, or else that in `prebuilt/` of the repository that the crate lies in. A warning of cargo says which,
-//! where you named none. The build ends in clear words where there is none, or the target isn't Linux on x86-64; an opening panics
-//! where the library that was linked is of another version ([`version`]).
+//! The crate has the library in it, `libvbr.a`, and links it statically: as a package, as a `git` dependency, and by a path
+//! into the repository. `VBR_LIB_DIR` names the directory of another one. With the feature `system` it is that which pkg-config
+//! names, if that is of the crate's version, and else the crate's own; a warning of cargo says which. The build ends in clear
+//! words if there is none, or the target isn't Linux on x86-64; an opening panics if the library that was linked is of another
+//! version ([`version`]).
 //!
-//! `ThreadSanitizer` doesn't see into the library, so it may report a race where threads are ordered by a set alone. With the feature
-//! `tsan` the crate makes that order known to it; a program that is compiled for it (`-Zsanitizer=thread`) takes the feature, and no other.
+//! `ThreadSanitizer` doesn't see into the library, so it would report a race if threads are ordered by a set alone. In a
+//! program that is compiled for it the crate makes that order known: it sees `-Zsanitizer=thread` in `RUSTFLAGS`, and no
+//! feature is needed. That flag takes a nightly Rust. The standard library comes without the sanitizer, so either `-Zbuild-std`
+//! (with `--target`, and the component `rust-src`) compiles it anew, or `-Cunsafe-allow-abi-mismatch=sanitizer` lets it be
+//! linked as it is. In the second case races may be reported of threads that the standard library alone orders.
+//!
+//! ```sh
+//! RUSTFLAGS=-Zsanitizer=thread cargo +nightly run -Zbuild-std --target x86_64-unknown-linux-gnu
+//! ```
 #![warn(missing_docs)]
 
 extern crate alloc;
@@ -243,6 +278,7 @@ extern crate alloc;
 mod all;
 mod bits;
 mod boxed;
+mod calling;
 mod changing;
 mod entry;
 mod errors;
@@ -267,6 +303,7 @@ mod table;
 mod waiting;
 
 pub use bits::{Bits, ByBits};
+pub use calling::Growth;
 pub use changing::Compared;
 pub use entry::{Entry, ModifiedEntry};
 pub use errors::{CloseError, KeysError, OpenError, OutOfSteps, Refusal, RenewError, ReportError, Unclosed};
@@ -307,8 +344,8 @@ pub const MAX_BUCKETS: u32 = 2_147_483_648;
 /// ```
 pub const MAX_EPOCH: u64 = 549_755_813_887;
 
-/// The greatest last epoch of a set or a map with so many slots; 0 where there can't be so many. The more bits the number of slots
-/// has, the fewer are left for the epoch.
+/// Returns the greatest last epoch of a set or a map with this many slots, or 0 if none can have so many. The more bits the
+/// number of slots has, the fewer are left for the epoch.
 ///
 /// ```
 /// assert_eq!(vbr::max_epoch(16_777_215), vbr::MAX_EPOCH);
@@ -326,9 +363,18 @@ pub const fn max_epoch(slots: u32) -> u64 {
 /// The greatest number of handles of a set.
 ///
 /// ```
-/// assert!(vbr::Shape::for_keys(8, vbr::MAX_HANDLES + 1).check().is_err());
+/// assert!(vbr::Shape::for_keys(8, vbr::MAX_MANY_HANDLES + 1).check().is_err());
 /// ```
-pub const MAX_HANDLES: usize = 65_536;
+pub const MAX_MANY_HANDLES: usize = 65_536;
+
+/// The old name of [`MAX_MANY_HANDLES`], for one version: `VBR_MAX_HANDLES` in C was another number.
+///
+/// ```
+/// # #![allow(deprecated)]
+/// assert_eq!(vbr::MAX_HANDLES, vbr::MAX_MANY_HANDLES);
+/// ```
+#[deprecated(since = "0.3.0", note = "it is called `MAX_MANY_HANDLES`")]
+pub const MAX_HANDLES: usize = MAX_MANY_HANDLES;
 
 /// The version of the library: major * 1000000 + minor * 1000 + patch.
 ///

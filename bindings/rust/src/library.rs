@@ -120,18 +120,18 @@ extern "C" {
     pub(crate) fn vbr_map_insert_within(handle: *mut Raw, key: u64, value: u64, steps: u32) -> i32;
     pub(crate) fn vbr_map_remove_within(handle: *mut Raw, key: u64, value: *mut u64, steps: u32) -> i32;
     pub(crate) fn vbr_map_get_within(handle: *mut Raw, key: u64, value: *mut u64, steps: u32) -> i32;
-    pub(crate) fn vbr_map_replace_within(handle: *mut Raw, key: u64, value: u64, found: *mut u64, steps: u32) -> i32;
-    pub(crate) fn vbr_map_put_within(handle: *mut Raw, key: u64, value: u64, found: *mut u64, steps: u32) -> i32;
-    pub(crate) fn vbr_map_get_or_insert_within(handle: *mut Raw, key: u64, value: u64, found: *mut u64, steps: u32) -> i32;
+    pub(crate) fn vbr_map_replace_within(handle: *mut Raw, key: u64, value: u64, there: *mut u64, steps: u32) -> i32;
+    pub(crate) fn vbr_map_put_within(handle: *mut Raw, key: u64, value: u64, there: *mut u64, steps: u32) -> i32;
+    pub(crate) fn vbr_map_get_or_insert_within(handle: *mut Raw, key: u64, value: u64, there: *mut u64, steps: u32) -> i32;
     pub(crate) fn vbr_map_compare_exchange_within(
         handle: *mut Raw,
         key: u64,
         expected: u64,
         value: u64,
-        found: *mut u64,
+        there: *mut u64,
         steps: u32,
     ) -> i32;
-    pub(crate) fn vbr_map_remove_if_within(handle: *mut Raw, key: u64, expected: u64, found: *mut u64, steps: u32) -> i32;
+    pub(crate) fn vbr_map_remove_if_within(handle: *mut Raw, key: u64, expected: u64, there: *mut u64, steps: u32) -> i32;
     fn vbr_map_has_within(handle: *mut Raw, key: u64, steps: u32) -> i32;
     fn vbr_map_has_all_within(handle: *mut Raw, keys: *const u64, count: usize, answers: *mut i32, steps: u32);
     pub(crate) fn vbr_map_get_all_within(handle: *mut Raw, keys: *const u64, count: usize, found: *mut Found, steps: u32);
@@ -163,7 +163,7 @@ extern "C" {
     pub(crate) fn vbr_insert_held_within(handle: *mut Raw, key: u64, steps: u32) -> i32;
     pub(crate) fn vbr_map_insert_held_within(handle: *mut Raw, key: u64, value: u64, steps: u32) -> i32;
     pub(crate) fn vbr_map_replace_held_within(handle: *mut Raw, key: u64, at: *const Stands, value: u64, steps: u32) -> i32;
-    pub(crate) fn vbr_map_put_held_within(handle: *mut Raw, key: u64, value: u64, found: *mut u64, steps: u32) -> i32;
+    pub(crate) fn vbr_map_put_held_within(handle: *mut Raw, key: u64, value: u64, there: *mut u64, steps: u32) -> i32;
     fn vbr_get_entry_within(handle: *mut Raw, key: u64, at: *mut Stands, steps: u32) -> i32;
     fn vbr_map_get_entry_within(handle: *mut Raw, key: u64, at: *mut Stands, steps: u32) -> i32;
     fn vbr_is_still(handle: *mut Raw, at: *const Stands) -> i32;
@@ -235,16 +235,8 @@ extern "C" {
     pub(crate) fn vbr_unmap_shared(handles: *mut SharedRaw);
 }
 
-/// Opens a set or a map in memory that processes share: it is given where to write the first of the handles, the shape, and items.
-type OpenShared<Plain> = unsafe extern "C" fn(*mut *mut SharedRaw, usize, u32, u32, u64, *const Plain, usize) -> i32;
-
-/// The same in a file.
-type OpenSharedIn<Plain> = unsafe extern "C" fn(c_int, *mut *mut SharedRaw, usize, u32, u32, u64, *const Plain, usize) -> i32;
-
-/// Tells the items of a set or a map with their slots: it is given where to write both, and how much room there is.
-type ReportSlots<Plain> = unsafe extern "C" fn(*mut Raw, usize, *mut Plain, *mut u32, usize, *mut ReportNumbers) -> i32;
-
 /// The calls of the library that sets and maps have alike, over an item, a key or a key with its value, and what a close tells.
+#[allow(clippy::type_complexity, reason = "a call has the type that it has in C")]
 pub(crate) trait Calls<Item, Told> {
     /// An item as C sees it.
     type Plain: Copy + Default;
@@ -252,21 +244,8 @@ pub(crate) trait Calls<Item, Told> {
     /// The names of a table, of its handles and of their passes.
     const NAMES: [&'static str; 3];
 
-    const OPEN: unsafe extern "C" fn(*mut Raw, usize, u32, u32, u64, u64, *const Self::Plain, usize) -> i32;
-    const CLOSE_ALL: unsafe extern "C" fn(*mut Raw, usize, *mut Self::Plain, usize, *mut ReportNumbers) -> i32;
-    const REPORT_ALL: unsafe extern "C" fn(*mut Raw, usize, *mut Self::Plain, usize, *mut ReportNumbers) -> i32;
-    const REPORT_SLOTS: ReportSlots<Self::Plain>;
-    const HOLD: unsafe extern "C" fn(*mut Raw, *mut u32, u32) -> i32;
-    const LET_GO: unsafe extern "C" fn(*mut Raw) -> i32;
-    const GET_ENTRY: unsafe extern "C" fn(*mut Raw, u64, *mut Stands, u32) -> i32;
-    const IS_STILL: unsafe extern "C" fn(*mut Raw, *const Stands) -> i32;
-    const REMOVE_ENTRY: unsafe extern "C" fn(*mut Raw, u64, *const Stands, u32) -> i32;
-    const NEXT_AT: unsafe extern "C" fn(*mut Raw, *mut Cursor, *mut u64, *mut Stands, u32) -> i32;
-    const RENEW_ALL: unsafe extern "C" fn(*mut Raw, usize, u32, u32, u64, u64) -> i32;
-    const END_ALL: unsafe extern "C" fn(*mut Raw, usize);
-    const OPEN_SHARED: OpenShared<Self::Plain>;
-    const OPEN_SHARED_IN: OpenSharedIn<Self::Plain>;
-    const GATHER: unsafe extern "C" fn(*mut SharedRaw) -> *mut Raw;
+    // tools/interface makes these of the headers.
+    const OPEN_MANY_SEEDED: unsafe extern "C" fn(*mut Raw, usize, u32, u32, u64, u64, *const Self::Plain, usize) -> i32;
     const HAS: unsafe extern "C" fn(*mut Raw, u64, u32) -> i32;
     const HAS_ALL: unsafe extern "C" fn(*mut Raw, *const u64, usize, *mut i32, u32);
     const NEXT: unsafe extern "C" fn(*mut Raw, *mut Cursor, *mut Self::Plain, u32) -> i32;
@@ -278,6 +257,29 @@ pub(crate) trait Calls<Item, Told> {
     const BALANCE: unsafe extern "C" fn(*const Raw) -> i64;
     const SPARE: unsafe extern "C" fn(*mut Raw) -> u32;
     const RESERVE: unsafe extern "C" fn(*mut Raw, u32) -> u32;
+    const CLOSE_ALL: unsafe extern "C" fn(*mut Raw, usize, *mut Self::Plain, usize, *mut ReportNumbers) -> i32;
+    const REPORT_ALL: unsafe extern "C" fn(*mut Raw, usize, *mut Self::Plain, usize, *mut ReportNumbers) -> i32;
+    const RENEW_ALL_SEEDED: unsafe extern "C" fn(*mut Raw, usize, u32, u32, u64, u64) -> i32;
+    const END_ALL: unsafe extern "C" fn(*mut Raw, usize);
+    const HOLD: unsafe extern "C" fn(*mut Raw, *mut u32, u32) -> i32;
+    const LET_GO: unsafe extern "C" fn(*mut Raw) -> i32;
+    const GET_ENTRY: unsafe extern "C" fn(*mut Raw, u64, *mut Stands, u32) -> i32;
+    const IS_STILL: unsafe extern "C" fn(*mut Raw, *const Stands) -> i32;
+    const REMOVE_ENTRY: unsafe extern "C" fn(*mut Raw, u64, *const Stands, u32) -> i32;
+    const NEXT_AT: unsafe extern "C" fn(*mut Raw, *mut Cursor, *mut u64, *mut Stands, u32) -> i32;
+    const REPORT_SLOTS: unsafe extern "C" fn(*mut Raw, usize, *mut Self::Plain, *mut u32, usize, *mut ReportNumbers) -> i32;
+    const OPEN_SHARED: unsafe extern "C" fn(*mut *mut SharedRaw, usize, u32, u32, u64, *const Self::Plain, usize) -> i32;
+    const OPEN_SHARED_IN: unsafe extern "C" fn(
+        c_int,
+        *mut *mut SharedRaw,
+        usize,
+        u32,
+        u32,
+        u64,
+        *const Self::Plain,
+        usize,
+    ) -> i32;
+    const GATHER: unsafe extern "C" fn(*mut SharedRaw) -> *mut Raw;
 
     fn plain(item: Item) -> Self::Plain;
     fn item(plain: Self::Plain) -> Item;
@@ -287,29 +289,18 @@ pub(crate) trait Calls<Item, Told> {
     fn report(contents: Contents<Item>) -> Told;
 }
 
+#[allow(clippy::type_complexity, reason = "a call has the type that it has in C")]
 impl<K: Bits> Calls<K, Report<K>> for Keys<K> {
     type Plain = u64;
 
     const NAMES: [&'static str; 3] = ["Set", "Handle", "Pass"];
 
-    const OPEN: unsafe extern "C" fn(*mut Raw, usize, u32, u32, u64, u64, *const u64, usize) -> i32 = vbr_open_many_seeded;
-    const CLOSE_ALL: unsafe extern "C" fn(*mut Raw, usize, *mut u64, usize, *mut ReportNumbers) -> i32 = vbr_close_all;
-    const REPORT_ALL: unsafe extern "C" fn(*mut Raw, usize, *mut u64, usize, *mut ReportNumbers) -> i32 = vbr_report_all;
-    const REPORT_SLOTS: ReportSlots<u64> = vbr_report_slots;
-    const HOLD: unsafe extern "C" fn(*mut Raw, *mut u32, u32) -> i32 = vbr_hold_within;
-    const LET_GO: unsafe extern "C" fn(*mut Raw) -> i32 = vbr_let_go;
-    const GET_ENTRY: unsafe extern "C" fn(*mut Raw, u64, *mut Stands, u32) -> i32 = vbr_get_entry_within;
-    const IS_STILL: unsafe extern "C" fn(*mut Raw, *const Stands) -> i32 = vbr_is_still;
-    const REMOVE_ENTRY: unsafe extern "C" fn(*mut Raw, u64, *const Stands, u32) -> i32 = vbr_remove_entry_within;
-    const NEXT_AT: unsafe extern "C" fn(*mut Raw, *mut Cursor, *mut u64, *mut Stands, u32) -> i32 = vbr_next_at_within;
-    const RENEW_ALL: unsafe extern "C" fn(*mut Raw, usize, u32, u32, u64, u64) -> i32 = vbr_renew_all_seeded;
-    const END_ALL: unsafe extern "C" fn(*mut Raw, usize) = vbr_end_all;
-    const OPEN_SHARED: OpenShared<u64> = vbr_open_shared;
-    const OPEN_SHARED_IN: OpenSharedIn<u64> = vbr_open_shared_in;
-    const GATHER: unsafe extern "C" fn(*mut SharedRaw) -> *mut Raw = vbr_gather;
+    // tools/interface makes these of the headers.
+    const OPEN_MANY_SEEDED: unsafe extern "C" fn(*mut Raw, usize, u32, u32, u64, u64, *const Self::Plain, usize) -> i32 =
+        vbr_open_many_seeded;
     const HAS: unsafe extern "C" fn(*mut Raw, u64, u32) -> i32 = vbr_has_within;
     const HAS_ALL: unsafe extern "C" fn(*mut Raw, *const u64, usize, *mut i32, u32) = vbr_has_all_within;
-    const NEXT: unsafe extern "C" fn(*mut Raw, *mut Cursor, *mut u64, u32) -> i32 = vbr_next_within;
+    const NEXT: unsafe extern "C" fn(*mut Raw, *mut Cursor, *mut Self::Plain, u32) -> i32 = vbr_next_within;
     const EPOCH: unsafe extern "C" fn(*const Raw) -> u64 = vbr_epoch;
     const LAST_EPOCH: unsafe extern "C" fn(*const Raw) -> u64 = vbr_last_epoch;
     const SLOTS: unsafe extern "C" fn(*const Raw) -> u32 = vbr_slots;
@@ -318,6 +309,33 @@ impl<K: Bits> Calls<K, Report<K>> for Keys<K> {
     const BALANCE: unsafe extern "C" fn(*const Raw) -> i64 = vbr_balance;
     const SPARE: unsafe extern "C" fn(*mut Raw) -> u32 = vbr_spare;
     const RESERVE: unsafe extern "C" fn(*mut Raw, u32) -> u32 = vbr_reserve;
+    const CLOSE_ALL: unsafe extern "C" fn(*mut Raw, usize, *mut Self::Plain, usize, *mut ReportNumbers) -> i32 =
+        vbr_close_all;
+    const REPORT_ALL: unsafe extern "C" fn(*mut Raw, usize, *mut Self::Plain, usize, *mut ReportNumbers) -> i32 =
+        vbr_report_all;
+    const RENEW_ALL_SEEDED: unsafe extern "C" fn(*mut Raw, usize, u32, u32, u64, u64) -> i32 = vbr_renew_all_seeded;
+    const END_ALL: unsafe extern "C" fn(*mut Raw, usize) = vbr_end_all;
+    const HOLD: unsafe extern "C" fn(*mut Raw, *mut u32, u32) -> i32 = vbr_hold_within;
+    const LET_GO: unsafe extern "C" fn(*mut Raw) -> i32 = vbr_let_go;
+    const GET_ENTRY: unsafe extern "C" fn(*mut Raw, u64, *mut Stands, u32) -> i32 = vbr_get_entry_within;
+    const IS_STILL: unsafe extern "C" fn(*mut Raw, *const Stands) -> i32 = vbr_is_still;
+    const REMOVE_ENTRY: unsafe extern "C" fn(*mut Raw, u64, *const Stands, u32) -> i32 = vbr_remove_entry_within;
+    const NEXT_AT: unsafe extern "C" fn(*mut Raw, *mut Cursor, *mut u64, *mut Stands, u32) -> i32 = vbr_next_at_within;
+    const REPORT_SLOTS: unsafe extern "C" fn(*mut Raw, usize, *mut Self::Plain, *mut u32, usize, *mut ReportNumbers) -> i32 =
+        vbr_report_slots;
+    const OPEN_SHARED: unsafe extern "C" fn(*mut *mut SharedRaw, usize, u32, u32, u64, *const Self::Plain, usize) -> i32 =
+        vbr_open_shared;
+    const OPEN_SHARED_IN: unsafe extern "C" fn(
+        c_int,
+        *mut *mut SharedRaw,
+        usize,
+        u32,
+        u32,
+        u64,
+        *const Self::Plain,
+        usize,
+    ) -> i32 = vbr_open_shared_in;
+    const GATHER: unsafe extern "C" fn(*mut SharedRaw) -> *mut Raw = vbr_gather;
 
     #[inline]
     fn plain(key: K) -> u64 {
@@ -339,30 +357,18 @@ impl<K: Bits> Calls<K, Report<K>> for Keys<K> {
     }
 }
 
+#[allow(clippy::type_complexity, reason = "a call has the type that it has in C")]
 impl<K: Bits, V: Bits> Calls<(K, V), MapReport<K, V>> for Entries<K, V> {
     type Plain = Pair;
 
     const NAMES: [&'static str; 3] = ["Map", "MapHandle", "MapPass"];
 
-    const OPEN: unsafe extern "C" fn(*mut Raw, usize, u32, u32, u64, u64, *const Pair, usize) -> i32 =
+    // tools/interface makes these of the headers.
+    const OPEN_MANY_SEEDED: unsafe extern "C" fn(*mut Raw, usize, u32, u32, u64, u64, *const Self::Plain, usize) -> i32 =
         vbr_map_open_many_seeded;
-    const CLOSE_ALL: unsafe extern "C" fn(*mut Raw, usize, *mut Pair, usize, *mut ReportNumbers) -> i32 = vbr_map_close_all;
-    const REPORT_ALL: unsafe extern "C" fn(*mut Raw, usize, *mut Pair, usize, *mut ReportNumbers) -> i32 = vbr_map_report_all;
-    const REPORT_SLOTS: ReportSlots<Pair> = vbr_map_report_slots;
-    const HOLD: unsafe extern "C" fn(*mut Raw, *mut u32, u32) -> i32 = vbr_map_hold_within;
-    const LET_GO: unsafe extern "C" fn(*mut Raw) -> i32 = vbr_map_let_go;
-    const GET_ENTRY: unsafe extern "C" fn(*mut Raw, u64, *mut Stands, u32) -> i32 = vbr_map_get_entry_within;
-    const IS_STILL: unsafe extern "C" fn(*mut Raw, *const Stands) -> i32 = vbr_map_is_still;
-    const REMOVE_ENTRY: unsafe extern "C" fn(*mut Raw, u64, *const Stands, u32) -> i32 = vbr_map_remove_entry_within;
-    const NEXT_AT: unsafe extern "C" fn(*mut Raw, *mut Cursor, *mut u64, *mut Stands, u32) -> i32 = vbr_map_next_at_within;
-    const RENEW_ALL: unsafe extern "C" fn(*mut Raw, usize, u32, u32, u64, u64) -> i32 = vbr_map_renew_all_seeded;
-    const END_ALL: unsafe extern "C" fn(*mut Raw, usize) = vbr_map_end_all;
-    const OPEN_SHARED: OpenShared<Pair> = vbr_map_open_shared;
-    const OPEN_SHARED_IN: OpenSharedIn<Pair> = vbr_map_open_shared_in;
-    const GATHER: unsafe extern "C" fn(*mut SharedRaw) -> *mut Raw = vbr_map_gather;
     const HAS: unsafe extern "C" fn(*mut Raw, u64, u32) -> i32 = vbr_map_has_within;
     const HAS_ALL: unsafe extern "C" fn(*mut Raw, *const u64, usize, *mut i32, u32) = vbr_map_has_all_within;
-    const NEXT: unsafe extern "C" fn(*mut Raw, *mut Cursor, *mut Pair, u32) -> i32 = vbr_map_next_within;
+    const NEXT: unsafe extern "C" fn(*mut Raw, *mut Cursor, *mut Self::Plain, u32) -> i32 = vbr_map_next_within;
     const EPOCH: unsafe extern "C" fn(*const Raw) -> u64 = vbr_map_epoch;
     const LAST_EPOCH: unsafe extern "C" fn(*const Raw) -> u64 = vbr_map_last_epoch;
     const SLOTS: unsafe extern "C" fn(*const Raw) -> u32 = vbr_map_slots;
@@ -371,6 +377,33 @@ impl<K: Bits, V: Bits> Calls<(K, V), MapReport<K, V>> for Entries<K, V> {
     const BALANCE: unsafe extern "C" fn(*const Raw) -> i64 = vbr_map_balance;
     const SPARE: unsafe extern "C" fn(*mut Raw) -> u32 = vbr_map_spare;
     const RESERVE: unsafe extern "C" fn(*mut Raw, u32) -> u32 = vbr_map_reserve;
+    const CLOSE_ALL: unsafe extern "C" fn(*mut Raw, usize, *mut Self::Plain, usize, *mut ReportNumbers) -> i32 =
+        vbr_map_close_all;
+    const REPORT_ALL: unsafe extern "C" fn(*mut Raw, usize, *mut Self::Plain, usize, *mut ReportNumbers) -> i32 =
+        vbr_map_report_all;
+    const RENEW_ALL_SEEDED: unsafe extern "C" fn(*mut Raw, usize, u32, u32, u64, u64) -> i32 = vbr_map_renew_all_seeded;
+    const END_ALL: unsafe extern "C" fn(*mut Raw, usize) = vbr_map_end_all;
+    const HOLD: unsafe extern "C" fn(*mut Raw, *mut u32, u32) -> i32 = vbr_map_hold_within;
+    const LET_GO: unsafe extern "C" fn(*mut Raw) -> i32 = vbr_map_let_go;
+    const GET_ENTRY: unsafe extern "C" fn(*mut Raw, u64, *mut Stands, u32) -> i32 = vbr_map_get_entry_within;
+    const IS_STILL: unsafe extern "C" fn(*mut Raw, *const Stands) -> i32 = vbr_map_is_still;
+    const REMOVE_ENTRY: unsafe extern "C" fn(*mut Raw, u64, *const Stands, u32) -> i32 = vbr_map_remove_entry_within;
+    const NEXT_AT: unsafe extern "C" fn(*mut Raw, *mut Cursor, *mut u64, *mut Stands, u32) -> i32 = vbr_map_next_at_within;
+    const REPORT_SLOTS: unsafe extern "C" fn(*mut Raw, usize, *mut Self::Plain, *mut u32, usize, *mut ReportNumbers) -> i32 =
+        vbr_map_report_slots;
+    const OPEN_SHARED: unsafe extern "C" fn(*mut *mut SharedRaw, usize, u32, u32, u64, *const Self::Plain, usize) -> i32 =
+        vbr_map_open_shared;
+    const OPEN_SHARED_IN: unsafe extern "C" fn(
+        c_int,
+        *mut *mut SharedRaw,
+        usize,
+        u32,
+        u32,
+        u64,
+        *const Self::Plain,
+        usize,
+    ) -> i32 = vbr_map_open_shared_in;
+    const GATHER: unsafe extern "C" fn(*mut SharedRaw) -> *mut Raw = vbr_map_gather;
 
     #[inline]
     fn plain((key, value): (K, V)) -> Pair {

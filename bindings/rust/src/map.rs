@@ -1,4 +1,5 @@
-//! Maps: what is of them alone.
+//! What only maps have.
+// tools/interface makes this file of bindings/interface/kinds.rs.in.
 use crate::library::{answer_all, found, looked_up, updated, with_value, Found};
 use crate::library::{vbr_map_get_all_within, vbr_map_get_within, vbr_map_insert_within, vbr_map_remove_within};
 use crate::{order, Bits, Entries, HandleOf, Kind, OutOfSteps, PassOf, Refusal, Steps, Table};
@@ -11,8 +12,8 @@ use core::slice;
 /// A key keeps its value until it is removed or gets another one: [`MapPass::try_insert`] leaves the value of a key that is there,
 /// and [`MapPass::replace`] and [`MapPass::put`] change it at one moment.
 ///
-/// Slots, buckets, budgets and refusals are those of a set; a slot takes 40 bytes in place of 32. Where a type is named, `Map` is a
-/// map from `u64` to `u64`; where one is opened, its types are those that its calls are given.
+/// Slots, buckets, budgets and refusals are those of a set; a slot takes 40 bytes in place of 32. Named as a type, `Map` is a
+/// map from `u64` to `u64`; when one is opened, its types are those that its calls are given.
 ///
 /// ```
 /// # use vbr::{Map, Shape};
@@ -62,9 +63,10 @@ impl<K: Bits, V: Bits> Kind for Entries<K, V> {
 
 /// The calls of maps alone.
 impl<K: Bits, V: Bits> PassOf<Entries<K, V>> {
-    /// Adds a key with its value where it is absent, and says whether it was. A key that is there keeps the value that it has;
-    /// what `HashMap::insert` does, which replaces it, is [`MapPass::put`]. While the other handles stand still, 18n + 82 steps
-    /// are enough, or 18n + w + 20 if that is more, with n nodes in the bucket of the key and w = slots / 64, rounded up.
+    /// Adds a key with its value if it is absent, and says whether it was. A key that is there keeps the value that it has;
+    /// what `HashMap::insert` does, which replaces it, is [`MapPass::put`]. While the other handles stand still, 18n + 82
+    /// steps are enough, or 18n + w + 20 if that is more, with n nodes in the bucket of the key and w = slots / 64, rounded
+    /// up.
     ///
     /// ```
     /// # use vbr::{Map, Shape};
@@ -77,8 +79,8 @@ impl<K: Bits, V: Bits> PassOf<Entries<K, V>> {
     ///
     /// # Errors
     ///
-    /// [`Refusal::OutOfSteps`], and, where the key is absent, [`Refusal::NoSlot`] and [`Refusal::EpochSpent`]. No call was
-    /// made then.
+    /// [`Refusal::OutOfSteps`], and, if the key is absent, [`Refusal::NoSlot`] and [`Refusal::EpochSpent`]. No call was made
+    /// then.
     #[inline]
     pub fn try_insert(&mut self, key: K, value: V) -> Result<bool, Refusal> {
         self.try_insert_within(key, value, self.steps())
@@ -95,7 +97,7 @@ impl<K: Bits, V: Bits> PassOf<Entries<K, V>> {
     ///
     /// # Errors
     ///
-    /// Those of [`MapPass::try_insert`].
+    /// The same as for [`MapPass::try_insert`].
     #[inline]
     pub fn try_insert_within(&mut self, key: K, value: V, steps: Steps) -> Result<bool, Refusal> {
         let (key, value) = (key.to_bits(), value.to_bits());
@@ -106,8 +108,8 @@ impl<K: Bits, V: Bits> PassOf<Entries<K, V>> {
     /// Takes a key out, and gives the value that it had, if it was there: that of the entry that this call took, and no other one.
     /// While the other handles stand still, 9n + 11 steps are enough, with n nodes in the bucket of the key.
     ///
-    /// Where it was there, its node has left its list, unless the budget ended first: then the next insert or remove that
-    /// passes the node takes it out.
+    /// If it was there, its node has left its list, unless the budget ended first: then the next insert or remove that passes
+    /// the node takes it out.
     ///
     /// ```
     /// # use vbr::{Map, Shape};
@@ -136,7 +138,7 @@ impl<K: Bits, V: Bits> PassOf<Entries<K, V>> {
     ///
     /// # Errors
     ///
-    /// [`OutOfSteps`]. No call was made then.
+    /// The same as for [`MapPass::remove`].
     #[inline]
     pub fn remove_within(&mut self, key: K, steps: Steps) -> Result<Option<V>, OutOfSteps> {
         let key = key.to_bits();
@@ -178,7 +180,7 @@ impl<K: Bits, V: Bits> PassOf<Entries<K, V>> {
     ///
     /// # Errors
     ///
-    /// [`OutOfSteps`]. No call was made then.
+    /// The same as for [`MapPass::get`].
     #[inline]
     pub fn get_within(&self, key: K, steps: Steps) -> Result<Option<V>, OutOfSteps> {
         Ok(self.bits_within(key, steps)?.map(V::from_bits))
@@ -209,7 +211,7 @@ impl<K: Bits, V: Bits> PassOf<Entries<K, V>> {
     ///
     /// # Panics
     ///
-    /// Where there aren't as many values as keys. No call was made then.
+    /// If there aren't as many values as keys. No call was made then.
     #[inline]
     pub fn get_all(&self, keys: &[K], values: &mut [Result<Option<V>, OutOfSteps>]) {
         self.get_all_within(keys, values, self.steps());
@@ -219,7 +221,7 @@ impl<K: Bits, V: Bits> PassOf<Entries<K, V>> {
     ///
     /// ```
     /// # use vbr::{Map, OutOfSteps, Shape, Steps};
-    /// # let handle = Map::handles_with(Shape::for_keys(8, 1), &[(5, 70)])?.remove(0);
+    /// let handle = Map::handles_with(Shape::for_keys(8, 1), &[(5, 70)])?.remove(0);
     /// let mut values = [Ok(None); 2];
     /// handle.get_all_within(&[5, 6], &mut values, Steps::new(1));
     /// assert_eq!(values, [Err(OutOfSteps); 2]);
@@ -228,7 +230,7 @@ impl<K: Bits, V: Bits> PassOf<Entries<K, V>> {
     ///
     /// # Panics
     ///
-    /// Where there aren't as many values as keys. No call was made then.
+    /// As [`MapPass::get_all`] does.
     #[inline]
     pub fn get_all_within(&self, keys: &[K], values: &mut [Result<Option<V>, OutOfSteps>], steps: Steps) {
         // SAFETY: as for `get_within`; there is room for as many values as keys.
@@ -256,8 +258,8 @@ impl<K: Bits, V: Bits> PassOf<Entries<K, V>> {
     }
 }
 
-/// What a map held when it was closed, or was reported. The numbers are those of a set's [`Report`](crate::Report). It goes over
-/// its entries where a loop takes it.
+/// What a map held when it was closed, or was reported. The numbers are those of a set's [`Report`](crate::Report). It goes
+/// over its entries if a loop takes it.
 ///
 /// ```
 /// # use vbr::{Map, Shape};
@@ -275,11 +277,11 @@ impl<K: Bits, V: Bits> PassOf<Entries<K, V>> {
 pub struct MapReport<K = u64, V = u64> {
     /// The keys in the map, ascending by their bits, each with its value.
     pub entries: Vec<(K, V)>,
-    /// As [`Report::epoch`](crate::Report::epoch).
+    /// The epoch.
     pub epoch: u64,
-    /// As [`Report::marked`](crate::Report::marked).
+    /// How many removed nodes were still in a list.
     pub marked: u32,
-    /// As [`Report::free`](crate::Report::free).
+    /// How many slots had no node in a list.
     pub free: u32,
 }
 

@@ -1,11 +1,11 @@
-//! Tells `ThreadSanitizer` of the order that sets and maps give, with the feature `tsan`. It doesn't see into the library, which is
-//! compiled without it. Without the feature these functions make the call and nothing else.
+//! Tells `ThreadSanitizer` of the order that sets and maps give, in programs that are compiled for it (`vbr_tsan`). It doesn't see into
+//! the library, which is compiled without it. In other programs these functions make the call and nothing else.
 //!
 //! What a thread did before it inserted a key comes before what a thread does that then finds it, and what it did before it removed
 //! one before what a thread does that then finds it absent. A call that gives a key another value counts as a remove and an insert.
-#![allow(unused_variables, reason = "a key is reported with the feature alone")]
+#![allow(unused_variables, reason = "a key is reported to the sanitizer alone")]
 
-#[cfg(feature = "tsan")]
+#[cfg(vbr_tsan)]
 mod told {
     use crate::library::code;
     use core::cell::UnsafeCell;
@@ -20,7 +20,8 @@ mod told {
 
     const GROUPS: usize = 1 << 14;
 
-    /// For each group of keys whom inserts come before, and whom removes. It has addresses alone, which nothing reads or writes.
+    /// For each group of keys: what inserts release, and what removes release. It has addresses alone, which nothing reads or
+    /// writes.
     struct Places(UnsafeCell<[[u64; 2]; GROUPS]>);
 
     // SAFETY: nothing reads or writes it.
@@ -82,7 +83,7 @@ mod told {
     }
 }
 
-#[cfg(not(feature = "tsan"))]
+#[cfg(not(vbr_tsan))]
 mod told {
     #[inline]
     pub(crate) fn may_come(_: u64) {}

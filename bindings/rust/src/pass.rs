@@ -1,4 +1,5 @@
 //! Passes: the calls that sets and maps have alike.
+// tools/interface makes this file of bindings/interface/pass.rs.in.
 use crate::library::{answer_all, looked_up, Raw};
 use crate::{order, Bits, Cursor, Iter, Kind, OutOfSteps, Steps};
 use core::cell::UnsafeCell;
@@ -66,8 +67,8 @@ impl<T: Kind> PassOf<T> {
         // SAFETY: a pass is a slice of such cells by another name, and `&mut` is exclusive.
         unsafe { &mut *(ptr::from_mut(slice::from_mut(raw)) as *mut PassOf<T>) }
     }
-    /// The handle as the calls of the library take it. A call may have it where nothing else does meanwhile: the pass isn't
-    /// `Sync`, and no call lends it to anybody.
+    /// The handle as the calls of the library take it. A call may have it while nothing else does: the pass isn't `Sync`, and
+    /// no call lends it to anybody.
     #[inline]
     pub(crate) fn raw(&self) -> *mut Raw {
         UnsafeCell::raw_get(self.raw.as_ptr())
@@ -123,7 +124,7 @@ impl<T: Kind> PassOf<T> {
     ///
     /// # Errors
     ///
-    /// [`OutOfSteps`]. No call was made then.
+    /// The same as for [`PassOf::has`].
     #[inline]
     pub fn has_within(&self, key: T::Key, steps: Steps) -> Result<bool, OutOfSteps> {
         let key = key.to_bits();
@@ -147,7 +148,7 @@ impl<T: Kind> PassOf<T> {
     ///
     /// # Panics
     ///
-    /// Where there aren't as many answers as keys. No call was made then.
+    /// If there aren't as many answers as keys. No call was made then.
     #[inline]
     pub fn has_all(&self, keys: &[T::Key], answers: &mut [Result<bool, OutOfSteps>]) {
         self.has_all_within(keys, answers, self.steps());
@@ -157,7 +158,7 @@ impl<T: Kind> PassOf<T> {
     ///
     /// ```
     /// # use vbr::{OutOfSteps, Set, Shape, Steps};
-    /// # let handle = Set::handles_with(Shape::for_keys(8, 1), &[5, 7])?.remove(0);
+    /// let handle = Set::handles_with(Shape::for_keys(8, 1), &[5, 7])?.remove(0);
     /// let mut answers = [Ok(false); 2];
     /// handle.has_all_within(&[5, 6], &mut answers, Steps::new(1));
     /// assert_eq!(answers, [Err(OutOfSteps); 2]);
@@ -166,7 +167,7 @@ impl<T: Kind> PassOf<T> {
     ///
     /// # Panics
     ///
-    /// Where there aren't as many answers as keys. No call was made then.
+    /// As [`PassOf::has_all`] does.
     #[inline]
     pub fn has_all_within(&self, keys: &[T::Key], answers: &mut [Result<bool, OutOfSteps>], steps: Steps) {
         // SAFETY: as for `has_within`; there is room for as many answers as keys.
@@ -222,9 +223,9 @@ impl<T: Kind> PassOf<T> {
     ///
     /// # Errors
     ///
-    /// An item is [`OutOfSteps`] where a whole call didn't come to a later bucket, as [`Iter`] says. While the other handles stand
-    /// still that is so only if the budget is below 5n + 11, with n nodes in the bucket. Where they disturb the call there m times,
-    /// it is so only below (m + 1)(5(n + m) + 11).
+    /// An item is [`OutOfSteps`] if a whole call didn't come to a later bucket, as [`Iter`] says. While the other handles
+    /// stand still that is so only if the budget is below 5n + 11, with n nodes in the bucket. If they disturb the call there
+    /// m times, it is so only below (m + 1)(5(n + m) + 11).
     #[inline]
     pub fn iter(&self) -> Iter<'_, T> {
         self.iter_within(self.steps())
@@ -239,17 +240,21 @@ impl<T: Kind> PassOf<T> {
     /// assert_eq!(handle.iter_within(Steps::new(1)).next(), Some(Err(OutOfSteps)));
     /// # Ok::<(), vbr::OpenError>(())
     /// ```
+    ///
+    /// # Errors
+    ///
+    /// The same as for [`PassOf::iter`].
     #[inline]
     pub fn iter_within(&self, steps: Steps) -> Iter<'_, T> {
         Iter::new(self, steps)
     }
 
-    /// The next key of a walk; `None` at its end. The cursor is after the key then. A walk begins at [`Cursor::first`], and what
-    /// [`PassOf::iter`] says of one is so of these calls of one handle.
+    /// The next key of a walk; `None` at its end. The cursor is after the key then. A walk begins at [`Cursor::first`], and
+    /// what [`PassOf::iter`] says of a walk holds for these calls of one handle.
     ///
     /// It makes three steps for each bucket that it enters, three for a removed node that is still in its list, and five for
-    /// another; and of a map two more, to read the value. Where others disturb it in a bucket, it goes over that one again, once
-    /// for each time at most. After the last node of a bucket the cursor is before the next bucket.
+    /// another; and of a map two more, to read the value. If others disturb it in a bucket, it goes over that bucket again,
+    /// at most once for each disturbance. After the last node of a bucket the cursor is before the next bucket.
     ///
     /// Between two of them the handle makes any other calls.
     ///
@@ -301,7 +306,7 @@ impl<T: Kind> PassOf<T> {
     ///
     /// # Errors
     ///
-    /// [`OutOfSteps`], as of [`PassOf::next`].
+    /// The same as for [`PassOf::next`].
     #[inline]
     pub fn next_within(&self, cursor: &mut Cursor, steps: Steps) -> Result<Option<T::Item>, OutOfSteps> {
         let mut given = T::Plain::default();
@@ -378,8 +383,9 @@ impl<T: Kind> PassOf<T> {
         unsafe { T::BUCKETS(self.raw()) }
     }
 
-    /// The seed that spreads the keys of the set over its buckets, drawn or given: the one that it was opened with, or, of one
-    /// from 2^63 on, the one 2^63 less, which is its like. With it a set has each key in the same bucket, where it has as many.
+    /// The seed that spreads the keys of the set over its buckets, drawn or given: the one that it was opened with, or, of
+    /// one from 2^63 on, its equivalent below 2^63, which is 2^63 less. With it a set has each key in the same bucket, if it
+    /// has as many.
     ///
     /// ```
     /// # use vbr::{Set, Shape};
@@ -401,6 +407,9 @@ impl<T: Kind> PassOf<T> {
     /// balance along when it is closed. While threads run, let each put the balance of its handle where the others read it: the
     /// sum of these is off by at most the calls that are under way or end while it is made.
     ///
+    /// After a renewal the balance of the first handle is the number of keys, and that of the others 0. What was put before is of
+    /// the set as it was, so put that of each handle anew before the sum is made.
+    ///
     /// ```
     /// # use vbr::{Set, Shape};
     /// let mut handles = Set::handles_with(Shape::for_keys(8, 2), &[5, 7])?;
@@ -417,38 +426,54 @@ impl<T: Kind> PassOf<T> {
 
     /// Puts the slots that the handle keeps to itself, at most 64, into the pool that all handles share, where any of them
     /// finds them, and returns how many they were. It keeps none then. It makes a step for each, and can't fail. A handle
-    /// that is closed or dropped does so by itself: call it of one that inserts nothing for a time. The next insert that adds
-    /// a key takes slots in reserve again ([`PassOf::reserve`]).
+    /// that is closed or dropped does so by itself: call it on a handle that won't insert for a while. The next insert that
+    /// adds a key takes slots in reserve again ([`PassOf::reserve`]).
     ///
     /// ```
     /// # use vbr::{Refusal, Set, Shape};
     /// let mut handles = Set::handles(Shape::new(1, 1, 100).with_handles(2))?;
     /// assert!(handles[0].insert(5)? && handles[0].remove(5)?);
     /// assert_eq!(handles[1].insert(6), Err(Refusal::NoSlot)); // the first handle has the only slot
-    /// assert_eq!(handles[0].spare(), 1);
+    /// assert_eq!(handles[0].give_slots_back(), 1);
     /// assert!(handles[1].insert(6)?);
     /// # Ok::<(), Box<dyn std::error::Error>>(())
     /// ```
     #[inline]
-    pub fn spare(&mut self) -> u32 {
+    pub fn give_slots_back(&mut self) -> u32 {
         // SAFETY: as for `has_within`.
         unsafe { T::SPARE(self.raw()) }
     }
 
-    /// Takes slots out of the pool that all handles share until the handle keeps `wanted` to itself, or 63 if that is less, and
-    /// returns how many it took: fewer only where it finds no more on a way once round the slots. It makes at most one step for
-    /// each slot that it takes, one for each 64 slots of the set, and one for each slot that others take out of that pool
-    /// meanwhile. It makes no call of the set, takes no memory and can't fail. [`PassOf::spare`] gives the slots back.
+    /// The old name of [`PassOf::give_slots_back`], for one version.
     ///
-    /// A handle keeps a reserve by itself: 32 slots, or slots / (8 * handles) where that is less, so none in a set with fewer
+    /// ```
+    /// # #![allow(deprecated)]
+    /// # use vbr::{Set, Shape};
+    /// let mut handles = Set::handles(Shape::for_keys(8, 1))?;
+    /// assert!(handles[0].insert(5)?);
+    /// assert!(handles[0].spare() > 0); // as give_slots_back
+    /// # Ok::<(), Box<dyn std::error::Error>>(())
+    /// ```
+    #[deprecated(since = "0.3.0", note = "it is called `give_slots_back`")]
+    #[inline]
+    pub fn spare(&mut self) -> u32 {
+        self.give_slots_back()
+    }
+
+    /// Takes slots out of the pool that all handles share until the handle keeps `wanted` to itself, or 63 if that is less,
+    /// and returns how many it took: fewer only if one pass over all slots finds no more. It makes at most one step for each
+    /// slot that it takes, one for each 64 slots of the set, and one for each slot that others take out of that pool
+    /// meanwhile. It makes no call on the set, takes no memory and can't fail. [`PassOf::give_slots_back`] does the opposite.
+    ///
+    /// A handle keeps a reserve by itself: 32 slots, or slots / (8 * handles) if that is less, so none in a set with fewer
     /// than 8 slots for each handle. With 64 slots or more for each it takes them when it is opened or renewed, in as many
-    /// tries. A try fails at a slot that has a key, and the next one is up to 64 slots further on. So it takes all where the set
-    /// opens empty, and often none where it opens with thousands of keys. After an insert that added a key, where more than an
-    /// eighth of the reserve is lacking, it makes up to 5 tries to take a slot, within the budget of the call. So a handle that
-    /// takes a key out before each that it puts in, as a cache does that is full, advances the epoch in about one of 30 inserts,
-    /// and not in each. With r slots in reserve it is one of r + 1: call this for more than 32, or of a small set. Inserts take
-    /// slots of the handle first, so those that fill the set use the rest up. The reserve is part of the 64 slots that are
-    /// counted for each handle. A handle that won't insert may give it back at once.
+    /// tries. A try fails at a slot that has a key, and the next one is up to 64 slots further on. So it takes all if the set
+    /// opens empty, and often none if it opens with thousands of keys. After an insert that added a key, if more than an
+    /// eighth of the reserve is lacking, it makes up to 5 tries to take a slot, within the budget of the call. So a handle
+    /// that takes a key out before each one that it puts in, as a full cache does, advances the epoch in about one of 30
+    /// inserts, and not in each. With r slots in reserve, one insert in r + 1 advances the epoch. Call this to hold more than
+    /// 32, or in a small set. Inserts take the handle's own slots first, so inserts that fill the set use the reserve up. The
+    /// reserve is part of the 64 slots that are counted for each handle. A handle that won't insert may give it back at once.
     ///
     /// ```
     /// # use vbr::{Set, Shape};

@@ -19,13 +19,13 @@ use std::os::fd::{AsFd, AsRawFd};
 /// owns nothing. A process *claims* a handle ([`SharedTable::claim`]), and makes calls by it in *turns* ([`Claim::turn`]), which
 /// mark the handle while they last. By the mark [`SharedTable::inherit`] knows whether a process died in a call.
 ///
-/// Where this is dropped, the memory is taken out of the process that drops it, and of no other: a forked process may drop its own
-/// copy, or end without that. The system frees the memory with the last process that has it.
+/// When this is dropped, the memory is taken out of the process that drops it, and out of no other: a forked process may drop
+/// its own copy, or end without that. The system frees the memory with the last process that has it.
 ///
 /// A process that is killed while it opens, reports or renews the set may leave it torn, and one that writes to memory that isn't
 /// its own may write to the set.
 ///
-/// What is said here of a set and its keys is so of a map and its entries.
+/// What is said here of a set and its keys holds for a map and its entries too.
 ///
 /// ```
 /// # extern "C" {
@@ -92,8 +92,8 @@ impl<T: Kind> SharedTable<T> {
     /// is for. Beside the slots for keys and handles it wants some for deaths ([`Shape::with_deaths`]). Its seed is drawn: that of
     /// the shape isn't asked.
     ///
-    /// It maps [`SharedTable::size`] bytes, of which the system gives pages as they are touched. Where it has none left by then, it
-    /// ends the process by a signal; no call says so.
+    /// It maps [`SharedTable::size`] bytes, of which the system gives pages as they are touched. If it has none left by then,
+    /// it ends the process by a signal; no call says so.
     ///
     /// ```
     /// # use vbr::{SharedSet, Shape};
@@ -108,7 +108,7 @@ impl<T: Kind> SharedTable<T> {
     ///
     /// # Panics
     ///
-    /// Where the library that the program was linked with isn't of the crate's version; so of each opening.
+    /// If the linked library has another version than the crate. Every opening checks this.
     pub fn open(shape: Shape) -> Result<SharedTable<T>, OpenError> {
         SharedTable::open_with(shape, &[])
     }
@@ -153,8 +153,8 @@ impl<T: Kind> SharedTable<T> {
     ///
     /// # Errors
     ///
-    /// Those of [`SharedTable::open_with`]; then [`OpenError::ShortFile`], and [`OpenError::Memory`] too where the file can't be
-    /// mapped. Nothing is kept then, and nothing of the file was written.
+    /// The same as for [`SharedTable::open_with`]; then [`OpenError::ShortFile`], and [`OpenError::Memory`] too if the file
+    /// can't be mapped. Nothing is kept then, and nothing of the file was written.
     ///
     /// # Safety
     ///
@@ -210,8 +210,8 @@ impl<T: Kind> SharedTable<T> {
         self.count
     }
 
-    /// Claims the handle with this number, from 0 on and below [`SharedTable::handle_count`]. It asks nobody and writes nothing. The
-    /// claim closes nothing where it is dropped: the handle is then whoever's the program says.
+    /// Claims the handle with this number, from 0 on and below [`SharedTable::handle_count`]. It asks nobody and writes
+    /// nothing. The claim closes nothing when it is dropped: the handle then belongs to whomever the program says.
     ///
     /// ```
     /// # use vbr::{SharedSet, Shape};
@@ -226,13 +226,13 @@ impl<T: Kind> SharedTable<T> {
     ///
     /// # Panics
     ///
-    /// Where the number isn't below [`SharedTable::handle_count`].
+    /// If the number isn't below [`SharedTable::handle_count`].
     ///
     /// # Safety
     ///
-    /// While this claim is in use, no other claim of the handle is, in any process and any thread. What was done by the one before
-    /// is ordered before, by a fork, a `waitpid`, a pipe or the like. Where a process has died that had the handle, it was
-    /// inherited since ([`SharedTable::inherit`]).
+    /// While this claim is in use, no other claim of the handle is, in any process and any thread. What was done by the one
+    /// before is ordered before, by a fork, a `waitpid`, a pipe or the like. If a process has died that had the handle, it
+    /// was inherited since ([`SharedTable::inherit`]).
     ///
     /// A fork copies claims and turns as all else, and from then on one of the two processes alone uses them. A turn that is dropped
     /// is used too. So a child of a fork that was made within a turn ends without dropping it, or becomes another program.
@@ -240,8 +240,8 @@ impl<T: Kind> SharedTable<T> {
         Claim { handle: self.at(number), number, table: PhantomData }
     }
 
-    /// Takes over the handle with this number from a process that is dead, as `waitpid` has told, and says what is left of it. Then
-    /// another process may claim it. Any process that has the set does so, while all others make calls.
+    /// Takes over the handle with this number from a process that is dead, as `waitpid` has said, and says what is left of
+    /// it. Then another process may claim it. Any process that has the set does so, while all others make calls.
     ///
     /// ```
     /// # use vbr::{Inherited, SharedSet, Shape};
@@ -258,8 +258,8 @@ impl<T: Kind> SharedTable<T> {
     ///
     /// # Panics
     ///
-    /// Where the number isn't below [`SharedTable::handle_count`], or the handle is empty. A process that dies in a report or in a
-    /// renewal may leave it so, and then the set can't go on.
+    /// If the number isn't below [`SharedTable::handle_count`], or the handle is empty. A process that dies in a report or in
+    /// a renewal may leave it so, and then the set can't go on.
     ///
     /// # Safety
     ///
@@ -293,9 +293,9 @@ impl<T: Kind> SharedTable<T> {
     ///
     /// # Errors
     ///
-    /// [`RenewError::Shape`], which is tested first; [`RenewError::Missing`] where a handle is empty, as a process may leave it that
-    /// dies in a report or a renewal; [`RenewError::Slots`]; and [`RenewError::Memory`] where the memory of the set, which has room
-    /// for the shape that it was opened with, has none for this one. The set is as it was then.
+    /// [`RenewError::Shape`], which is tested first; [`RenewError::Missing`] if a handle is empty, as a process may leave it
+    /// that dies in a report or a renewal; [`RenewError::Slots`]; and [`RenewError::Memory`] if the memory of the set, which
+    /// has room for the shape that it was opened with, has none for this one. The set is as it was then.
     ///
     /// # Safety
     ///
@@ -318,8 +318,9 @@ impl<T: Kind> SharedTable<T> {
         }
     }
 
-    /// Tells what is in the set, as the close of its last handle does of one that threads share. All go on with the claims that they
-    /// have. Handles whose process died in a call are inherited first. It takes the memory of a close, in this process.
+    /// Reports what is in the set, as the close of the last handle does for a set that threads share. All go on with the
+    /// claims that they have. Handles whose process died in a call are inherited first. It takes the memory of a close, in
+    /// this process.
     ///
     /// ```
     /// # use vbr::{SharedMap, Shape};
@@ -332,8 +333,8 @@ impl<T: Kind> SharedTable<T> {
     ///
     /// # Errors
     ///
-    /// [`ReportError::Missing`] where a handle is empty, as of [`SharedTable::renew`], and [`ReportError::Memory`]. The set is as it
-    /// was then.
+    /// [`ReportError::Missing`] if a handle is empty, as for [`SharedTable::renew`], and [`ReportError::Memory`]. The set is
+    /// as it was then.
     ///
     /// # Safety
     ///
@@ -429,8 +430,8 @@ pub enum Inherited {
     WithoutSlots,
 }
 
-/// A handle of a set that processes share, as one process has it, and one thread of that; of a map as `Claim<'_, Entries>`. It
-/// makes calls by turns alone ([`Claim::turn`]), and closes nothing where it is dropped.
+/// A handle of a set that processes share, as one process has it, and one thread of that; of a map as `Claim<'_, Entries>`.
+/// It makes calls by turns alone ([`Claim::turn`]), and closes nothing when it is dropped.
 ///
 /// It may go to another thread, and is neither `Clone` nor `Sync`.
 ///
@@ -511,9 +512,9 @@ impl<T: Kind> fmt::Debug for Claim<'_, T> {
     }
 }
 
-/// A turn of a handle that is claimed, in which it makes calls; of a map as `Turn<'_, Entries>`. It derefs to the handle's pass
-/// ([`PassOf`]), and ends where it is dropped. One that is forgotten ([`core::mem::forget`]) leaves the mark, until the next turn
-/// of the handle ends: whoever inherits the handle before takes it for one that a process died with in a call.
+/// A turn of a handle that is claimed, in which it makes calls; of a map as `Turn<'_, Entries>`. It derefs to the handle's
+/// pass ([`PassOf`]), and ends when it is dropped. One that is forgotten ([`core::mem::forget`]) leaves the mark, until the
+/// next turn of the handle ends: whoever inherits the handle before takes it for one that a process died with in a call.
 ///
 /// ```
 /// # use vbr::{Kind, OutOfSteps, SharedSet, Shape, Turn};

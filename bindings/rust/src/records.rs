@@ -272,7 +272,7 @@ impl<R: Record> Records<R> {
     ///
     /// # Panics
     ///
-    /// Where there are fewer records than slots.
+    /// If there are fewer records than slots.
     #[inline]
     pub fn write<T: Kind>(&self, held: &mut Held<'_, T>, record: &R) {
         let mut words = self.words.of(held.slot()).iter();
@@ -280,9 +280,9 @@ impl<R: Record> Records<R> {
         record.store(&mut |word| words.next().expect(MORE).store(word, Ordering::Release));
     }
 
-    /// The record of a key, as it was written before the key was inserted, or got this entry; none where the key is absent. It is that of
-    /// a moment of the call, whole. It looks up, copies and asks, and does so again only where the slot was handed out anew meanwhile.
-    /// Each look-up has the budget of the handle. All its steps are loads.
+    /// The record of a key, as it was written before the key was inserted, or got this entry; none if the key is absent. It
+    /// is that of a moment of the call, whole. It looks up, copies and asks, and does so again only if the slot was handed
+    /// out anew meanwhile. Each look-up has the budget of the handle. All its steps are loads.
     ///
     /// ```
     /// # use vbr::{Records, Set, Shape};
@@ -302,7 +302,7 @@ impl<R: Record> Records<R> {
     ///
     /// # Panics
     ///
-    /// Where there are fewer records than slots.
+    /// If there are fewer records than slots.
     #[inline]
     pub fn read<T: Kind>(&self, pass: &PassOf<T>, key: T::Key) -> Result<Option<R>, OutOfSteps> {
         Ok(self.read_entry(pass, key)?.map(|(record, _)| record))
@@ -343,7 +343,7 @@ impl<R: Record> Records<R> {
     ///
     /// # Panics
     ///
-    /// Where there are fewer records than slots.
+    /// If there are fewer records than slots.
     #[inline]
     pub fn read_entry<T: Kind>(&self, pass: &PassOf<T>, key: T::Key) -> Result<Option<(R, Incarnation<T>)>, OutOfSteps> {
         while let Some(at) = pass.get_entry(key)? {
@@ -374,7 +374,7 @@ impl<R: Record> Records<R> {
     ///
     /// # Panics
     ///
-    /// Where there are fewer records than slots.
+    /// If there are fewer records than slots.
     #[inline]
     #[must_use]
     pub fn copy<T: Kind>(&self, at: &Incarnation<T>) -> R {
@@ -402,7 +402,8 @@ impl<R: Record> Records<R> {
     ///
     /// # Errors
     ///
-    /// [`RenewError`], and all stays as it was. It is [`RenewError::Shape`] too where there are fewer records than slots of the shape.
+    /// [`RenewError`], and all stays as it was. It is [`RenewError::Shape`] too if there are fewer records than slots of the
+    /// shape.
     pub fn renew_all<T: Kind>(&self, handles: &mut [HandleOf<T>], shape: Shape) -> Result<(), RenewError> {
         self.words.have_room(shape)?;
         HandleOf::renew_along(handles, shape, &self.words)
@@ -428,7 +429,7 @@ impl<R: Record> Records<R> {
     ///
     /// # Errors
     ///
-    /// Those of [`Records::renew_all`], and all stays as it was.
+    /// The same as for [`Records::renew_all`], and all stays as it was.
     pub fn renew<T: Kind>(&self, table: &Table<T>, shape: Shape) -> Result<(), RenewError> {
         self.words.have_room(shape)?;
         table.lender.renew(shape, None, Some(&self.words))

@@ -4,13 +4,13 @@ use crate::{order, Kind};
 use alloc::vec::Vec;
 use core::alloc::Layout;
 
-/// Room for each slot: for items as the library writes them, and for those of the kind where they can't take that room over.
+/// Room for each slot: for items as the library writes them, and for those of the kind if they can't take over that room.
 pub(crate) struct Room<T: Kind> {
     plain: Vec<T::Plain>,
     items: Vec<T::Item>,
 }
 
-/// Why a set or a map tells no report.
+/// Why a set or a map gives no report.
 pub(crate) enum Unreported {
     /// There is no memory for it, and all handles stay as they were.
     Memory,

@@ -1,4 +1,5 @@
-//! Sets: what is of them alone.
+//! What only sets have.
+// tools/interface makes this file of bindings/interface/kinds.rs.in.
 use crate::library::{looked_up, updated, vbr_insert_within, vbr_remove_within};
 use crate::{order, Bits, Cursor, HandleOf, Keys, Kind, OutOfSteps, PassOf, Refusal, Steps, Table};
 use alloc::vec::{self, Vec};
@@ -7,7 +8,7 @@ use core::slice;
 /// A set of keys of any type that has [`Bits`]. [`Set::open`] opens one that lends its handles, and [`Set::handles`] gives the
 /// handles of a new set to their owners. Its calls are those of a [`Table`].
 ///
-/// Where a type is named, `Set` is a set of `u64`; where one is opened, its keys are what its calls are given.
+/// Named as a type, `Set` is a set of `u64`; when one is opened, its keys have the type that its calls are given.
 ///
 /// ```
 /// # use vbr::{Set, Shape};
@@ -77,7 +78,7 @@ impl<K: Bits> PassOf<Keys<K>> {
     ///
     /// # Errors
     ///
-    /// [`Refusal::OutOfSteps`], and, where the key is absent, [`Refusal::NoSlot`] and [`Refusal::EpochSpent`]. No call was made
+    /// [`Refusal::OutOfSteps`], and, if the key is absent, [`Refusal::NoSlot`] and [`Refusal::EpochSpent`]. No call was made
     /// then.
     #[inline]
     pub fn insert(&mut self, key: K) -> Result<bool, Refusal> {
@@ -95,7 +96,7 @@ impl<K: Bits> PassOf<Keys<K>> {
     ///
     /// # Errors
     ///
-    /// Those of [`Pass::insert`].
+    /// The same as for [`Pass::insert`].
     #[inline]
     pub fn insert_within(&mut self, key: K, steps: Steps) -> Result<bool, Refusal> {
         let key = key.to_bits();
@@ -106,8 +107,8 @@ impl<K: Bits> PassOf<Keys<K>> {
     /// Takes a key out, and says whether it was there. While the other handles stand still, 9n + 11 steps are enough, with n nodes
     /// in the bucket of the key.
     ///
-    /// Where it was there, its node has left its list, unless the budget ended first: then the next insert or remove that
-    /// passes the node takes it out.
+    /// If it was there, its node has left its list, unless the budget ended first: then the next insert or remove that passes
+    /// the node takes it out.
     ///
     /// ```
     /// # use vbr::{Set, Shape};
@@ -136,7 +137,7 @@ impl<K: Bits> PassOf<Keys<K>> {
     ///
     /// # Errors
     ///
-    /// [`OutOfSteps`]. No call was made then.
+    /// The same as for [`Pass::remove`].
     #[inline]
     pub fn remove_within(&mut self, key: K, steps: Steps) -> Result<bool, OutOfSteps> {
         let key = key.to_bits();
@@ -164,9 +165,9 @@ impl<K: Bits> PassOf<Keys<K>> {
     /// Goes over all keys while other threads make calls, as [`PassOf::iter`] does, takes out those for which `keep` says no, and
     /// returns how many it took out. Each call that it takes has the budget of the handle.
     ///
-    /// `keep` is asked of each key once, and the key is taken out after that, whoever inserted it: so one that another thread took
-    /// out and inserted anew in between goes too. Where that matters, walk by [`PassOf::next_at`], and take keys
-    /// out by [`PassOf::remove_entry`].
+    /// `keep` is asked of each key once, and the key is taken out after that, whoever inserted it: so one that another thread
+    /// took out and inserted anew in between goes too. If that matters, walk by [`PassOf::next_at`], and take keys out by
+    /// [`PassOf::remove_entry`].
     ///
     /// ```
     /// # use vbr::{Set, Shape};
@@ -178,7 +179,7 @@ impl<K: Bits> PassOf<Keys<K>> {
     ///
     /// # Errors
     ///
-    /// [`OutOfSteps`], as of [`PassOf::iter`] or of a remove. What was taken out before stays out.
+    /// [`OutOfSteps`], as for [`PassOf::iter`] or a remove. What was taken out before stays out.
     pub fn retain(&mut self, mut keep: impl FnMut(K) -> bool) -> Result<u64, OutOfSteps> {
         let (mut cursor, mut count) = (Cursor::first(), 0);
         while let Some(key) = self.walk_on(&mut cursor, self.steps())? {
@@ -190,7 +191,7 @@ impl<K: Bits> PassOf<Keys<K>> {
     }
 }
 
-/// What a set held when it was closed, or was reported. It goes over its keys where a loop takes it.
+/// What a set held when it was closed, or was reported. A loop over it goes over its keys.
 ///
 /// ```
 /// # use vbr::{Set, Shape};

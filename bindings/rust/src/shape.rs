@@ -1,6 +1,6 @@
 //! How large a set or a map is.
 use crate::library::vbr_random_seed;
-use crate::{max_epoch, Steps, MAX_BUCKETS, MAX_EPOCH, MAX_HANDLES, MAX_SLOTS};
+use crate::{max_epoch, Steps, MAX_BUCKETS, MAX_EPOCH, MAX_MANY_HANDLES, MAX_SLOTS};
 use core::error::Error;
 use core::fmt;
 
@@ -12,20 +12,20 @@ use core::fmt;
 /// Open with a slot for each key that is in the set at one time, and 64 for each handle. Each slot is in one place: in the
 /// pool that all handles share, with one handle, under a key, or in a removed node that is still in its list. A handle keeps
 /// slots to itself, at most 64 between two calls: those of the nodes that its calls took out of their lists, mostly of keys
-/// that it removed. It gives them back when it is closed or dropped, or by `spare`. A remove that is answered yes has taken
+/// that it removed. It gives them back when it is closed or dropped, or by `give_slots_back`. A remove that is answered yes has taken
 /// its node out of its list, unless its budget ended first, as [`Steps::AMPLE`] hardly ever does in short buckets. What is
 /// left in a list comes back with the next insert or remove that passes it, in the same bucket, or with a renewal.
 ///
-/// Where no other handle makes a step during an insert, and each stands between two calls, [`Refusal::NoSlot`] comes
-/// only if the keys, the removed nodes that are still in lists, and 64 for each other handle are no fewer than the
-/// slots. Of an insert that calls of others overlap that isn't proved.
+/// If no other handle makes a step during an insert, and each stands between two calls, [`Refusal::NoSlot`] comes only if the
+/// keys, the removed nodes that are still in lists, and 64 for each other handle are no fewer than the slots. Of an insert
+/// that calls of others overlap that isn't proved.
 ///
-/// Keys are spread over the buckets by a multiplication, so keys with a pattern (in sequence, multiples of
-/// a page, pointers) do no harm, and by a seed, so that nobody can choose keys which fall into one bucket: each opening
-/// draws one from the system, unless the shape has one ([`Shape::with_seed`]). A renewal keeps the seed of its set, unless its
-/// shape has one. While a drawn seed is secret, any two keys share a bucket with a probability of at most 2 / buckets, where
-/// these are a power of two. The order in which a walk gives keys, how many steps a call needs, and how long it takes tell
-/// of the seed, so keep them from those who choose keys.
+/// Keys are spread over the buckets by a multiplication, so keys with a pattern (in sequence, multiples of a page, pointers)
+/// do no harm, and by a seed, so that nobody can choose keys which fall into one bucket: each opening draws one from the
+/// system, unless the shape has one ([`Shape::with_seed`]). A renewal keeps the seed of its set, unless its shape has one.
+/// While a drawn seed is secret, any two keys share a bucket with a probability of at most 2 / buckets, if these are a power
+/// of two. The order in which a walk gives keys, how many steps a call needs, and how long it takes tell of the seed, so keep
+/// them from those who choose keys.
 ///
 /// Keys that are there at the start are best given to [`Set::open_with`], which lays them all in one go; by inserts a
 /// million took three times as long.
@@ -49,9 +49,9 @@ pub struct Shape {
     pub slots: u32,
     /// From 1 to [`MAX_BUCKETS`].
     pub buckets: u32,
-    /// From 1 to what [`max_epoch`] gives for so many slots, or [`MAX_EPOCH`], which means the same where that is less.
+    /// From 1 to what [`max_epoch`] gives for so many slots, or [`MAX_EPOCH`], which means the same if that is less.
     pub last_epoch: u64,
-    /// How many handles an opening gives or lends, from 1 to [`MAX_HANDLES`].
+    /// How many handles an opening gives or lends, from 1 to [`MAX_MANY_HANDLES`].
     pub handles: usize,
     /// What keys are spread by, any number; with `None` an opening draws it, and a renewal keeps that of its set.
     pub seed: Option<u64>,
@@ -80,7 +80,7 @@ impl Shape {
     /// ```
     #[allow(clippy::cast_possible_truncation, reason = "it is no more than the most handles")]
     pub const fn for_keys(keys: u32, handles: usize) -> Shape {
-        let own = 64 * if handles < MAX_HANDLES { handles } else { MAX_HANDLES } as u32;
+        let own = 64 * if handles < MAX_MANY_HANDLES { handles } else { MAX_MANY_HANDLES } as u32;
         let slots = match keys.saturating_add(own) {
             more if keys <= MAX_SLOTS && more > MAX_SLOTS => MAX_SLOTS,
             slots => slots,
@@ -154,7 +154,7 @@ impl Shape {
     /// That number.
     pub const fn check(self) -> Result<(), ShapeError> {
         match (self.check_numbers(), self.handles) {
-            (Ok(()), 1..=MAX_HANDLES) => Ok(()),
+            (Ok(()), 1..=MAX_MANY_HANDLES) => Ok(()),
             (Ok(()), handles) => Err(ShapeError::Handles(handles)),
             (error, _) => error,
         }
@@ -183,9 +183,9 @@ impl Shape {
     }
 }
 
-/// A seed that the system draws at random, as an opening has it whose shape has none: by `getrandom`, and without waiting. Where
-/// the system has no random number yet, shortly after it was started, or refuses the call, the seed is made of the time and an
-/// address of the stack: it differs from one to the next, and somebody outside may guess it.
+/// A seed that the system draws at random, as an opening has it whose shape has none: by `getrandom`, and without waiting. If
+/// the system has no random number yet, shortly after it was started, or refuses the call, the seed is made of the time and
+/// an address of the stack: it differs from one to the next, and somebody outside may guess it.
 ///
 /// ```
 /// assert_ne!(vbr::random_seed(), vbr::random_seed());
@@ -210,9 +210,9 @@ pub enum ShapeError {
     Slots(u32),
     /// The number of buckets is not from 1 to [`MAX_BUCKETS`].
     Buckets(u32),
-    /// The last epoch is 0, or greater than so many slots leave room for, as [`max_epoch`] tells, and isn't [`MAX_EPOCH`].
+    /// The last epoch is 0, or greater than so many slots leave room for, as [`max_epoch`] says, and isn't [`MAX_EPOCH`].
     LastEpoch(u64),
-    /// The number of handles is not from 1 to [`MAX_HANDLES`].
+    /// The number of handles is not from 1 to [`MAX_MANY_HANDLES`].
     Handles(usize),
 }
 
@@ -224,7 +224,7 @@ impl fmt::Display for ShapeError {
             ShapeError::LastEpoch(epoch) => {
                 write!(f, "the last epoch {epoch} is not from 1 to the greatest of so many slots")
             }
-            ShapeError::Handles(handles) => write!(f, "{handles} handles are not from 1 to {MAX_HANDLES}"),
+            ShapeError::Handles(handles) => write!(f, "{handles} handles are not from 1 to {MAX_MANY_HANDLES}"),
         }
     }
 }

@@ -3,8 +3,8 @@
 /// A budget: the most steps that a call may make, each one atomic operation on one word that threads share.
 ///
 /// A handle has one for all its calls, [`Steps::AMPLE`] unless its shape ([`Shape::with_steps`](crate::Shape::with_steps)) or
-/// [`HandleOf::set_steps`](crate::HandleOf::set_steps) gave it another. Each call has a form beside it, with `_within` in its name,
-/// that takes a budget for itself.
+/// [`HandleOf::set_steps`](crate::HandleOf::set_steps) gave it another. Most calls have a form beside them, with `_within` in its
+/// name, that takes a budget for itself. What makes several calls, as `fetch_update` and `retain` do, has the budget for each of them.
 ///
 /// ```
 /// use vbr::{Refusal, Set, Shape, Steps};
@@ -22,7 +22,7 @@
 pub struct Steps(u32);
 
 impl Steps {
-    /// So many that in short buckets a call runs out of them only where others disturb it more than a hundred times: 400,000.
+    /// So many that in short buckets a call runs out of them only if others disturb it more than a hundred times: 400,000.
     /// They give a call that may take a slot a step more for each 64 slots above 16,777,216.
     ///
     /// ```
@@ -56,7 +56,7 @@ impl Steps {
     /// ```
     /// use vbr::{Pass, Refusal, Steps};
     ///
-    /// /// Adds a page, with few steps at first, and with more only where these are too few.
+    /// /// Adds a page, with few steps at first, and with more only if these are too few.
     /// fn visit(pass: &mut Pass, page: u64) -> Result<bool, Refusal> {
     ///     let mut steps = Steps::new(64);
     ///     loop {

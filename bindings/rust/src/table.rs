@@ -10,7 +10,7 @@ use std::time::{Duration, Instant};
 /// [`Map`](crate::Map). It is used through its handles: [`Table::open`] keeps them and lends them, to threads that come and go or
 /// are more than handles, and [`Table::handles`] gives them, one for each thread to own.
 ///
-/// What is said here of a set and its keys is so of a map and its entries.
+/// What is said here of a set and its keys holds for a map and its entries too.
 ///
 /// ```
 /// # use vbr::{Set, Shape};
@@ -46,7 +46,7 @@ impl<T: Kind> Table<T> {
     ///
     /// # Panics
     ///
-    /// Where the library that the program was linked with isn't of the crate's version; so of each opening.
+    /// If the linked library has another version than the crate. Every opening checks this.
     pub fn open(shape: Shape) -> Result<Table<T>, OpenError> {
         Table::open_with(shape, &[])
     }
@@ -97,15 +97,15 @@ impl<T: Kind> Table<T> {
     ///
     /// # Errors
     ///
-    /// Those of [`Table::open`].
+    /// The same as for [`Table::open`].
     pub fn handles(shape: Shape) -> Result<Vec<HandleOf<T>>, OpenError> {
         HandleOf::open(shape, &[])
     }
 
     /// Opens a set of these keys, as [`Table::open_with`] does, and gives its handles.
     ///
-    /// So a set is renewed where memory is too short for two: its handles are closed, and a set is opened with the keys of the
-    /// report. Else [`HandleOf::renew_all`] does it.
+    /// If memory is too short for two sets, renew one so: close its handles, and open a set with the keys of the report. Else
+    /// [`HandleOf::renew_all`] does it.
     ///
     /// ```
     /// use vbr::{Refusal, Set, Shape};
@@ -139,7 +139,7 @@ impl<T: Kind> Table<T> {
     ///
     /// # Errors
     ///
-    /// Those of [`Table::open_with`].
+    /// The same as for [`Table::open_with`].
     pub fn handles_with(shape: Shape, items: &[T::Item]) -> Result<Vec<HandleOf<T>>, OpenError> {
         HandleOf::open(shape, items)
     }
@@ -188,11 +188,11 @@ impl<T: Kind> Table<T> {
         self.lender.count()
     }
 
-    /// A free handle, or `None` where each was lent at a moment of the call, or the set is being renewed. It tries each handle at
-    /// most once, takes no lock and no memory, and never waits: [`Table::lend_wait`] does.
+    /// Lends a free handle, or returns `None` if each was lent at some moment of the call, or the set is being renewed. It
+    /// tries each handle at most once, takes no lock and no memory, and never waits: [`Table::lend_wait`] does.
     ///
-    /// A thread is lent the handle that it had last, where that is free: a loan and its return are then one atomic exchange on
-    /// a word that other threads don't write. Keep no loan while the thread waits for something else.
+    /// A thread gets the handle that it had last, if that is free: a loan and its return are then one atomic exchange on a
+    /// word that other threads don't write. Keep no loan while the thread waits for something else.
     ///
     /// ```
     /// # use vbr::{Map, Shape};
@@ -209,8 +209,10 @@ impl<T: Kind> Table<T> {
         self.lender.take().map(|number| LentBy::of(self, number))
     }
 
-    /// A free handle, as soon as there is one: where each is lent, the thread sleeps until one is given back. Who has a loan
-    /// itself may wait for ever. Threads that wait have no order: a thread that comes later may be lent a handle before.
+    /// Lends a free handle as soon as there is one: if each is lent, the thread sleeps until one is given back. A thread that
+    /// has a loan itself may wait for ever, and a loan without a name lasts to the end of its statement: in
+    /// `match set.lend_wait().has(5)? { .. }` lend none in an arm. Calls of the set itself ([`Table::has`], [`Table::call`])
+    /// leave no loan behind. Threads that wait have no order: a thread that comes later may be lent a handle before.
     ///
     /// ```
     /// # use vbr::{Set, Shape};
@@ -229,7 +231,7 @@ impl<T: Kind> Table<T> {
         LentBy::of(self, self.number_awaited())
     }
 
-    /// A free handle, as [`Table::lend_wait`] gives it, or `None` where each was lent until the time was over.
+    /// Lends a free handle, as [`Table::lend_wait`] does, or returns `None` if each was lent until the time was over.
     ///
     /// ```
     /// # use std::time::Duration;
@@ -299,15 +301,15 @@ impl<T: Kind> Table<T> {
         self.number_within(limit).map(|number| LentBy::of(Arc::clone(self), number))
     }
 
-    /// Lets the handles go on over a fresh set of this shape, with the keys that were in it, or a map with the entries: at epoch 1,
-    /// and larger where there are to be more of them. No handle is lent meanwhile, and it waits until all loans are back: so a
-    /// thread that has one itself waits for ever (a loan of the same statement is one), and so does one that comes after a loan was
-    /// forgotten. Who waits for a handle waits on. The fresh set is opened before the other one is given up, so it takes the memory of
-    /// both and of a report. It has the seed of the shape, and where that has none, the seed of the set as it was; so it is of the
-    /// handles' budgets. How many handles the shape is for isn't asked.
+    /// Lets the handles go on over a fresh set of this shape, with the keys that were in it, or a map with the entries: at
+    /// epoch 1, and larger if you want more of them. No handle is lent meanwhile, and it waits until all loans are back: so a
+    /// thread that has one itself waits for ever (a loan of the same statement is one), and so does one that comes after a
+    /// loan was forgotten. Threads that wait for a handle keep waiting. The fresh set is opened before the old one is given
+    /// up, so it takes the memory of both and of a report. It has the seed of the shape, or if the shape has none, the seed
+    /// of the old set; likewise the handles' budgets. The shape's handle count is ignored.
     ///
-    /// Where another thread renews to the same shape while this one waits, one renewal serves both: so each thread may ask for one
-    /// that is refused by [`Refusal::EpochSpent`](crate::Refusal::EpochSpent), once it has dropped its loan.
+    /// If another thread renews to the same shape while this one waits, one renewal serves both: so each thread may ask for
+    /// one that is refused by [`Refusal::EpochSpent`](crate::Refusal::EpochSpent), once it has dropped its loan.
     ///
     /// ```
     /// # use vbr::{Refusal, Set, Shape};
@@ -327,7 +329,7 @@ impl<T: Kind> Table<T> {
         self.lender.renew(shape, None, None)
     }
 
-    /// As [`Table::renew`], or [`RenewError::Lent`] where not all loans were back until the time was over.
+    /// As [`Table::renew`], or [`RenewError::Lent`] if not all loans were back when the time was over.
     ///
     /// ```
     /// # use std::time::Duration;
@@ -343,7 +345,7 @@ impl<T: Kind> Table<T> {
     ///
     /// # Errors
     ///
-    /// Those of [`Table::renew`], and [`RenewError::Lent`]. The set is as it was then, and lends its handles again.
+    /// The same as for [`Table::renew`], and [`RenewError::Lent`]. The set is as it was then, and lends its handles again.
     pub fn renew_timeout(&self, shape: Shape, limit: Duration) -> Result<(), RenewError> {
         self.lender.renew(shape, Instant::now().checked_add(limit), None)
     }
@@ -360,7 +362,8 @@ impl<T: Kind> Table<T> {
     ///
     /// # Errors
     ///
-    /// [`CloseError::Memory`], with the set as it was, which lends all its handles again; and [`CloseError::Lost`].
+    /// [`CloseError::Memory`], with the set as it was, which lends all its handles, those of loans that were forgotten too; and
+    /// [`CloseError::Lost`].
     pub fn close(mut self) -> Result<T::Report, CloseError<Table<T>>> {
         self.lender.close().map_err(|why| match why {
             Unreported::Memory => CloseError::Memory(Unclosed(self)),

@@ -5,8 +5,9 @@ use std::sync::atomic::{compiler_fence, AtomicUsize, Ordering};
 use std::sync::{Condvar, Mutex, MutexGuard, OnceLock, PoisonError};
 use std::time::{Duration, Instant};
 
-/// The threads that wait. Who gives something back makes no atomic exchange for them: it stores what it gives back, and then
-/// loads how many wait. So that one of the two sees the other, who begins to wait has all threads pass a memory barrier.
+/// The threads that wait. A thread that gives something back makes no atomic exchange for them: it stores what it gives back,
+/// and then loads how many wait. So that one of the two sees the other, who begins to wait has all threads pass a memory
+/// barrier.
 pub(crate) struct Waiters {
     count: AtomicUsize,
     /// Apart from what those read who don't wait.
@@ -20,7 +21,7 @@ struct Sleepers {
     given_back: Condvar,
 }
 
-/// How long a thread sleeps at most before it looks again, where the system has no such barrier.
+/// How long a thread sleeps at most before it looks again, if the system has no such barrier.
 const NAP: Duration = Duration::from_millis(1);
 
 impl Waiters {

@@ -2,7 +2,7 @@
 mod both;
 
 use both::{Both, Told};
-use vbr::{max_epoch, MAX_BUCKETS, MAX_EPOCH, MAX_HANDLES, MAX_SLOTS};
+use vbr::{max_epoch, MAX_BUCKETS, MAX_EPOCH, MAX_MANY_HANDLES, MAX_SLOTS};
 use vbr::{
     CloseError, Cursor, Entries, Handle, HandleOf, Iter, Keys, KeysError, Lent, Map, MapHandle, MapPass, MapReport, OpenError,
 };
@@ -40,7 +40,7 @@ fn spared_slots<K: Both>() {
     let mut handles = open();
     assert_eq!(K::insert_within(&mut handles[0], 5, Steps::new(enough - 1)), Err(Refusal::OutOfSteps));
     assert_eq!(K::insert(&mut handles[1], 6), Err(Refusal::NoSlot));
-    assert_eq!((handles[0].spare(), handles[0].spare()), (1, 0));
+    assert_eq!((handles[0].give_slots_back(), handles[0].give_slots_back()), (1, 0));
     assert_eq!(K::insert(&mut handles[1], 6), Ok(true));
     assert_eq!(K::insert(&mut handles[0], 5), Err(Refusal::NoSlot));
 }
@@ -49,7 +49,7 @@ fn spared_slots<K: Both>() {
 fn reserves_of_fresh_handles<K: Both>() {
     let kept = |slots: u32| {
         let handles = Table::<K>::handles(Shape::new(slots, 8, 10).with_handles(2)).expect("a set");
-        handles.into_iter().map(|mut handle| handle.spare()).collect::<Vec<u32>>()
+        handles.into_iter().map(|mut handle| handle.give_slots_back()).collect::<Vec<u32>>()
     };
     assert_eq!([kept(127), kept(128), kept(511), kept(512)], [[0, 0], [8, 8], [31, 31], [32, 32]]);
 }
@@ -103,7 +103,7 @@ fn openings<K: Both>() {
         assert_eq!(Table::<K>::handles(shape.with_handles(0)).unwrap_err(), OpenError::Shape(number));
         assert_eq!(Table::<K>::open(shape).unwrap_err().to_string(), number.to_string());
     }
-    for handles in [0, MAX_HANDLES + 1, usize::MAX] {
+    for handles in [0, MAX_MANY_HANDLES + 1, usize::MAX] {
         let error = OpenError::Shape(ShapeError::Handles(handles));
         assert_eq!(Table::<K>::handles(Shape::new(8, 1, 1).with_handles(handles)).unwrap_err(), error);
         assert_eq!(error.to_string(), format!("{handles} handles are not from 1 to 65536"));

@@ -26,11 +26,11 @@ fn a_slot_that_is_dropped_is_put_back() {
         assert_eq!(other.hold().err(), Some(Refusal::NoSlot));
         assert_eq!((held.slot(), held.has(5)), (0, Ok(false)));
         drop(held);
-        first[0].spare();
+        first[0].give_slots_back();
         let held = other.hold().expect("a slot");
         assert!(held.try_insert(5, 70).expect("steps").is_ok());
         assert_eq!(other.remove(5), Ok(Some(70)));
-        other.spare();
+        other.give_slots_back();
     }
 }
 

@@ -12,7 +12,7 @@ use std::os::fd::FromRawFd;
 use std::panic::{catch_unwind, AssertUnwindSafe};
 use std::sync::atomic::{AtomicBool, Ordering};
 use std::{mem, thread};
-use vbr::{max_epoch, Shape, ShapeError, SharedMap, Steps, MAX_BUCKETS, MAX_EPOCH, MAX_HANDLES};
+use vbr::{max_epoch, Shape, ShapeError, SharedMap, Steps, MAX_BUCKETS, MAX_EPOCH, MAX_MANY_HANDLES};
 use vbr::{Inherited, KeysError, OpenError, OutOfSteps, PassOf, Refusal, RenewError, SharedTable};
 
 extern "C" {
@@ -78,7 +78,7 @@ fn turn_of<K: Both, R>(set: &SharedTable<K>, number: usize, turn: impl FnOnce(&m
 /// How many keys from this one on a handle can insert until there is no slot.
 fn filled<K: Both>(set: &SharedTable<K>, from: u64) -> u32 {
     for other in 1..set.handle_count() {
-        turn_of(set, other, PassOf::spare);
+        turn_of(set, other, PassOf::give_slots_back);
     }
     turn_of(set, 0, |pass| {
         for key in from.. {
@@ -173,7 +173,7 @@ fn a_death_between_two_turns_and_one_within<K: Both>() {
         assert_eq!(end_of(child), End::Killed);
         // SAFETY: its process is dead.
         assert_eq!(unsafe { [set.inherit(1), set.inherit(1)] }, [left, Inherited::Whole]);
-        assert_eq!(turn_of(&set, 1, PassOf::spare), spared);
+        assert_eq!(turn_of(&set, 1, PassOf::give_slots_back), spared);
     }
     // the others find all slots but those that the dead one had, until a renewal
     let lost = shape.slots - 2 - filled(&set, 10);
@@ -289,7 +289,7 @@ fn refusals_in_their_order<K: Both>() {
         open(Shape::new(8, 8, max_epoch(8) + 1).with_handles(0), &wrong),
         Some(OpenError::Shape(ShapeError::LastEpoch(max_epoch(8) + 1)))
     );
-    for handles in [0, MAX_HANDLES + 1] {
+    for handles in [0, MAX_MANY_HANDLES + 1] {
         assert_eq!(open(Shape::for_keys(8, handles), &wrong), Some(OpenError::Shape(ShapeError::Handles(handles))));
     }
     assert_eq!(open(Shape::for_keys(8, 1), &wrong), Some(OpenError::Keys(KeysError::NotAscending { place: 2 })));

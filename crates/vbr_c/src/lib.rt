@@ -2,14 +2,14 @@
 //! Version Based Reclamation (Sheffi, Herlihy and Petrank 2021), as `vbr_set` has it. Each thread has a
 //! handle, which owns a pass of the set or the map and a share of it.
 //!
-//! The exports that are given a budget, as `vbr_insert_within`, have it as their last argument. In C each has a form that
-//! is given none, a line of the header: it makes the same call with the budget of the handle, which no export reads or
-//! writes.
+//! Exports that take a budget, such as `vbr_insert_within`, have it as their last argument. For each of
+//! them the header also has a form without it, which makes the same call with the budget of the handle.
+//! No export reads or writes that budget.
 //!
-//! No call asks anything of its caller but what the types say: a handle is moved and never copied,
-//! and one call at a time has it. Only those of all handles at once, as `vbr_close_all`, ask besides that
-//! the handles are of one set or map, and those of several keys that there is room for each answer.
-//! `bindings/include/vbr.h` is what a C programmer reads.
+//! No call asks anything of its caller but what the types say: a handle is moved and never copied, and
+//! one call at a time has it. Only calls on all handles at once, such as `vbr_close_all`, also ask that
+//! the handles are of one set or map, and calls on several keys that there is room for each answer.
+//! A C programmer reads `bindings/include/vbr.h`, which says what each call answers.
 //!
 //! ```c file=bindings/c/example.c
 //! /* handles, count, slots (keys, and 64 for each handle), buckets (as many as keys), last_epoch */
@@ -20,8 +20,8 @@
 //! vbr_answer last = vbr_close(&handle[1], keys, 8, &report);  /* VBR_YES: report.live is 1, keys[0] is 5 */
 //! ```
 //!
-//! A number below 0 is a refusal, after which no call was made. A step is one atomic operation on one
-//! word that threads share. What is proved of each call is said at the calls of `Member` in `vbr_set`.
+//! A negative number is a refusal, after which no call was made. A step is one atomic operation on one
+//! word that threads share. The calls of `Member` in `vbr_set` say what is proved of each call.
 #![tactic(auto)]
 
 ghost use Rattle.std.specs.Prelude.{◌≡◌, ◌+◌, ◌*◌};
@@ -36,11 +36,7 @@ pub use vbr_handles::{Entry, Found, Incarnation, ReportNumbers};
 // 0.3.0
 const VERSION: u32 = 3_000;
 
-/// The version of the library: major * 1000000 + minor * 1000 + patch.
-///
-/// ```c file=bindings/c/answers.c
-/// CHECK(vbr_version() == VBR_VERSION);
-/// ```
+/// Returns the version of the library: `vbr_version` of vbr.h, which has the rest.
 #[unsafe(no_mangle)]
 pub extern "C" fn vbr_version() -> u32
     ensures { result ≡ 0 * 1000000 + 3 * 1000 + 0 }

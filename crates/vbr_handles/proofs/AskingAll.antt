@@ -19,7 +19,9 @@ use Rattle.vbr_set.specs.reports.EntrySlots.{ClosesWithSlots, HasEntry}
 use Rattle.vbr_set.specs.renewals.RenewingAll.{AreNotAll}
 use Rattle.vbr_set.specs.declared.report_with_slots.ReportWithSlots.{ReportWithSlots}
 use Rattle.vbr_handles.specs.AllHandles.{AreFull, ReportsAllOf, StaySo, joined, members_by}
-use Rattle.vbr_handles.specs.AskingAll.{AsksAllOf, Lack, RenewsWithReserves}
+use Rattle.vbr_handles.specs.EachOnce.{HasTwice}
+use Rattle.vbr_handles.specs.AskingAll.{AnswersQuestion, AsksAllOf, Lack, RenewsWithReserves}
+use Rattle.vbr_handles.specs.declared.asking_all.Answer.{Answer}
 use Rattle.vbr_handles.specs.declared.asking_all.Answer.TheVariants as answering
 use Rattle.vbr_handles.specs.declared.asking_all.Question.{Question}
 use Rattle.vbr_handles.specs.declared.asking_all.Question.TheVariants as question
@@ -236,19 +238,41 @@ module _ {H : Type 0} (member : H → Option Member) where
       map member after ≡ map Some came → StaySo member before after
   stays before after came full same put = put ∙ ap (map Some) same ∙ all_members before full
 
+  -- so they were asked where their members came back for them; each test on the way left the handles as they were
+  pub asked_all : {Item R : Type 0} (kind : KindOf Item R) (asked : Question)
+      (before full few beside once after : List H) (members came : List Member) (answer : Answer R) →
+      AreFull member before → full ≡ before → few ≡ full → beside ≡ few → once ≡ beside →
+      ¬ (Lack asked (members_by member full)) → ¬ (HasTwice (members_by member beside)) →
+      members ≡ members_by member once →
+      AnswersQuestion kind asked members came answer → map member after ≡ map Some came →
+      AsksAllOf kind member asked before after (Ok answer)
+  asked_all kind asked before full few beside once after members came answer is_full same same' same'' same''' lack
+      twice are tells put = (
+        is_full,
+        record {
+          enough = subst (λ (hs : List H). ¬ (Lack asked (members_by member hs))) same lack;
+          once = subst (λ (hs : List H). ¬ (HasTwice (members_by member hs))) (same'' ∙ same' ∙ same) twice;
+          came = came;
+          tells = subst (λ (ms : List Member). AnswersQuestion kind asked ms came answer)
+              (are ∙ ap (members_by member) (same''' ∙ same'' ∙ same' ∙ same)) tells;
+          full = put;
+        },
+      )
+
   -- where there is no memory to ask, the balances may tell that there is no room
   pub tells_no_room : {Item R : Type 0} (kind : KindOf Item R) (asked : Question) (shape : Dimensions)
       (before after : List H) → asked ≡ question.Renew shape → AreFull member before →
-      ¬ (Lack asked (members_by member before)) → after ≡ before
+      ¬ (Lack asked (members_by member before)) → ¬ (HasTwice (members_by member before)) → after ≡ before
       → pos shape.slots <ℤ added_balances (members_by member before) →
       AsksAllOf kind member asked before after (Ok answering.Room)
-  tells_no_room kind asked shape before after is full lack same above =
+  tells_no_room kind asked shape before after is full lack once same above =
       let enough : ¬ (Lack (question.Renew shape) (members_by member before)) =
       subst (λ (q : Question). ¬ (Lack q (members_by member before))) is lack in
       subst (λ (q : Question). AsksAllOf kind member q before after (Ok answering.Room)) (sym is) (
         full,
         record {
           enough = enough;
+          once = once;
           came = members_by member before;
           tells = (refl, inr above);
           full = ap (map member) same ∙ sym (all_members before full);

@@ -5,6 +5,7 @@ mod Recast
 mod Opened
 mod AllHandles
 mod AskingAll
+mod EachOnce
 mod HandleBalances
 mod EntryKeys
 mod InTurn

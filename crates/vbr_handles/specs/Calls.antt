@@ -1,4 +1,4 @@
--- What a call through a handle tells.
+-- What a call through a handle answers.
 use Rattle.std.specs.Prelude.{◌≡◌, ℕ, ℤ, Bool, Option, None, Some, Result}
 use Rattle.vbr_machine.specs.declared.history.Op.{Op}
 use Rattle.vbr_machine.specs.declared.history.Op.TheVariants.{Insert}
@@ -10,7 +10,7 @@ use Rattle.vbr_set.specs.calls.Members.{MemberView as Member}
 use Rattle.vbr_handles.specs.Codes.{call_code, empty_code, held_code}
 use Rattle.vbr_handles.specs.ToppingUp.{CallsBySteps, has_added}
 
--- of a call that would take a slot: the one where a slot is held, and else the other
+-- for a call that would take a slot: the one if a slot is held, otherwise the other
 abbrev pub UnlessHeld : Option Aside → Type 0 → Type 0 → Type 0
 UnlessHeld None told else_told = else_told
 UnlessHeld (Some aside) told else_told = told
@@ -20,7 +20,7 @@ abbrev pub RefusesHeld : Member → Member → ℤ → Type 0
 RefusesHeld m n code = (n ≡ m) × (code ≡ held_code)
 
 module _ (Calls : Member → Member → Result Bool Refusal → Type 0) where
-  -- the member made the call, the code is that of the answer, and a slot that it holds it holds still
+  -- the member made the call, the code is the code of the answer, and a slot that it holds it still holds
   pub record TellsAnswer (m n : Member) (code : ℤ) : Type 0 where
     pub answer : Result Bool Refusal
     pub is : code ≡ call_code answer
@@ -34,21 +34,21 @@ module _ (Calls : Member → Member → Result Bool Refusal → Type 0) where
   TellsBy (Some m) None code = ⊥
   TellsBy (Some m) (Some n) code = TellsAnswer m n code
 
-  -- so it is of a call that would take a slot, unless the member holds one
+  -- the same for a call that would take a slot, unless the member holds one
   abbrev pub TellsUnlessHeld : Option Member → Option Member → ℤ → Type 0
   TellsUnlessHeld None None code = code ≡ empty_code
   TellsUnlessHeld None (Some n) code = ⊥
   TellsUnlessHeld (Some m) None code = ⊥
   TellsUnlessHeld (Some m) (Some n) code = UnlessHeld m.aside (RefusesHeld m n code) (TellsAnswer m n code)
 
--- so it is of a remove of a set, and of a look-up of either
+-- the same for a remove of a set, and for a look-up of either
 abbrev pub TellsCall : Op → Option Member → Option Member → ℕ → ℕ → ℤ → Type 0
 TellsCall op m n key budget code = TellsBy (λ m n answer. Called op m n key budget answer) m n code
 
--- of an insert of a key, which is refused while a slot is held, and after which a full handle keeps its reserve
+-- for an insert of a key, which is refused while a slot is held, and after which a full handle tops its reserve up
 abbrev pub TellsInsert : Option Member → Option Member → ℕ → ℕ → ℤ → Type 0
 TellsInsert m n key steps code = TellsUnlessHeld (CallsBySteps (λ budget m n answer. Called Insert m n key budget answer) has_added steps) m n code
 
--- and of one of an entry
+-- and for an insert of an entry
 abbrev pub TellsInsertEntry : Option Member → Option Member → ℕ → ℕ → ℕ → ℤ → Type 0
 TellsInsertEntry m n key value steps code = TellsUnlessHeld (CallsBySteps (λ budget m n answer. InsertsEntry m n key value budget answer) has_added steps) m n code

@@ -9,8 +9,8 @@ use Rattle.vbr_handles.specs.declared.closing.CloseRefusal.TheVariants.{Empty, L
 
 module _ {R I : Type 0} (tells : TableView → List PassView → R → Type 0) (L : Listing R I) where
   -- what a close leaves of a handle, by its answer
-  -- An empty handle stays so, and that is returned. A full one becomes empty, but where there is no memory, or its report has more keys than there is room for; then it is as it was.
-  -- A report tells the end of its set with all passes that were opened, its own among them.
+  -- An empty handle stays so, and that is returned. A full one becomes empty, unless there is no memory, or its report has more keys than there is room for; then it is as it was.
+  -- A report describes the end of its set with all passes that were opened, its own among them.
   -- The handle of a set that was opened for one is the last, and no pass of it is lost.
   abbrev pub ClosesAs : Option Member → Option Member → ℕ → Result (Option R) (CloseRefusal R) → Type 0
   ClosesAs None after room answer = (after ≡ None) × (answer ≡ Err Empty)

@@ -1,4 +1,4 @@
--- The number of each answer: 1 is yes, 0 is no or done, and each refusal has a number below 0.
+-- The number of each answer: 1 is yes, 0 is no or done, and refusals are negative.
 use Rattle.std.specs.Prelude.{ℕ, ◌==◌, if◌then◌else◌, ℤ, pos, negsuc, Bool, true, false, Option, None, Some, Result, Ok, Err}
 use Rattle.vbr_at_table.specs.declared.refusal.Refusal.{Refusal}
 use Rattle.vbr_at_table.specs.declared.refusal.Refusal.TheVariants.{OutOfSteps, NoSlot, EpochSpent}
@@ -15,7 +15,7 @@ use Rattle.vbr_handles.specs.declared.opening.OpenRefusal.TheVariants as opening
 use Rattle.vbr_handles.specs.declared.renewing_all.RenewAllRefusal.{RenewAllRefusal}
 use Rattle.vbr_handles.specs.declared.renewing_all.RenewAllRefusal.TheVariants as renewing
 
--- of a call: 1 yes, 0 no, -1 out of steps, -2 no slot, -3 the epoch is spent
+-- for a call: 1 yes, 0 no, -1 out of steps, -2 no slot, -3 the epoch is spent
 abbrev pub call_code : Result Bool Refusal → ℤ
 call_code (Ok true) = pos 1
 call_code (Ok false) = pos 0
@@ -23,32 +23,32 @@ call_code (Err (OutOfSteps used)) = negsuc 0
 call_code (Err NoSlot) = negsuc 1
 call_code (Err (EpochSpent epoch)) = negsuc 2
 
--- of a call that goes by the value that is expected: 1 it was there, 2 another was there, 0 the key was absent; and its refusals are those of a call
+-- for a call that goes by the expected value: 1 it was there, 2 another was there, 0 the key was absent; its refusals are the same as for a call
 abbrev pub exchange_code : ℕ → Result (Option ℕ) Refusal → ℤ
-exchange_code expected (Ok (Some found)) = if found == expected then pos 1 else pos 2
+exchange_code expected (Ok (Some there)) = if there == expected then pos 1 else pos 2
 exchange_code expected (Ok None) = pos 0
 exchange_code expected (Err refusal) = call_code (Err refusal)
 
--- of an empty handle: -4
+-- for an empty handle: -4
 abbrev pub empty_code : ℤ
 empty_code = negsuc 3
 
--- of a slot in hand: -14 one is held and the call would take another, or none is and the call asks for one
+-- for a slot in hand: -14 one is held and the call would take another, or none is and the call asks for one
 abbrev pub held_code : ℤ
 held_code = negsuc 13
 
--- of a hold: 1 a slot is held; else one was held before, or the refusal is that of a call
+-- for a hold: 1 a slot is held; otherwise one was held before, or it is the refusal of a call
 abbrev pub hold_code : Result ℕ HoldRefusal → ℤ
 hold_code (Ok slot) = pos 1
 hold_code (Err holding.Held) = held_code
 hold_code (Err (holding.Refused refusal)) = call_code (Err refusal)
 
--- of letting go, by whether a slot was held: 1 put back; else none was held
+-- for letting go, by whether a slot was held: 1 put back; otherwise none was held
 abbrev pub let_go_code : Bool → ℤ
 let_go_code true = pos 1
 let_go_code false = held_code
 
--- of a call by a slot that is held: 1 yes, 0 no, -1 out of steps; else none is held, or the own pool is full
+-- for a call by a held slot: 1 yes, 0 no, -1 out of steps; otherwise none is held, or the own pool is full
 abbrev pub held_call_code : Result Bool HeldRefusal → ℤ
 held_call_code (Ok true) = pos 1
 held_call_code (Ok false) = pos 0
@@ -56,7 +56,7 @@ held_call_code (Err (held.OutOfSteps used)) = negsuc 0
 held_call_code (Err held.NotHeld) = held_code
 held_call_code (Err held.Full) = held_code
 
--- of an opening: 0 done, -5 a handle is in use, -6 a bad shape, -7 a bad count, -8 no memory, -10 bad keys
+-- for an opening: 0 done, -5 a handle is in use, -6 a bad shape, -7 a bad count, -8 no memory, -10 bad keys
 abbrev pub open_code : Result (Unit {0}) OpenRefusal → ℤ
 open_code (Ok done) = pos 0
 open_code (Err opening.InUse) = negsuc 4
@@ -65,7 +65,7 @@ open_code (Err opening.Passes) = negsuc 6
 open_code (Err opening.Memory) = negsuc 7
 open_code (Err opening.Keys) = negsuc 9
 
--- of a close: 0 given back, 1 ended, -4 empty, -8 no memory, -9 a pass was lost, -11 no room
+-- for a close: 0 given back, 1 ended, -4 empty, -8 no memory, -9 a pass was lost, -11 no room
 abbrev pub close_code : {R : Type 0} → Result (Option R) (CloseRefusal R) → ℤ
 close_code (Ok None) = pos 0
 close_code (Ok (Some report)) = pos 1
@@ -74,7 +74,7 @@ close_code (Err closing.Memory) = negsuc 7
 close_code (Err closing.Lost) = negsuc 8
 close_code (Err (closing.Room report)) = negsuc 10
 
--- of a report or a close by all: 1 returned, -4 one is empty, -8 no memory, -11 no room, -12 some are missing, -13 they are of several sets
+-- for a report or a close by all: 1 returned, -4 one is empty, -8 no memory, -11 no room, -12 some are missing, -13 they are of several sets
 abbrev pub close_all_code : {R : Type 0} → Result R (CloseAllRefusal R) → ℤ
 close_all_code (Ok report) = pos 1
 close_all_code (Err closing_all.Empty) = negsuc 3
@@ -83,7 +83,7 @@ close_all_code (Err (closing_all.Room report)) = negsuc 10
 close_all_code (Err closing_all.Missing) = negsuc 11
 close_all_code (Err closing_all.Mixed) = negsuc 12
 
--- of a renewal of all: 0 done, -4 one is empty, -6 a bad shape, -8 no memory, -11 fewer slots than keys, -12 some are missing, -13 they are of several sets
+-- for a renewal of all: 0 done, -4 one is empty, -6 a bad shape, -8 no memory, -11 fewer slots than keys, -12 some are missing, -13 they are of several sets
 abbrev pub renew_all_code : Result (Unit {0}) RenewAllRefusal → ℤ
 renew_all_code (Ok done) = pos 0
 renew_all_code (Err renewing.Empty) = negsuc 3

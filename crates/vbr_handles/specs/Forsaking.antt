@@ -1,9 +1,9 @@
--- What is left of a handle that gives the slots of its pass up.
+-- What is left of a handle that gives up the slots of its pass.
 use Rattle.std.specs.Prelude.{◌≡◌, Option, None, Some}
 use Rattle.vbr_slots.specs.pools.Forsaking.{Forsakes}
 use Rattle.vbr_set.specs.calls.Members.{MemberView as Member}
 
--- an empty handle stays so, and the pass of a full one gave its slots up
+-- an empty handle stays so, and the pass of a full one gave up its slots
 abbrev pub HasForsaken : Option Member → Option Member → Type 0
 HasForsaken None None = Unit {0}
 HasForsaken None (Some n) = ⊥

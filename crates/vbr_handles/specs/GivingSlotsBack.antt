@@ -1,4 +1,4 @@
--- What a handle tells that gives the slots of its pass back, and one that is closed.
+-- What a handle answers that gives the slots of its pass back, and one that is closed.
 use Rattle.std.specs.Prelude.{◌≡◌, ℕ, ℤ, List, Option, None, Some}
 use Rattle.vbr_slots.specs.views.Views.{PassView, TableView}
 use Rattle.vbr_at_table.specs.pools.GivingSlotsBack.{GivesSlotsBack}
@@ -10,7 +10,7 @@ use Rattle.vbr_handles.specs.Reports.{TellsCloseBy}
 use Rattle.vbr_handles.specs.declared.entry.Entry.{Entry}
 use Rattle.vbr_handles.specs.declared.report_numbers.ReportNumbers.{ReportNumbers}
 
--- so many slots were given back: none of an empty handle, which stays so, and those of the pass of a full one
+-- so many slots were given back: none by an empty handle, which stays so, and by a full one those of its pass
 abbrev pub TellsGivenBack : Option Member → Option Member → ℕ → Type 0
 TellsGivenBack None None count = count ≡ 0
 TellsGivenBack None (Some n) count = ⊥
@@ -28,10 +28,10 @@ module _ {R I : Type 0} (L : Listing R I) (tells : TableView → List PassView �
     pub gives : TellsGivenBack first between count
     pub closes : TellsCloseBy L tells between after items written was told code
 
--- so it is of a set, whose report lists keys
+-- the same for a set, whose report lists keys
 abbrev pub ClosesHandle : Option Member → Option Member → List ℕ → List ℕ → ReportNumbers → ReportNumbers → ℤ → Type 0
 ClosesHandle = ClosesWithoutSlots as_keys Closes
 
--- and of a map, whose report lists entries
+-- and for a map, whose report lists entries
 abbrev pub ClosesMapHandle : Option Member → Option Member → List Entry → List Entry → ReportNumbers → ReportNumbers → ℤ → Type 0
 ClosesMapHandle = ClosesWithoutSlots as_entries MapCloses

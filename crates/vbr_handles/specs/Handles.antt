@@ -22,7 +22,7 @@ set_owner o = record { ptr = o.ptr; alloc = o.alloc; member = o.member }
 abbrev pub set_owner_follows : MutBor SetOwner → MutBor (Owner Member) → Fml
 set_owner_follows h r = follows of_set.the_row (owning.the_row set_row) h.ghost_name r.ghost_name set_owner
 
--- so it is of the owner of a member of a map
+-- the same for the owner of a member of a map
 abbrev pub owner_of_map : MapOwner → Owner Member
 owner_of_map h = record { ptr = h.ptr; alloc = h.alloc; member = h.member }
 

@@ -1,4 +1,4 @@
--- What a call that names an entry by where it stands tells through a handle.
+-- What a call that names an entry by where it stands answers through a handle.
 use Rattle.std.specs.Prelude.{◌≡◌, ℕ, ℤ, Bool, Option, None, Some, Result, Ok}
 use Rattle.vbr_at_table.specs.declared.refusal.Refusal.{Refusal}
 use Rattle.vbr_list.specs.calls.Told.{is_yes}
@@ -15,40 +15,40 @@ use Rattle.vbr_handles.specs.declared.incarnation.Incarnation.{Incarnation}
 abbrev pub entry_named : Incarnation → Entry
 entry_named at = record { slot = at.slot; birth = at.birth; value = at.value }
 
--- a get that gives the entry tells it, which is written where the key is there
+-- a get returns the entry, which is written if the key is there
 abbrev pub TellsGetNamed : Option Member → Option Member → ℕ → ℕ → Entry → Entry → ℤ → Type 0
 TellsGetNamed m n key budget old new code = GivesBy (λ m n answer. FindsEntry m n key budget answer) m n old new code
 
--- and so it is of a look-up of a set
+-- and the same for a look-up of a set
 abbrev pub TellsHasNamed : Option Member → Option Member → ℕ → ℕ → Entry → Entry → ℤ → Type 0
 TellsHasNamed m n key budget old new code = GivesBy (λ m n answer. FindsKey m n key budget answer) m n old new code
 
--- a remove of one entry of a set tells whether it took it out
+-- a remove of one entry of a set returns whether it took it out
 abbrev pub TellsRemoveKeyNamed : Option Member → Option Member → ℕ → Entry → ℕ → ℤ → Type 0
 TellsRemoveKeyNamed m n key entry budget code = TellsBy (λ m n answer. TakesKeyExactly m n key entry budget answer) m n code
 
--- of a map: the member took the entry out or didn't, the code is that of the answer, and a slot that it holds it holds still
+-- for a map: the member took the entry out or didn't, the code is the code of the answer, and a slot that it holds it still holds
 pub record TakesNamed (m n : Member) (key : ℕ) (entry : Entry) (budget : ℕ) (code : ℤ) : Type 0 where
   pub answer : Result (Option ℕ) Refusal
   pub is : code ≡ call_code (is_yes answer)
   pub takes : TakesExactly m n key entry budget answer
   pub aside : n.aside ≡ m.aside
 
--- so it is of a full handle, and an empty one stays so, and has a code of its own
+-- the same for a full handle; an empty one stays so, and has a code of its own
 abbrev pub TellsRemoveNamed : Option Member → Option Member → ℕ → Entry → ℕ → ℤ → Type 0
 TellsRemoveNamed None None key entry budget code = code ≡ empty_code
 TellsRemoveNamed None (Some n) key entry budget code = ⊥
 TellsRemoveNamed (Some m) None key entry budget code = ⊥
 TellsRemoveNamed (Some m) (Some n) key entry budget code = TakesNamed m n key entry budget code
 
--- the member asked whether the slot of an entry shows its birth still, and a slot that it holds it holds still
+-- the member asked whether the slot of an entry still shows its birth, and a slot that it holds it still holds
 pub record TellsWhetherStill (m n : Member) (entry : Entry) (code : ℤ) : Type 0 where
   pub answer : Bool
   pub is : code ≡ call_code (Ok answer)
   pub asks : AsksStill m n entry answer
   pub aside : n.aside ≡ m.aside
 
--- so it is of a full handle, and an empty one stays so, and has a code of its own
+-- the same for a full handle; an empty one stays so, and has a code of its own
 abbrev pub TellsIfStill : Option Member → Option Member → Entry → ℤ → Type 0
 TellsIfStill None None entry code = code ≡ empty_code
 TellsIfStill None (Some n) entry code = ⊥

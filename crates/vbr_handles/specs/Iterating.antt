@@ -1,4 +1,4 @@
--- What a call of an iteration tells through a handle.
+-- What a call of an iteration answers through a handle.
 use Rattle.std.specs.Prelude.{◌≡◌, ℕ, ℤ, Option, Result, IfNone}
 use Rattle.vbr_list.specs.declared.cursor.Cursor.{Cursor}
 use Rattle.vbr_list.specs.declared.entries.Entry.{Entry}
@@ -7,19 +7,19 @@ use Rattle.vbr_set.specs.calls.Iterating.{CallsNext, CallsNextEntry, CallsNextNa
 use Rattle.vbr_set.specs.calls.Members.{MemberView as Member}
 use Rattle.vbr_handles.specs.ValueCalls.{GivesBy}
 
--- it tells what a call that gives something does, so what is next is written where there is such; and an empty handle leaves the cursor where it was
+-- it answers what a call that gives something does, so what is next is written if there is such; and an empty handle leaves the cursor where it was
 abbrev pub TellsNextBy : {A : Type 0} → (Member → Member → Cursor → Cursor → Result (Option A) Refusal → Type 0) → Option Member → Option Member → Cursor → Cursor → A → A → ℤ → Type 0
 TellsNextBy Calls m n c d old new code = GivesBy (λ m n answer. Calls m n c d answer) m n old new code × IfNone m (d ≡ c)
 
--- so it is of keys
+-- the same for keys
 abbrev pub TellsNext : Option Member → Option Member → Cursor → Cursor → ℕ → ℕ → ℕ → ℤ → Type 0
 TellsNext m n c d budget old new code = TellsNextBy (λ m n c d answer. CallsNext m n c d budget answer) m n c d old new code
 
--- and of entries, of which key and value are written
+-- and for entries, whose key and value are written
 abbrev pub TellsNextEntry : Option Member → Option Member → Cursor → Cursor → ℕ → ℕ × ℕ → ℕ × ℕ → ℤ → Type 0
 TellsNextEntry m n c d budget old new code = TellsNextBy (λ m n c d answer. CallsNextEntry m n c d budget answer) m n c d old new code
 
--- and of keys with their entries, of a map and of a set
+-- and for keys with their entries, of a map and of a set
 abbrev pub TellsNextNamed : Option Member → Option Member → Cursor → Cursor → ℕ → ℕ × Entry → ℕ × Entry → ℤ → Type 0
 TellsNextNamed m n c d budget old new code = TellsNextBy (λ m n c d answer. CallsNextNamedEntry m n c d budget answer) m n c d old new code
 

@@ -10,6 +10,7 @@ pub mod OpeningReserves
 pub mod Opening
 pub mod Closing
 pub mod Codes
+pub mod EachOnce
 pub mod AllHandles
 pub mod AskingAll
 pub mod RenewingAll

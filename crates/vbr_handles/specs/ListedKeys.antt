@@ -1,4 +1,4 @@
--- What is true of either kind of items: the keys that are listed are those of the items, one by one; those that a report lists are those of what it tells; and what a report lists opens a set or a map of what was reported.
+-- What is true of either kind of items: the keys that are listed are the keys of the items, one by one; the keys that a report lists are the keys of what it reports; and what a report lists opens a set or a map of what was reported.
 use Rattle.std.proofs.Common.{◌≡◌, ℕ, List, [], ◌∷◌, length, map, refl, sym, ap}
 use Rattle.std.proofs.lemmas.List.{length-map}
 use Rattle.vbr_words.specs.Dimensions.{Dimensions}

@@ -1,4 +1,4 @@
--- What of nodes crosses to C: the keys of a set, or the entries of a map, where a table opens with them and where a report tells them.
+-- What of nodes crosses to C: the keys of a set, or the entries of a map, when a table opens with them and when a report lists them.
 use Rattle.std.specs.Prelude.{ℕ, Bool, true, false, List, [], map}
 use Rattle.vbr_machine.specs.Maps.{keys_listed, values_listed}
 use Rattle.vbr_set.specs.declared.report.MapReport.{MapReport}
@@ -15,7 +15,7 @@ pub record Listing (R I : Type 0) : Type 0 where
   pub numbers : R → ReportNumbers
   pub items : R → List I
 
--- so it is of a report with slots
+-- the same for a report with slots
 abbrev pub with_slots : {R I : Type 0} → Listing R I → Listing (ReportWithSlots R) I
 with_slots listing = record {
   values = listing.values;
@@ -32,7 +32,7 @@ as_entry pair = record { key = pair.0; value = pair.1 }
 abbrev pub as_pair : Entry → ℕ × ℕ
 as_pair entry = (entry.key, entry.value)
 
--- the numbers of the report of a set, and of that of a map
+-- the numbers of the report of a set, and of a map
 abbrev pub report_numbers : Report → ReportNumbers
 report_numbers report = record { epoch = report.epoch; live = report.live; marked = report.marked; free = report.free }
 

@@ -26,7 +26,7 @@ spread_start numbers keys = start_with (spread_shape numbers false) keys []
 abbrev pub listed_start : {R I : Type 0} → Listing R I → ShapeNumbers → List I → Start
 listed_start L numbers items = start_with (spread_shape numbers L.values) (L.keys items) (L.payloads items)
 
--- so it is of a map, which opens with these entries
+-- the same for a map, which opens with these entries
 abbrev pub entries_start : ShapeNumbers → List Entry → Start
 entries_start = listed_start as_entries
 
@@ -59,11 +59,11 @@ module _ {H : Type 0} (member : H → Option Member) where
     pub reserves : StartWithReserves (new_members set (length handles)) came
     pub members : map member handles ≡ map Some came
 
-  -- of handles up to a number: they are opened where they were empty, the numbers are in range and the keys ascend; and else they are as they were, and the answer is the first test that failed
+  -- for handles up to a number: they are opened if they were empty, the numbers are in range and the keys ascend; otherwise they are as they were, and the answer is the first test that failed
   abbrev pub Opens : ℕ → List H → List H → Start → Result (Unit {0}) OpenRefusal → Type 0
   Opens most before after start (Ok done) = AreEmpty before × AreInRange start × ¬ (IsBadCount most (length before)) × HasOpeningKeys start × AreOpened start after
-  Opens most before after start (Err InUse) = (after ≡ before) × ¬ (AreEmpty before)
-  Opens most before after start (Err Shape) = (after ≡ before) × AreEmpty before × ¬ (AreInRange start)
-  Opens most before after start (Err Passes) = (after ≡ before) × AreEmpty before × AreInRange start × IsBadCount most (length before)
+  Opens most before after start (Err Shape) = (after ≡ before) × ¬ (AreInRange start)
+  Opens most before after start (Err Passes) = (after ≡ before) × AreInRange start × IsBadCount most (length before)
+  Opens most before after start (Err InUse) = (after ≡ before) × AreInRange start × ¬ (IsBadCount most (length before)) × ¬ (AreEmpty before)
   Opens most before after start (Err Keys) = (after ≡ before) × AreEmpty before × AreInRange start × ¬ (IsBadCount most (length before)) × ¬ (HasOpeningKeys start)
   Opens most before after start (Err Memory) = (after ≡ before) × AreEmpty before × AreInRange start × ¬ (IsBadCount most (length before)) × HasOpeningKeys start

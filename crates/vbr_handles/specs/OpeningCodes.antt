@@ -1,4 +1,4 @@
--- What an opening of handles tells as a number.
+-- What an opening of handles answers as a number.
 use Rattle.std.specs.Prelude.{◌≡◌, ℕ, ℤ, List, Option, Result}
 use Rattle.vbr_machine.specs.Start.{Start}
 use Rattle.vbr_slots.specs.declared.opening.TheConstants.{MAX_MANY_PASSES, MAX_PASSES}
@@ -9,21 +9,21 @@ use Rattle.vbr_handles.specs.declared.handle.MapHandle.{MapHandle}
 use Rattle.vbr_handles.specs.declared.opening.OpenRefusal.{OpenRefusal}
 use Rattle.vbr_handles.specs.Codes.{open_code}
 
--- the code is that of an answer to an opening, for so many handles at most, with the numbers and the keys of this start
+-- the code is the code of an answer to an opening, for so many handles at most, with the numbers and the keys of this start
 pub record TellsOpeningBy {H : Type 0} (member : H → Option Member) (most : ℕ) (before after : List H) (start : Start) (code : ℤ) : Type 0 where
   pub answer : Result (Unit {0}) OpenRefusal
   pub is : code ≡ open_code answer
   pub opens : Opens member most before after start answer
 
--- so it is of the handles of a set
+-- the same for the handles of a set
 abbrev pub TellsOpeningWith : List Handle → List Handle → Start → ℤ → Type 0
 TellsOpeningWith = TellsOpeningBy (λ (handle : Handle). handle.owned.member) MAX_PASSES
 
--- and of many handles
+-- and for many handles
 abbrev pub TellsOpeningMany : List Handle → List Handle → Start → ℤ → Type 0
 TellsOpeningMany = TellsOpeningBy (λ (handle : Handle). handle.owned.member) MAX_MANY_PASSES
 
--- and so of the handles of a map
+-- and for the handles of a map
 abbrev pub TellsMapOpeningWith : List MapHandle → List MapHandle → Start → ℤ → Type 0
 TellsMapOpeningWith = TellsOpeningBy (λ (handle : MapHandle). handle.owned.member) MAX_PASSES
 

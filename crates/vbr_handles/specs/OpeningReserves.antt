@@ -26,10 +26,10 @@ abbrev pub TakesReserveUnless : Bool → Member → Member → Type 0
 TakesReserveUnless true m n = n ≡ m
 TakesReserveUnless false m n = TakesReserve m n
 
--- so it is of a member that a handle is opened with
+-- the same for a member that a handle is opened with
 abbrev pub StartsWithReserve : Member → Member → Type 0
 StartsWithReserve m n = TakesReserveUnless (is_small m.set) m n
 
--- and of each of several
+-- and for each of several
 abbrev pub StartWithReserves : List Member → List Member → Type 0
 StartWithReserves = AllZip StartsWithReserve

@@ -1,4 +1,4 @@
--- What an `Owner` owns: nothing at null, and else the same as a `Box` of its member.
+-- What an `Owner` owns: nothing at null, otherwise the same as a `Box` of its member.
 use mathlib.Core.Path.{◌≡◌}
 use base.Fml.{Fml, ftrue, fex}
 use denote.RattleType.{RattleType}

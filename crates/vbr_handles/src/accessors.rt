@@ -1,5 +1,5 @@
 //! What a handle shows of its set and of its pass, without a call and without a step. An empty handle
-//! shows 0, which is no such number.
+//! shows 0.
 ghost use Rattle.std.specs.Prelude.{◌≡◌};
 ghost use Rattle.vbr_handles.specs.Shown.{IsSeedOf, balance_shown, buckets_of, epoch_of_handle, last_epoch_of, slots_of};
 
@@ -18,7 +18,7 @@ pub fn epoch<N: Nodes>(owner: &mut Owner<Member<N>>) -> u64
     owner.member_mut().pass().epoch()
 }
 
-/// The last epoch of the set of a owner.
+/// The last epoch of the set of a handle.
 pub fn last_epoch<N: Nodes>(owner: &mut Owner<Member<N>>) -> u64
     ensures same { owner.new.member ≡ owner.old.member }
     ensures last { result ≡ last_epoch_of owner.old.member }
@@ -51,7 +51,7 @@ pub fn buckets<N: Nodes>(owner: &mut Owner<Member<N>>) -> u32
     owner.member_mut().shape().buckets()
 }
 
-/// A seed that spreads keys as those of the set of a handle are spread, below 2^63.
+/// A seed below 2^63 that spreads keys as the set of a handle spreads its keys.
 pub fn seed<N: Nodes>(owner: &mut Owner<Member<N>>) -> u64
     ensures same { owner.new.member ≡ owner.old.member }
     ensures seed { IsSeedOf owner.old.member result }
@@ -62,8 +62,8 @@ pub fn seed<N: Nodes>(owner: &mut Owner<Member<N>>) -> u64
     owner.member_mut().shape().seed().unwrap_or(0)
 }
 
-/// How many keys the calls through a handle have added, less those that they took out, as
-/// [`Member::balance`] tells.
+/// The number of keys that the calls through a handle have added, less the number that they took out,
+/// as in [`Member::balance`].
 pub fn balance<N: Nodes>(owner: &mut Owner<Member<N>>) -> i64
     ensures same { owner.new.member ≡ owner.old.member }
     ensures balance { result ≡ balance_shown owner.old.member }

@@ -5,14 +5,15 @@ ghost use Rattle.vbr_handles.specs.AmpleBudgets.{budget_among, budget_of};
 use vbr_set::member::Member;
 use vbr_words::Nodes;
 
-/// The steps of the ample budget, which calls have that are given none.
+/// The steps of the ample budget, for calls that are given none.
 pub const AMPLE_STEPS: u32 = 400_000;
 
-/// With so many slots it leaves 137,856 steps beside a search through the words of all flags.
+/// With so many slots it leaves 137,856 steps besides a search through the words of all flags.
 pub const AMPLE_SLOTS: u32 = 16_777_216;
 
-/// The budget that a number of steps gives a call which may take a slot: [`AMPLE_STEPS`] give a step more for each 64
-/// slots above [`AMPLE_SLOTS`], and any other number is the budget itself.
+/// The budget that a number of steps stands for in a call that may take a slot: [`AMPLE_STEPS`] stands
+/// for itself and a step more for each 64 slots above [`AMPLE_SLOTS`]; any other number is the budget
+/// itself.
 #[inline(always)]
 pub(crate) fn budget_of<N: Nodes>(member: &Member<N>, steps: u32) -> u32
     ensures { result ≡ budget_of member.now steps }

@@ -5,7 +5,9 @@ ghost use Rattle.vbr_set.specs.members.AllMembers.{AreOfOneSet};
 ghost use Rattle.vbr_set.specs.members.BalanceSums.{added_balances};
 ghost use Rattle.vbr_handles.specs.AllHandles.{AreFull, members_by};
 ghost use Rattle.vbr_handles.specs.AskingAll.{AsksAllOf, Lack, AnswersQuestion};
+ghost use Rattle.vbr_handles.specs.EachOnce.{HasTwice};
 
+use crate::each_once::has_twice;
 use crate::handle_of::HandleOf;
 use crate::owner::Owner;
 use crate::reserves::with_reserves;
@@ -20,13 +22,14 @@ use vbr_words::Nodes;
 pub enum AskRefusal {
     /// One of the handles is empty.
     Empty,
-    /// For a report, there are fewer handles than were opened with their set; for a renewal, there are not as many.
-    /// Or there are none.
+    /// For a report, there are fewer handles than were opened with their set; for a renewal, there are
+    /// more or fewer. Or there are none, or two of one set have the same pass.
     Missing,
-    /// Two of the handles are of different sets in memory ([`Member::is_beside`]). It is a probe, and no
-    /// contract says when it comes but that it doesn't before the others.
+    /// Two of the handles are of different sets in memory ([`Member::is_beside`]). It is a probe: a
+    /// contract says only that the others are tested before it.
     Mixed,
-    /// There is no memory to put the members side by side; of a renewal, and no more keys than slots.
+    /// There is no memory to put the members side by side; for a renewal, there are also no more keys
+    /// than slots.
     Memory,
 }
 
@@ -52,7 +55,7 @@ pub(crate) enum Answer<R> {
     Renewed,
     /// That there are more keys than slots of the shape.
     Room,
-    /// That there is no memory; of a renewal, and no more keys than slots.
+    /// That there is no memory; for a renewal, also that there are no more keys than slots.
     Memory,
 }
 
@@ -76,6 +79,9 @@ pub(crate) fn ask_all<N: Kind, H: HandleOf<N>>(
     if !are_beside::<N, H>(handles) {
         return Err(AskRefusal::Mixed);
     }
+    if has_twice::<N, H>(handles) {
+        return Err(AskRefusal::Missing);
+    }
     let Ok(members) = Vec::with_capacity(alloc, handles.len()) else {
         return without_memory::<N, H>(handles, &question);
     };
@@ -88,13 +94,14 @@ pub(crate) fn ask_all<N: Kind, H: HandleOf<N>>(
     Ok(told)
 }
 
-// What is answered where there is no memory to ask: of a renewal that there is no room, where the balances tell so.
+// The answer if there is no memory to ask: to a renewal, that there is no room if the balances say so.
 fn without_memory<N: Kind, H: HandleOf<N>>(
     handles: &mut [H],
     question: &Question,
 ) -> Result<Answer<N::Report>, AskRefusal>
     requires full { AreFull H.member handles.old }
     requires enough { ¬ (Lack question.now (members_by H.member handles.old)) }
+    requires once { ¬ (HasTwice (members_by H.member handles.old)) }
     ensures same { handles.new ≡ handles.old }
     ensures asks { AsksAllOf N.kind H.member question.now handles.old handles.new result }
 {
@@ -191,7 +198,7 @@ fn put_all_back<N: Nodes, H: HandleOf<N>>(
     }
 }
 
-// Asks members, and gives as many back, in the order in which handles are to have them.
+// Asks members, and returns as many, in the order in which handles are to have them.
 fn ask<N: Kind>(
     alloc: Global,
     members: Vec<Member<N>>,
@@ -236,7 +243,7 @@ fn are_full<N: Nodes, H: HandleOf<N>>(handles: &mut [H]) -> bool
     true
 }
 
-// Whether handles, which are full, are fewer than what is asked of them wants, or not as many.
+// Whether handles, which are full, are too few for what is asked of them, or not as many as it wants.
 fn lack<N: Nodes, H: HandleOf<N>>(handles: &mut [H], question: &Question) -> bool
     requires { AreFull H.member handles.old }
     ensures same { handles.new ≡ handles.old }

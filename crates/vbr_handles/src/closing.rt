@@ -10,13 +10,13 @@ use vbr_set::member::Member;
 use vbr_set::{EndError, Kind, Report};
 use vbr_words::Nodes;
 
-/// Why a handle got no answer to its close; `R` is the report, that of a set by itself.
+/// Why a handle got no answer to its close; `R` is the type of the report, by default a set's.
 #[derive(Debug, Drop)]
 pub enum CloseRefusal<R = Report> {
     /// The handle is empty.
     Empty,
     /// It was the last of its set, and a pass isn't there. The handle is empty, and the set is gone. A
-    /// handle that is dropped gives its pass back, so no program is known to get this.
+    /// dropped handle gives its pass back, so no program is known to get this.
     Lost,
     /// It was the last of its set, and there is no memory for the report. The handle is as it was.
     Memory,
@@ -25,11 +25,12 @@ pub enum CloseRefusal<R = Report> {
     Room(R),
 }
 
-/// Gives the pass of a handle back and leaves the handle empty. While other handles of its set are
-/// full the answer is None; the last one gets what is in the set, where there is room for so many
-/// keys, and the set ends. So it is of a map, whose report has entries.
+/// Closes a handle: gives its pass back and leaves it empty. While other handles of its set are full
+/// the answer is None. The last one gets what is in the set, if there is room for so many keys, and the
+/// set ends. Likewise for a map, whose report has entries.
 ///
-/// As [`Member::report_last`] it gives no slots back: [`crate::coded_calls::giving_slots_back::close`] does so before.
+/// Like [`Member::report_last`] it gives no slots back:
+/// [`crate::coded_calls::giving_slots_back::close`] does so first.
 pub fn close<N: Kind, I: Listed<N>>(
     alloc: Global,
     owner: &mut Owner<Member<N>>,
@@ -65,9 +66,9 @@ pub fn close<N: Kind, I: Listed<N>>(
     }
 }
 
-/// Drops what a handle has, and leaves it empty. Its pass is given back, as by a close, so the last handle
-/// of its set that is closed still gets a report; with the last one dropped the set ends without. It
-/// needs no memory.
+/// Releases a handle; it is empty afterwards. Its pass is given back, as by a close, so the last handle
+/// of its set that is closed still gets a report. If the last one is dropped, the set ends without a
+/// report. It needs no memory.
 pub fn abandon<N: Nodes>(alloc: Global, owner: &mut Owner<Member<N>>)
     ensures { owner.new.member ≡ None }
 {

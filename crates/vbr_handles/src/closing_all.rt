@@ -16,16 +16,17 @@ use vbr_set::member::Member;
 use vbr_set::{Kind, Report, ReportWithSlots};
 use vbr_words::Nodes;
 
-/// Why all handles of a set got no report; `R` is the report, that of a set by itself. The tests are made in this order,
-/// and the handles are as they were.
+/// Why all handles of a set got no report; `R` is the type of the report, by default a set's. Tested in
+/// this order; the handles are as they were.
 #[derive(Debug, Drop)]
 pub enum CloseAllRefusal<R = Report> {
     /// One of the handles is empty.
     Empty,
-    /// There are fewer handles than were opened with the set, or none. It comes just then, where none is empty.
+    /// There are fewer handles than were opened with the set, or none, or two of one set have the same pass, as
+    /// copies in C have. If none is empty and it isn't [`CloseAllRefusal::Mixed`], it comes exactly then.
     Missing,
-    /// Two of the handles are of different sets in memory ([`Member::is_beside`]). It is a probe: no contract says when
-    /// it comes, but that none is empty and they aren't too few.
+    /// Two of the handles are of different sets in memory ([`Member::is_beside`]). It is a probe: a
+    /// contract says only that then none is empty and there are not too few.
     Mixed,
     /// There is no memory for the report.
     Memory,
@@ -33,8 +34,8 @@ pub enum CloseAllRefusal<R = Report> {
     Room(R),
 }
 
-/// Tells what is in a set by all its handles at once, in any order, where there is room for so many keys. It
-/// asks that all are of one set. They stay as they are, and go on. So it is of a map, whose report has
+/// Reports what is in a set by all its handles at once, in any order, if there is room for so many
+/// keys. All must be of one set. They stay as they are, and go on. Likewise for a map, whose report has
 /// entries.
 pub fn report_all<N: Kind, I: Listed<N>, H: HandleOf<N>>(
     alloc: Global,
@@ -61,8 +62,8 @@ pub fn report_all<N: Kind, I: Listed<N>, H: HandleOf<N>>(
     Ok(report)
 }
 
-/// Tells what is in a set by all its handles at once, as [`report_all`] does, and the slot of each key, where
-/// there is room for so many keys: number i is the slot of what the report lists at i. So it is of a map.
+/// Reports what is in a set as [`report_all`] does, with the slot of each key, if there is room for so
+/// many keys: slot number i belongs to item number i of the report. Likewise for a map.
 pub fn report_all_with_slots<N: Kind, I: Listed<N>, H: HandleOf<N>>(
     alloc: Global,
     handles: &mut [H],
@@ -88,8 +89,8 @@ pub fn report_all_with_slots<N: Kind, I: Listed<N>, H: HandleOf<N>>(
     Ok(told)
 }
 
-/// Closes a set by all its handles at once, in any order, and leaves them empty: what is in the set, where
-/// there is room for so many keys. It asks that all are of one set. So it is of a map, whose report has
+/// Closes a set by all its handles at once, in any order, and leaves them empty. Returns what is in the
+/// set, if there is room for so many keys. All must be of one set. Likewise for a map, whose report has
 /// entries.
 pub fn close_all<N: Kind, I: Listed<N>, H: HandleOf<N>>(
     alloc: Global,
@@ -106,8 +107,8 @@ pub fn close_all<N: Kind, I: Listed<N>, H: HandleOf<N>>(
     Ok(report)
 }
 
-/// Drops what handles have, of one set or of several, and leaves them empty. Their passes are given back, as
-/// [`crate::abandon`] gives that of one; with the last handle of a set its memory is freed. It needs no memory.
+/// Releases handles, of one set or of several, and leaves them empty. Their passes are given back, as
+/// by [`crate::abandon`]; with the last handle of a set its memory is freed. It needs no memory.
 pub fn abandon_all<N: Nodes, H: HandleOf<N>>(alloc: Global, handles: &mut [H])
     ensures empty { AreEmpty H.member handles.new }
     ensures steps { map H.steps handles.new ≡ map H.steps handles.old }

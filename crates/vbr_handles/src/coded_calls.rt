@@ -1,5 +1,5 @@
-//! The calls of handles with their answers as numbers, as they go to C: 1 is yes, 0 is no or done, 2 is that
-//! another value than the expected one was there, and each refusal has a number below 0.
+//! The calls of handles with their answers as numbers, as C gets them: 1 is yes, 0 is no or done, 2
+//! means that another value than the expected one was there, and refusals are negative.
 ghost use Rattle.std.specs.Prelude.{◌≡◌, ◌≤◌, ◌++◌, drop, is_some, length, map, IfOk};
 ghost use Rattle.vbr_machine.specs.declared.history.Op.TheVariants.{Remove, Has};
 ghost use Rattle.vbr_slots.specs.declared.opening.TheConstants.{MAX_MANY_PASSES, MAX_PASSES};
@@ -101,8 +101,8 @@ pub fn open_many<N: Kind, I: Listed<N>, H: HandleOf<N>>(
     open_code(crate::opening::open_many::<N, I, H>(alloc, handles, numbers, items))
 }
 
-/// Adds a key by the member of a handle, and then keeps the reserve of the handle ([`topping_up`]). While the member
-/// holds a slot it does nothing.
+/// Adds a key by the member of a handle, and then tops the reserve of the handle up ([`topping_up`]).
+/// While the member holds a slot it does nothing.
 pub fn insert(owner: &mut Owner<Member<Keys>>, key: u64, steps: u32) -> i32
     ensures { TellsInsert owner.old.member owner.new.member key steps result }
 {
@@ -140,8 +140,9 @@ pub fn has<N: Nodes>(owner: &mut Owner<Member<N>>, key: u64, budget: u32) -> i32
     call_code(owner.member_mut().has(key, budget))
 }
 
-/// Closes a handle, as [`crate::close`] does, and writes the report where there is one: what it lists in
-/// front of what was there, where all has room, and else its numbers alone.
+/// Closes a handle, as [`crate::close`] does, and writes the report if there is one. The items that it
+/// lists are written to the front of the array if all have room, otherwise only the numbers are
+/// written.
 pub fn close<N: Kind, I: Listed<N>>(
     alloc: Global,
     owner: &mut Owner<Member<N>>,
@@ -181,8 +182,8 @@ pub fn close_all<N: Kind, I: Listed<N>, H: HandleOf<N>>(
     close_all_code(&answer)
 }
 
-/// Tells what is in a set or a map by all its handles at once, as [`crate::report_all`] does, and writes the
-/// report as [`close`] does.
+/// Reports what is in a set or a map by all its handles at once, as [`crate::report_all`] does, and
+/// writes the report as [`close`] does.
 pub fn report_all<N: Kind, I: Listed<N>, H: HandleOf<N>>(
     alloc: Global,
     handles: &mut [H],
@@ -199,9 +200,9 @@ pub fn report_all<N: Kind, I: Listed<N>, H: HandleOf<N>>(
     close_all_code(&answer)
 }
 
-/// Tells what is in a set or a map by all its handles at once, as [`report_all`] does, and writes the slot of each
-/// key, or of each entry, in front of `slots`, at the place that it has in `items`. Where the report isn't written
-/// whole, no slot is.
+/// Reports what is in a set or a map by all its handles at once, as [`report_all`] does. It also writes
+/// the slot of each key, or of each entry, to `slots`, at the place that the item has in `items`. If
+/// the report isn't written whole, no slot is.
 pub fn report_all_with_slots<N: Kind, I: Listed<N>, H: HandleOf<N>>(
     alloc: Global,
     handles: &mut [H],
@@ -221,7 +222,7 @@ pub fn report_all_with_slots<N: Kind, I: Listed<N>, H: HandleOf<N>>(
     close_all_code(&answer)
 }
 
-/// Lets all handles of a set or of a map go on over a fresh one, as [`crate::renew_all`] does.
+/// Moves all handles of a set or of a map to a fresh one, as [`crate::renew_all`] does.
 pub fn renew_all<N: Kind, I: Listed<N>, H: HandleOf<N>>(
     alloc: Global,
     handles: &mut [H],
@@ -235,7 +236,7 @@ pub fn renew_all<N: Kind, I: Listed<N>, H: HandleOf<N>>(
     renew_all_code(crate::renewing_all::renew_all::<N, I, H>(alloc, handles, numbers))
 }
 
-// Writes a report that all handles tell, or its numbers alone where it has no room.
+// Writes the report of all handles, or only its numbers if it has no room.
 fn write_all<N: Kind, I: Listed<N>>(
     answer: &Result<N::Report, CloseAllRefusal<N::Report>>,
     items: &mut [I],
@@ -254,37 +255,37 @@ fn write_all<N: Kind, I: Listed<N>>(
     }
 }
 
-// Writes a report with its slots, or its numbers alone where it has no room.
+// Writes a report with its slots, or only its numbers if it has no room.
 fn write_with_slots<N: Kind, I: Listed<N>>(
     answer: &Result<ReportWithSlots<N::Report>, CloseAllRefusal<ReportWithSlots<N::Report>>>,
     items: &mut [I],
     slots: &mut [u32],
     told: &mut ReportNumbers,
 )
-    requires items { IfOk answer.now (λ found.
-        length (I.listing.items found.report) ≤ length items.old) }
-    requires slots { IfOk answer.now (λ found. length found.slots.items ≤ length slots.old) }
+    requires items { IfOk answer.now (λ full.
+        length (I.listing.items full.report) ≤ length items.old) }
+    requires slots { IfOk answer.now (λ full. length full.slots.items ≤ length slots.old) }
     ensures report { WritesAll (with_slots I.listing) answer.now
         items.old items.new told.old told.new }
     ensures slots { WritesSlots answer.now slots.old slots.new }
 {
     match answer {
-        Ok(found) => {
-            I::write(&found.report, items);
-            write_slots(&found.slots, slots);
-            *told = I::numbers(&found.report);
+        Ok(full) => {
+            I::write(&full.report, items);
+            write_slots(&full.slots, slots);
+            *told = I::numbers(&full.report);
         }
-        Err(CloseAllRefusal::Room(found)) => *told = I::numbers(&found.report),
+        Err(CloseAllRefusal::Room(full)) => *told = I::numbers(&full.report),
         _ => {}
     }
 }
 
-// Writes slots in front of what was there.
-fn write_slots(found: &[u32], slots: &mut [u32])
-    requires { length found.now ≤ length slots.old }
-    ensures { slots.new ≡ found.now ++ drop (length found.now) slots.old }
+// Writes slots to the front of an array.
+fn write_slots(told: &[u32], slots: &mut [u32])
+    requires { length told.now ≤ length slots.old }
+    ensures { slots.new ≡ told.now ++ drop (length told.now) slots.old }
 {
-    slots[..found.len()].copy_from_slice(found);
+    slots[..told.len()].copy_from_slice(told);
 }
 
 // Whether a member holds a slot.

@@ -7,8 +7,8 @@ ghost use Rattle.vbr_handles.specs.Owners.{owner_owns};
 use std::alloc::Global;
 use std::marker::Model;
 
-/// An owner (`Owner`) of a member of a set: one pointer, which is null where it has none. What crosses to C has
-/// no type parameters, so it is a type of its own.
+/// An owner (`Owner`) of a member of a set: one pointer, which is null if there is none. What crosses
+/// to C has no type parameters, so it is a type of its own.
 #[repr(C)]
 pub struct SetOwner {
     pub(crate) ptr: *mut u8,
@@ -41,8 +41,8 @@ unsafe impl Send for MapOwner {}
 pub struct Handle {
     /// The owner of its member.
     pub owned: SetOwner,
-    /// The budget of its calls that are given none, or 0 for the ample one. It is the caller's: no call here reads
-    /// or writes it.
+    /// The budget of calls that are given none, or 0 for the ample one. It belongs to the caller: no
+    /// call here reads or writes it.
     pub steps: u32,
 }
 
@@ -51,6 +51,6 @@ pub struct Handle {
 pub struct MapHandle {
     /// The owner of its member.
     pub owned: MapOwner,
-    /// The budget of its calls that are given none, as of a [`Handle`].
+    /// The budget of calls that are given none, as in a [`Handle`].
     pub steps: u32,
 }

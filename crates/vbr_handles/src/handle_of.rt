@@ -2,6 +2,7 @@
 ghost use Rattle.std.specs.Prelude.{◌≡◌, true, false, ℕ, Option, None, IsSome};
 ghost use Rattle.vbr_set.specs.calls.Members.{MemberView};
 ghost use Rattle.vbr_handles.specs.Passes.{IsPassCount};
+ghost use Rattle.vbr_handles.specs.EachOnce.{number_shown};
 ghost use Rattle.vbr_handles.specs.Shown.{balance_shown};
 
 use crate::handle::{Handle, MapHandle};
@@ -21,17 +22,22 @@ pub trait HandleOf<N: Nodes>: Sized {
         ensures { (result ≡ false → IsSome (member self.old))
             × (result ≡ true → member self.old ≡ None) × (self.new ≡ self.old) };
 
-    /// How many passes the set of its member was opened with. It stays as it is.
+    /// The number of passes that the set of its member was opened with. It stays as it is.
     fn passes(&mut self) -> u32
         requires { IsSome (member self.old) }
         ensures { IsPassCount (member self.old) result × (self.new ≡ self.old) };
+
+    /// The number of the pass of its member. It stays as it is.
+    fn number(&mut self) -> u32
+        requires { IsSome (member self.old) }
+        ensures { (result ≡ number_shown (member self.old)) × (self.new ≡ self.old) };
 
     /// The balance of its member ([`Member::balance`]). It stays as it is.
     fn balance(&mut self) -> i64
         requires { IsSome (member self.old) }
         ensures { (result ≡ balance_shown (member self.old)) × (self.new ≡ self.old) };
 
-    /// Whether its member is beside the other's, as [`Member::is_beside`] tells. Both stay as they are.
+    /// Whether its member is beside the other's, by [`Member::is_beside`]. Both stay as they are.
     fn is_beside(&mut self, other: &mut Self) -> bool
         requires one { IsSome (member self.old) }
         requires other { IsSome (member other.old) }
@@ -55,6 +61,10 @@ impl HandleOf<Keys> for Handle {
 
     fn passes(&mut self) -> u32 {
         self.owned.owner_mut().passes()
+    }
+
+    fn number(&mut self) -> u32 {
+        self.owned.owner_mut().number()
     }
 
     fn balance(&mut self) -> i64 {
@@ -82,6 +92,10 @@ impl HandleOf<Entries> for MapHandle {
 
     fn passes(&mut self) -> u32 {
         self.owned.owner_mut().passes()
+    }
+
+    fn number(&mut self) -> u32 {
+        self.owned.owner_mut().number()
     }
 
     fn balance(&mut self) -> i64 {

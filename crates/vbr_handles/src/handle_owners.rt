@@ -1,4 +1,4 @@
-//! The owner of a member of any type, lent out of that of a handle.
+//! The owner of a member of any type, lent by the owner in a handle.
 ghost use Rattle.std.specs.Prelude.{◌≡◌};
 ghost use types.Logic.{sem};
 ghost use Rattle.vbr_handles.specs.Handles.{map_owner_follows, owner_of_map, owner_of_set, set_owner_follows};

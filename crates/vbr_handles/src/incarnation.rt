@@ -4,8 +4,8 @@ ghost use Rattle.vbr_handles.specs.Incarnations.{entry_named};
 
 use vbr_list::Entry;
 
-/// The slot of an entry's node, with the birth of that node, which no other node that was ever in that slot has; and
-/// the value of the entry, 0 in a set.
+/// The slot of an entry's node, with the birth of that node, which no other node that was ever in that
+/// slot has, and the value of the entry, 0 in a set.
 #[repr(C)]
 #[derive(Clone, Copy, Debug, PartialEq, Eq)]
 pub struct Incarnation {
@@ -18,7 +18,7 @@ pub struct Incarnation {
 }
 
 impl Incarnation {
-    // That of an entry.
+    // Where an entry stands.
     pub(crate) fn of(entry: Entry) -> Incarnation
         ensures { entry_named result ≡ entry }
     {

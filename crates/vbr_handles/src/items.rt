@@ -1,4 +1,4 @@
-//! What is listed of a node to C and from it: its key, or its entry.
+//! The item that stands for a node towards C: its key, or its entry.
 ghost use Rattle.std.specs.Prelude.{◌≡◌, ℕ, ◌<◌, ◌≤◌, ◌++◌, ◌⊎◌, List, true, false, drop, length, map, IfOk, IsErrOf};
 ghost use Rattle.std.specs.List.Sorted.{IsStrictlyIncreasing};
 ghost use Rattle.vbr_words.specs.Dimensions.{Dimensions};
@@ -44,11 +44,11 @@ pub trait Listed<N: Kind>: Copy {
     fn numbers(report: &N::Report) -> ReportNumbers
         ensures { result ≡ listing.numbers report.now };
 
-    /// How many keys a report lists.
+    /// The number of keys that a report lists.
     fn count(report: &N::Report) -> usize
         ensures { result ≡ length (listing.items report.now) };
 
-    /// Writes what a report lists in front of what was there.
+    /// Writes what a report lists to the front of an array.
     fn write(report: &N::Report, items: &mut [Self])
         requires { length (listing.items report.now) ≤ length items.old }
         ensures { items.new

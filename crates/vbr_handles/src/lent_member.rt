@@ -2,6 +2,7 @@
 ghost use Rattle.std.specs.Prelude.{◌≡◌, true, false, None, Some, IsSome};
 ghost use types.Logic.{sem};
 ghost use Rattle.vbr_handles.specs.Lent.{owner_follows};
+ghost use Rattle.vbr_handles.specs.EachOnce.{number_shown};
 ghost use Rattle.vbr_handles.specs.Passes.{IsPassCount};
 ghost use Rattle.vbr_handles.specs.Shown.{balance_shown};
 
@@ -28,12 +29,20 @@ impl<M> Owner<M> {
 }
 
 impl<N: Nodes> Owner<Member<N>> {
-    /// How many passes the set of its member was opened with ([`Member::passes`]).
+    /// The number of passes that the set of its member was opened with ([`Member::passes`]).
     pub fn passes(&mut self) -> u32
         requires { IsSome self.old.member }
         ensures { IsPassCount self.old.member result × (self.new ≡ self.old) }
     {
         self.member_mut().passes()
+    }
+
+    /// The number of the pass of its member (`Pass::who`).
+    pub fn number(&mut self) -> u32
+        requires { IsSome self.old.member }
+        ensures { (result ≡ number_shown self.old.member) × (self.new ≡ self.old) }
+    {
+        self.member_mut().pass().who()
     }
 
     /// The balance of its member ([`Member::balance`]).

@@ -1,10 +1,10 @@
 //! Handles to a set or to a map, which cross to C: each thread has one.
 //!
-//! A [`Handle`] is one pointer to a member on the heap, and null while it is empty; beside it stands the budget of
-//! its calls, which is the caller's. A handle is moved and never copied, and one call at a time has it. A
-//! [`MapHandle`] is the same, with a member of a map.
-//! What both are, an [`Owner`] of a member of any type, makes the calls; what C gives and gets of keys
-//! ([`Listed`]) has entries in place of keys where it is a map.
+//! A [`Handle`] is one pointer to a member on the heap, and null while it is empty. Beside it stands
+//! the budget of its calls, which belongs to the caller. A handle is moved and never copied, and one
+//! call at a time has it. A [`MapHandle`] is the same, with a member of a map. Both are an [`Owner`] of
+//! a member of any type, which makes the calls. What C gives and gets are keys, or for a map entries
+//! ([`Listed`]).
 #![tactic(auto)]
 
 pub mod accessors;
@@ -14,6 +14,7 @@ mod box_parts;
 pub mod closing;
 pub mod closing_all;
 pub mod coded_calls;
+mod each_once;
 mod entries;
 pub mod entry;
 pub mod found;

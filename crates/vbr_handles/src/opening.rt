@@ -13,15 +13,15 @@ use vbr_set::member::Member;
 use vbr_set::{Kind, MAX_MANY_PASSES, MAX_PASSES, OpenManyError, Shape};
 use vbr_words::Nodes;
 
-/// Why handles were not opened. The tests are made in this order, and the handles are as they were.
+/// Why handles were not opened. Tested in this order; the handles are as they were.
 #[derive(Clone, Copy, Debug, PartialEq, Eq)]
 pub enum OpenRefusal {
-    /// One of the handles isn't empty.
-    InUse,
     /// The numbers are no shape.
     Shape,
-    /// There is no handle, or there are more than may be opened so.
+    /// There is no handle, or there are more than this call may open. No handle is read before this test.
     Passes,
+    /// One of the handles isn't empty.
+    InUse,
     /// The keys don't ascend, each above the one before, or there are more of them than slots.
     Keys,
     /// There is no memory.
@@ -35,9 +35,9 @@ pub struct ShapeNumbers {
     pub slots: u32,
     /// How many buckets.
     pub buckets: u32,
-    /// The last epoch; `MAX_EPOCH` means the greatest of so many slots, where that is less.
+    /// The last epoch; `MAX_EPOCH` means the greatest one for so many slots, if that is less.
     pub last_epoch: u64,
-    /// By which seed keys are spread over the buckets.
+    /// The seed by which keys are spread over the buckets.
     pub seed: u64,
 }
 
@@ -55,9 +55,9 @@ impl ShapeNumbers {
 }
 
 /// Opens a set of these keys, which ascend, each above the one before, with a pass for each of the
-/// handles, 64 at most, in the order of the passes' numbers. It goes once over the keys, and takes 8 bytes
-/// for each while it runs. For the handles of a map it opens one of these entries, and takes 48 bytes for each.
-/// Each handle takes its reserve, unless the set has fewer than 64 slots for each.
+/// handles, 64 at most, in the order of the passes' numbers. It goes once over the keys, and takes 8
+/// bytes for each while it runs. For handles of a map it opens a map of these entries, and takes 48
+/// bytes for each. Each handle takes its reserve, unless the set has fewer than 64 slots for each.
 pub fn open_with<N: Kind, I: Listed<N>, H: HandleOf<N>>(
     alloc: Global,
     handles: &mut [H],
@@ -99,14 +99,14 @@ fn open_up_to<N: Kind, I: Listed<N>, H: HandleOf<N>>(
         (listed_start I.listing numbers items.now) result }
     ensures steps { map H.steps handles.new ≡ map H.steps handles.old }
 {
-    if !are_empty::<N, H>(handles) {
-        return Err(OpenRefusal::InUse);
-    }
     let Some(shape) = numbers.shape() else {
         return Err(OpenRefusal::Shape);
     };
     if handles.is_empty() || handles.len() > most as usize {
         return Err(OpenRefusal::Passes);
+    }
+    if !are_empty::<N, H>(handles) {
+        return Err(OpenRefusal::InUse);
     }
     if !I::can_open(items, numbers.slots) {
         return Err(OpenRefusal::Keys);

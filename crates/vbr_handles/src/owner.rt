@@ -10,7 +10,7 @@ use std::mem::replace;
 use std::ptr::null_mut;
 use std_alloc::room::Vacant;
 
-/// Owns a `Box<M, Global>`, or nothing where the pointer is null. C sees one pointer, and never copies it.
+/// Owns a `Box<M, Global>`, or nothing if the pointer is null. C sees one pointer, and never copies it.
 #[repr(C)]
 pub struct Owner<M> {
     pub(crate) ptr: *mut M,

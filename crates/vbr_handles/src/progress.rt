@@ -1,9 +1,10 @@
 //! A law of calls through handles. The function says it in its contract, and does nothing.
 ghost use Rattle.vbr_handles.specs.HandleProgress.{HandlesCallAmply};
 
-/// A law: where the call of a handle has a budget that is enough while no update is answered yes, the call
-/// and what tops the handle's reserve up after it are one such call, within the budget. So the law by
-/// which somebody is answered (`steps_are_answered` of `vbr_set`) is one of calls in C, C++ and Rust.
+/// A law: if the call of a handle has a budget that is enough while no update is answered yes, the call
+/// and the top-up of the handle's reserve after it are one such call, within the budget. So the law by
+/// which somebody is answered (`steps_are_answered` of `vbr_set`) also holds for calls in C, C++ and
+/// Rust.
 pub fn handles_call_amply()
     ensures { HandlesCallAmply }
 {}

@@ -1,4 +1,4 @@
-//! All handles of a set at once go on over a fresh one.
+//! Moving all handles of a set to a fresh one at once.
 ghost use Rattle.std.specs.Prelude.{◌≡◌, map};
 ghost use Rattle.vbr_set.specs.members.AllMembers.{AreOfOneSet};
 ghost use Rattle.vbr_handles.specs.AllHandles.{members_by};
@@ -11,30 +11,31 @@ use crate::opening::ShapeNumbers;
 use std::alloc::Global;
 use vbr_set::Kind;
 
-/// Why the handles of a set were not renewed. The tests are made in this order, and the handles are as they
-/// were.
+/// Why the handles of a set were not renewed. Tested in this order; the handles are as they were.
 #[derive(Clone, Copy, Debug, PartialEq, Eq)]
 pub enum RenewAllRefusal {
     /// The numbers are no shape.
     Shape,
     /// One of the handles is empty.
     Empty,
-    /// There are not as many handles as were opened with the set. It comes just then, where none is empty and the
-    /// numbers are a shape.
+    /// There are not as many handles as were opened with the set, or two of one set have the same pass, as
+    /// copies in C have. If none is empty, the numbers are a shape, and it isn't [`RenewAllRefusal::Mixed`],
+    /// it comes exactly then.
     Missing,
-    /// Two of the handles are of different sets in memory (`Member::is_beside` of `vbr_set`). It is a probe: no contract
-    /// says when it comes, but that none is empty and they are as many as were opened with the set.
+    /// Two of the handles are of different sets in memory (`Member::is_beside` of `vbr_set`). It is a
+    /// probe: a contract says only that then none is empty and there are as many as were opened with
+    /// the set.
     Mixed,
-    /// There are more keys than slots of the shape. The report tells how many there are, and where there is no memory
-    /// for one, the balances of the members, added up.
+    /// There are more keys than slots of the shape. The keys are counted by the report or, if there is
+    /// no memory for one, by the sum of the members' balances.
     Room,
     /// There is no memory, and there are no more keys than slots.
     Memory,
 }
 
-/// Lets all handles of a set, in any order, go on over a fresh one of these numbers, with the keys that were
-/// in it, each with the fresh pass of its place. It asks that all are of one set. So it is of a map, whose
-/// entries keep their values.
+/// Moves all handles of a set, in any order, to a fresh one of these numbers with the keys that were in
+/// it, each with the fresh pass of its place. All must be of one set. Likewise for a map, whose keys
+/// keep their values.
 pub fn renew_all<N: Kind, I: Listed<N>, H: HandleOf<N>>(
     alloc: Global,
     handles: &mut [H],

@@ -16,7 +16,7 @@ pub struct ReportNumbers {
 }
 
 impl ReportNumbers {
-    // Those of a report, of a set or of a map.
+    // The numbers of a report, of a set or of a map.
     pub(crate) fn new(epoch: u64, live: u32, marked: u32, free: u32) -> ReportNumbers
         ensures { result ≡ record { epoch = epoch; live = live; marked = marked; free = free } }
     {

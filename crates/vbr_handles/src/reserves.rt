@@ -6,11 +6,12 @@ use crate::coded_calls::topping_up::reserve_of;
 use vbr_set::member::Member;
 use vbr_words::Nodes;
 
-/// Handles take their reserve at the opening where there are so many slots for each: as many as each may keep.
+/// Handles take their reserve at the opening if there are so many slots for each: as many as each may
+/// keep.
 pub const SHARE: u32 = 64;
 
-/// These members, which are fresh, once each has taken its reserve: in as many tries as it is to have slots, so in
-/// up to 32. Where the set has fewer than [`SHARE`] slots for each they are as they were.
+/// Returns these fresh members once each has taken its reserve, in as many tries as it is to have
+/// slots, so in up to 32. If the set has fewer than [`SHARE`] slots for each, they are as they were.
 pub(crate) fn with_reserves<N: Nodes>(members: Vec<Member<N>>) -> Vec<Member<N>>
     ensures { StartWithReserves members.items result.items }
 {

@@ -91,7 +91,6 @@ pub use Rattle.vbr_at_table.specs.hands.KeptSlots.{HasAllButOne, HasStill, HasUn
 pub use Rattle.vbr_at_table.specs.hands.KeptSlots.{StaysInTurn, TakesNoSlot, TriesNoFlag, TriesOnlyWhere}
 pub use Rattle.vbr_at_table.specs.hands.KeptSlots.{TriesWhereEmpty}
 pub use Rattle.vbr_at_table.specs.hands.KeptSlots.{WinsInNeed}
-pub use Rattle.vbr_at_table.specs.reads.DecidedKeys.{DecidesKey}
 pub use Rattle.vbr_at_table.specs.answers.Marks.{LeavesOthers}
 pub use Rattle.vbr_at_table.specs.reads.Moments.{IsNext, IsRead, Stood, WasEntry, WasSo}
 pub use Rattle.vbr_at_table.specs.reads.Reading.{IsHeadRead, IsKeyRead, ReadsIn, RollsBack}

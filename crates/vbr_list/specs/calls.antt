@@ -1,4 +1,4 @@
--- What every call tells: its answer, its refusals and its steps.
+-- What every call promises: its answer, its refusals and its steps.
 pub mod Budgets
 pub mod Refusals
 pub mod LoneReplies

@@ -1,5 +1,6 @@
 -- Calls that change the list: inserts, removes and stores.
 pub mod Wanted
+pub mod Outcomes
 pub mod Expecting
 pub mod Inserting
 pub mod Preparing

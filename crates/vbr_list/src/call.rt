@@ -5,9 +5,9 @@ ghost use Rattle.vbr_words.specs.Buckets.{bucket_of};
 use vbr_slots::{AtTable, Slots};
 use vbr_words::{Keys, Nodes};
 
-/// A call in progress: the pass at its table, for which key, in what bucket that is, and how many
-/// steps of its budget are used. Its methods are the pieces of calls. Nothing counts its steps in the
-/// pass until it ends.
+/// A call in progress: the pass at its table, the key, the key's bucket, and how many steps of the
+/// budget are used. Its methods are the pieces of calls. Its steps aren't counted in the pass until it
+/// ends.
 #[derive(Drop)]
 pub(crate) struct PendingCall<'c, N: Nodes = Keys> {
     pub(crate) at: AtTable<'c, N>,
@@ -29,8 +29,8 @@ pub(crate) fn bucket_at<N: Nodes>(slots: &Slots<N>, key: u64) -> u32
     slots.shape().bucket_of(key)
 }
 
-/// Begins a call for a key at a table, by what makes the steps of its pass, with a budget of which so many
-/// steps are used before. It is a macro since a function can't hand on in a call what it was lent.
+/// Begins a call for a key at a table, by what makes the steps of its pass, with a budget of which so
+/// many steps are already used. It is a macro because a function can't lend on what it was lent.
 macro_rules! begin {
     ($slots:expr, $stepper:expr, $key:expr, $budget:expr, $used:expr) => {
         $crate::call::PendingCall {

@@ -5,8 +5,8 @@ ghost use Rattle.vbr_list.specs.look_ups.Cursors.{IsBehindKey, first_cursor, nex
 use crate::seeking::NextNode;
 
 /// Where an iteration over all keys stands: in which bucket, and from which number on. Buckets come in
-/// their order, and the keys of a bucket ascend. It is plain: it can be copied, kept, and made by hand, and
-/// it is of no table.
+/// their order, and the keys of a bucket ascend. It is plain: it can be copied, kept, and made by hand,
+/// and it belongs to no table.
 #[derive(Clone, Copy, Debug, PartialEq, Eq, Hash)]
 #[repr(C)]
 pub struct Cursor {
@@ -61,8 +61,8 @@ impl Cursor {
         }
     }
 
-    // Past a node of the bucket: before the next bucket where it was the last of its list, else right behind
-    // its key.
+    // Past a node of the bucket: before the next bucket if it was the last of its list, else right
+    // behind its key.
     #[inline]
     pub(crate) fn past(self, node: NextNode) -> Cursor
         requires { self.bucket + 1 < 2 ^ 32 }

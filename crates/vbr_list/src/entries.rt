@@ -18,8 +18,8 @@ use vbr_at_table::{Held, Refusal, Rollback, birth_shown};
 use vbr_slots::{AtTable, Pass, Slots, Stepper};
 use vbr_words::{At, Entries, Nodes};
 
-/// An entry as a call found it: the slot of its node, the birth of that node, and the value that is stored
-/// there; 0 in a set. It is good for its table alone, until that is closed or renewed.
+/// An entry as a call found it: the slot of its node, the birth of that node, and the value stored
+/// there, or 0 in a set. It is valid only for its table, until that is closed or renewed.
 #[derive(Clone, Copy, Debug, PartialEq, Eq)]
 pub struct Entry {
     /// The slot.
@@ -31,7 +31,7 @@ pub struct Entry {
 }
 
 impl Entry {
-    // The same entry with no value.
+    // The same entry with the value 0.
     #[inline(always)]
     pub(crate) fn bare(self) -> Entry
         ensures { result ≡ without_value self }
@@ -84,7 +84,7 @@ pub(crate) fn is_node_of(found: &Found, entry: &Entry) -> bool
 }
 
 impl<N: Nodes> PendingCall<'_, N> {
-    // Answers a look-up, or a get, by what it came to, and gives the entry.
+    // Answers a look-up, or a get, by what it came to, and returns the entry.
     #[inline(always)]
     fn settle_entry(&mut self, gives: bool, sight: Sight) -> Result<Option<Entry>, Rollback>
         requires sight { IsSightFor self.old (wide_sight self.old sight) }
@@ -110,11 +110,10 @@ impl<N: Nodes> PendingCall<'_, N> {
     }
 }
 
-/// As [`crate::get`]: gives the entry of a key, if the key is there, with its value. At the step that answers
-/// the call its node was in the map.
+/// Like [`crate::get`], but returns the entry of a key, if the key is there, with its value. Its node
+/// was in the map at the step that answers the call.
 ///
-/// It makes the steps of a get, all of them loads, and its refusal and the budgets that are enough are the
-/// same.
+/// It makes the same steps as a get, all of them loads, with the same refusal and budgets.
 pub fn get_entry(
     slots: &Slots<Entries>,
     pass: &mut Pass,
@@ -136,11 +135,11 @@ pub fn get_entry(
     )
 }
 
-/// As [`crate::has`], at a set: gives the entry of a key, if the key is there, with the value 0. At the
-/// step that answers the call its node was in the set.
+/// Like [`crate::has`] of a set, but returns the entry of a key, if the key is there, with the value 0.
+/// Its node was in the set at the step that answers the call.
 ///
-/// It makes the steps of a look-up, all of them loads. Its refusal and the budget that is enough are the
-/// same, 5n + 11 with n nodes in the key's bucket, and what is answered took at most 5n + 4 steps.
+/// It makes the same steps as a look-up, all of them loads, with the same refusal. The same budget is
+/// enough, 5n + 11 with n nodes in the key's bucket, and an answered call took at most 5n + 4 steps.
 pub fn has_entry(
     slots: &Slots,
     pass: &mut Pass,
@@ -159,7 +158,7 @@ pub fn has_entry(
     )
 }
 
-// The look-up of a key, or the get, which gives its entry; and how many steps were made.
+// The look-up or the get of a key, which returns its entry, and the number of steps made.
 #[inline(always)]
 fn get_entry_by<N: Nodes>(
     slots: &Slots<N>,
@@ -189,9 +188,9 @@ fn get_entry_by<N: Nodes>(
     }
 }
 
-/// Whether the slot of an entry shows its birth still, in one step, a load. Where it does, the slot was the
-/// entry's own until that step, and no pass had it in hand; else it was handed out anew. A slot that isn't
-/// one of the shape shows none, and no step is made.
+/// Whether the slot of an entry still shows its birth, in one step, a load. If it does, the slot was
+/// the entry's own until that step, and no pass had it in hand; otherwise it was handed out anew. A
+/// slot outside the shape shows none, and then no step is made.
 #[inline]
 pub fn is_still<N: Nodes>(slots: &Slots<N>, pass: &mut Pass, entry: &Entry) -> bool
     requires own { IsOf pass.old.trace slots.now }

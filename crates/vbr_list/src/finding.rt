@@ -17,7 +17,7 @@ use vbr_slots::{Pass, Slots, Stepper};
 use vbr_words::Nodes;
 
 impl<N: Nodes> PendingCall<'_, N> {
-    /// Traverses until it comes to the key; none where the budget has no room for one more piece.
+    /// Traverses until it comes to the key; none if the budget has no room for one more piece.
     #[inline(always)]
     pub(crate) fn search(&mut self) -> Option<Found>
         ensures goes { GoesOn self.old self.new }
@@ -35,7 +35,7 @@ impl<N: Nodes> PendingCall<'_, N> {
         }
     }
 
-    /// As `search`, with room in the budget for one more piece then.
+    /// Like `search`, and the budget then has room for one more piece.
     #[inline(always)]
     pub(crate) fn reach(&mut self) -> Option<Found>
         ensures goes { GoesOn self.old self.new }
@@ -52,14 +52,13 @@ impl<N: Nodes> PendingCall<'_, N> {
     }
 }
 
-/// Finds where a key stands, or would stand, in the list of its bucket, in at most `budget` steps:
-/// the last unmarked place before it, and the node behind that, which both stood so at moments of
-/// the call. It unlinks and retires the marked nodes that it meets, and makes no call. The own pool
-/// has what it had then, each slot that the pass could take, and what the call unlinked while it had
-/// room.
+/// Finds where a key stands, or would stand, in the list of its bucket, in at most `budget` steps: the
+/// last unmarked place before it, and the node behind that, which both stood so at moments of the call.
+/// It unlinks and retires the marked nodes that it meets, and makes no call. The own pool then has what
+/// it had, each slot that the pass could take, and what the call unlinked while it had room.
 ///
-/// OutOfSteps is its one refusal. While the other passes stand still, a budget of 9n + 11 is enough,
-/// with n nodes in the key's bucket, and what is found took at most 9n + 3 steps.
+/// Its only refusal is OutOfSteps. While the other passes stand still, a budget of 9n + 11 is enough,
+/// with n nodes in the key's bucket, and a find takes at most 9n + 3 steps.
 pub fn find<N: Nodes>(
     slots: &Slots<N>,
     pass: &mut Pass,
@@ -82,7 +81,7 @@ pub fn find<N: Nodes>(
     )
 }
 
-// As `find`, where no step is counted; and how many steps were made.
+// Like `find`, but the pass counts no step; also returns the number of steps.
 fn find_by<N: Nodes>(
     slots: &Slots<N>,
     stepper: &mut Stepper,

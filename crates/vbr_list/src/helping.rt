@@ -9,8 +9,8 @@ use vbr_at_table::{Held, Marked, Rollback, retire, steps_to_unlink, unlink};
 use vbr_slots::{AtTable, Slots, Stepper};
 use vbr_words::Nodes;
 
-/// Unlinks a marked node behind a place and retires it: gives the place with its new link, and how
-/// many steps it made, one to six.
+/// Unlinks a marked node behind a place and retires it; returns the place with its new link, and the
+/// number of steps made, one to six.
 #[inline(always)]
 pub(crate) fn unlink_and_retire<N: Nodes>(
     at: &mut AtTable<'_, N>,
@@ -41,7 +41,7 @@ pub(crate) fn unlink_and_retire<N: Nodes>(
     }
 }
 
-/// As [`unlink_and_retire`], for a traversal that goes on from the place: it rolls back too where the
+/// Like [`unlink_and_retire`], for a traversal that goes on from the place: it also rolls back if the
 /// epoch has moved since.
 #[inline(always)]
 pub(crate) fn help<N: Nodes>(
@@ -73,7 +73,7 @@ pub(crate) fn help<N: Nodes>(
     }
 }
 
-// As `help`, in a function of its own.
+// Like `help`, in a function of its own.
 #[inline(never)]
 fn help_apart<N: Nodes>(
     slots: &Slots<N>,
@@ -93,7 +93,7 @@ fn help_apart<N: Nodes>(
     help(&mut AtTable { slots, stepper }, &pred, marked)
 }
 
-/// As [`help`], by what makes the steps, which is lent, so that a traversal that meets no marked node has
+/// Like [`help`], but what makes the steps is lent, so that a traversal that meets no marked node keeps
 /// all of its own in registers.
 #[inline(always)]
 pub(crate) fn help_by_copy<N: Nodes>(

@@ -19,7 +19,7 @@ use vbr_at_table::{Hand, Refusal, take};
 use vbr_slots::{AtTable, Pass, Slots, Stepper};
 use vbr_words::{Entries, Nodes};
 
-/// Why a slot in hand wasn't published. It is in hand still.
+/// Why a slot in hand wasn't published. It is still in hand.
 #[derive(Clone, Copy, Debug, PartialEq, Eq)]
 pub enum StillInHand {
     /// The key is there: the insert was answered no.
@@ -44,8 +44,8 @@ impl Unstored {
     }
 }
 
-/// Takes a slot in hand, in at most `budget` steps: it is born in then, and in the hand of this pass alone
-/// until it is published or let go. It is taken as an insert takes one, with the refusals of
+/// Takes a slot in hand, in at most `budget` steps. It is then born in, and in the hand of this pass
+/// alone until it is published or let go. It is taken as an insert takes one, with the refusals of
 /// [`vbr_at_table::take`].
 pub fn hold<N: Nodes>(slots: &Slots<N>, pass: &mut Pass, budget: u32) -> Result<Hand, Refusal>
     requires own { IsOf pass.old.trace slots.now }
@@ -62,7 +62,7 @@ pub fn hold<N: Nodes>(slots: &Slots<N>, pass: &mut Pass, budget: u32) -> Result<
     )
 }
 
-/// Puts a slot that is in hand back into the own pool; it is no step.
+/// Puts a slot that is in hand back into the own pool, without a step.
 #[inline]
 pub fn let_go(pass: &mut Pass, hand: Hand)
     requires hand { HasHandAndRoom pass.old hand }
@@ -71,7 +71,7 @@ pub fn let_go(pass: &mut Pass, hand: Hand)
     hand.go_back(pass);
 }
 
-/// Why a slot in hand didn't take the place of an entry. It is in hand still, and no call was made.
+/// Why a slot in hand didn't take the place of an entry. It is still in hand, and no call was made.
 #[derive(Clone, Copy, Debug, PartialEq, Eq)]
 pub enum NotReplaced {
     /// The key is absent, or another entry is there.
@@ -84,8 +84,8 @@ pub enum NotReplaced {
 }
 
 impl<N: Nodes> PendingCall<'_, N> {
-    // Puts the slot in hand in the place of this entry, and of no other; else, and where the budget has no
-    // room for one more piece, the hand comes back.
+    // Puts the slot in hand in the place of this entry, and of no other. Otherwise, or if the budget
+    // has no room for one more piece, the hand comes back.
     #[inline(always)]
     fn replace_entry(
         &mut self,
@@ -123,12 +123,12 @@ impl<N: Nodes> PendingCall<'_, N> {
 }
 
 /// Adds a key to the set by a slot that the pass has in hand, in at most `budget` steps: this very slot
-/// becomes the node of the key, with the birth that it has in hand. Where the key is there, the insert is
-/// answered no, and the slot stays in hand; so it does where the steps don't suffice, and then no call was
-/// made. The call takes no slot, and searches as [`crate::insert`] does with one in hand.
+/// becomes the node of the key, with the birth that it has in hand. If the key is there, the insert is
+/// answered no, and the slot stays in hand. It also stays if the steps don't suffice, and then no call
+/// was made. The call takes no slot, and searches as [`crate::insert`] does with one in hand.
 ///
-/// While the other passes stand still, a budget of 9n + 11 is enough, with n nodes in the key's bucket, and
-/// what is answered took at most 9n + 6 steps, with a value one more.
+/// While the other passes stand still, a budget of 9n + 11 is enough, with n nodes in the key's bucket,
+/// and an answered call took at most 9n + 6 steps, with a value one more.
 pub fn insert_held(
     slots: &Slots,
     pass: &mut Pass,
@@ -150,8 +150,8 @@ pub fn insert_held(
     )
 }
 
-/// As [`insert_held`], at a table whose nodes have values: this value is stored with the key, in one step
-/// more.
+/// Like [`insert_held`], at a table whose nodes have values: this value is stored with the key, in one
+/// step more.
 pub fn insert_entry_held(
     slots: &Slots<Entries>,
     pass: &mut Pass,
@@ -174,16 +174,16 @@ pub fn insert_entry_held(
     )
 }
 
-/// Puts the slot in hand in the place of an entry of the key, and of no other, with this value, in at most
-/// `budget` steps: in the history the key is removed with the value that it had, and inserted with this one,
-/// next to each other. The node that was replaced is the entry's, and is then out of its list, unless less
-/// than a piece is left of the budget. The call takes no slot.
+/// Puts the slot in hand in the place of an entry of the key, and of no other, with this value, in at
+/// most `budget` steps. In the history the key is removed with the value that it had, and inserted with
+/// this one, next to each other. The node that was replaced is the entry's, and is then out of its
+/// list, unless less than a piece is left of the budget. The call takes no slot.
 ///
-/// [`NotReplaced::Other`] comes where at a moment of the call the key was absent, or its node was another
-/// than the entry's; [`NotReplaced::OutOfSteps`] where the steps don't suffice. Then the slot stays in hand,
-/// and no call was made. While the other passes stand still, a budget of 9n + 11 is enough, with n nodes in
-/// the key's bucket, and with eight more the old node has left its list; a replacement takes at most 9n + 17
-/// steps, and the answer that another is there 9n + 3.
+/// [`NotReplaced::Other`] means that at a moment of the call the key was absent, or its node wasn't the
+/// entry's; [`NotReplaced::OutOfSteps`] that the steps didn't suffice. Then the slot stays in hand, and
+/// no call was made. While the other passes stand still, a budget of 9n + 11 is enough, with n nodes in
+/// the key's bucket, and with eight more the old node has left its list. A replacement takes at most
+/// 9n + 17 steps, and the answer that another is there 9n + 3.
 pub fn replace_held(
     slots: &Slots<Entries>,
     pass: &mut Pass,
@@ -209,14 +209,15 @@ pub fn replace_held(
     )
 }
 
-/// Gives a key a value by the slot in hand, whether the key is there or not, in at most `budget` steps, and
-/// gives the value that it had, or none where it was absent. This very slot becomes the node of the key, with
-/// the birth that it has in hand. Where the key was absent that is an insert in the history; else the key is
-/// removed with the value that it had, and inserted with this one, next to each other, and the node that was
-/// replaced is out of its list, unless less than a piece is left of the budget. The call takes no slot.
+/// Gives a key a value by the slot in hand, whether the key is there or not, in at most `budget` steps.
+/// Returns the value that the key had, or none if it was absent. This very slot becomes the node of the
+/// key, with the birth that it has in hand. If the key was absent, that is an insert in the history.
+/// Otherwise the key is removed with the value that it had, and inserted with this one, next to each
+/// other. The replaced node is then out of its list, unless less than a piece is left of the budget.
+/// The call takes no slot.
 ///
-/// Its one refusal is want of steps: the hand comes back, with the number of steps that were made, and no
-/// call was made. The budgets that are enough and the costs are those of [`replace_held`].
+/// Its only refusal is for want of steps: the hand comes back, with the number of steps made, and no
+/// call was made. Budgets and costs are as for [`replace_held`].
 pub fn put_held(
     slots: &Slots<Entries>,
     pass: &mut Pass,
@@ -241,7 +242,7 @@ pub fn put_held(
     )
 }
 
-// As `put_held`, where no step is counted; and how many steps were made.
+// Like `put_held`, but the pass counts no step; also returns the number of steps.
 fn put_held_by<N: Nodes>(
     slots: &Slots<N>,
     stepper: &mut Stepper,
@@ -267,7 +268,7 @@ fn put_held_by<N: Nodes>(
     }
 }
 
-// As `replace_held`, where no step is counted; and how many steps were made.
+// Like `replace_held`, but the pass counts no step; also returns the number of steps.
 fn replace_held_by<N: Nodes>(
     slots: &Slots<N>,
     stepper: &mut Stepper,
@@ -290,7 +291,7 @@ fn replace_held_by<N: Nodes>(
     (outcome, call.used)
 }
 
-// As `insert_entry_held`, where no step is counted; and how many steps were made.
+// Like `insert_entry_held`, but the pass counts no step; also returns the number of steps.
 fn insert_held_by<N: Nodes>(
     slots: &Slots<N>,
     stepper: &mut Stepper,

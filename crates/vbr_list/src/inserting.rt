@@ -13,18 +13,18 @@ use vbr_at_table::{Refusal, give_back};
 use vbr_slots::{Pass, Slots, Stepper};
 use vbr_words::{Entries, Nodes};
 
-/// Adds a key to the set, in at most `budget` steps, and says whether it was absent. It takes a slot
-/// only once it has found the key absent, and traverses anew with it. The answer's point is one step:
-/// the publication of the new node, or a load that finds the link of the key's node as it was read.
-/// A slot that is left over goes back to the own pool, and whatever the call unlinked is retired when
-/// it ends, answered or not, into the own pool while that has room. It advances the epoch at most once, and only
-/// where no slot that it could take is stamped below the epoch that it read.
+/// Adds a key to the set, in at most `budget` steps, and returns whether it was absent. It takes a slot
+/// only once it has found the key absent, and traverses anew with it. The call takes effect at one
+/// step: the publication of the new node, or a load that finds the link of the key's node as it was
+/// read. A slot that is left over goes back to the own pool, and what the call unlinked is retired when
+/// it ends, answered or not, into the own pool while that has room. It advances the epoch at most once,
+/// and only if no slot that it could take is stamped below the epoch that it read.
 ///
-/// Its refusals are OutOfSteps, and, where the key was absent, NoSlot and EpochSpent. While the other
-/// passes stand still, a budget of 18n + 82 is enough, or of 18n + w + 20 if that is more, with n nodes in
-/// the key's bucket and w = slots / 64, rounded up; and what is answered took at most 18n + 77 steps, or
-/// 18n + w + 15. With a slot in the pass's own pool and 18n + 82 steps it is then answered, unless the epoch
-/// is spent, and took at most 18n + 77.
+/// Its refusals are OutOfSteps and, if the key was absent, NoSlot and EpochSpent. While the other
+/// passes stand still, a budget of 18n + 82 is enough, or of 18n + w + 20 if that is more, with n nodes
+/// in the key's bucket and w = slots / 64, rounded up. An answered call took at most 18n + 77 steps, or
+/// 18n + w + 15. With a slot in the pass's own pool and 18n + 82 steps it is then answered, unless the
+/// epoch is spent, and took at most 18n + 77.
 pub fn insert(slots: &Slots, pass: &mut Pass, key: u64, budget: u32) -> Result<bool, Refusal>
     requires own { IsOf pass.old.trace slots.now }
     requires empty_hand { pass.old.hand ≡ None }
@@ -39,11 +39,10 @@ pub fn insert(slots: &Slots, pass: &mut Pass, key: u64, budget: u32) -> Result<b
     )
 }
 
-/// As [`insert`], at a table whose nodes have values: puts an entry, a key with its value, into the
-/// map, and says whether the key was absent. Where it was there, its value stays. The value is stored
-/// before the node is published, in one step more than an insert makes, and is fixed from then on. Its
-/// refusals and the budgets that are enough are those of [`insert`]; what is answered took at most one
-/// step more.
+/// Like [`insert`], at a table whose nodes have values: puts an entry, a key with its value, into the
+/// map, and returns whether the key was absent. If it was there, its value stays. The value is stored
+/// before the node is published, in one step more than an insert makes, and is fixed from then on.
+/// Refusals and budgets are as for [`insert`]; an answered call took at most one step more.
 pub fn insert_entry(
     slots: &Slots<Entries>,
     pass: &mut Pass,
@@ -65,8 +64,8 @@ pub fn insert_entry(
     )
 }
 
-// The insert of a key, with its value where nodes have values; and how many steps were made. With a slot in
-// hand it searches anew, and links the slot, or gives it back where the key has come meanwhile.
+// The insert of a key, with its value if nodes have values, and the number of steps made. With a slot
+// in hand it searches anew, and links the slot, or gives it back if the key has come meanwhile.
 fn insert_by<N: Nodes>(
     slots: &Slots<N>,
     stepper: &mut Stepper,

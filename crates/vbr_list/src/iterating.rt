@@ -13,23 +13,25 @@ use vbr_at_table::Refusal;
 use vbr_slots::{AtTable, Pass, Slots};
 use vbr_words::{Entries, Keys, Nodes};
 
-/// The next key at a cursor, in at most `budget` steps; none after the last one. The cursor is then right
-/// after that key, or before the next bucket where its node was the last of its list. Buckets come in their
-/// order, and the keys of a bucket ascend.
+/// The next key at a cursor, in at most `budget` steps; none after the last one. The cursor is then
+/// right after that key, or before the next bucket if its node was the last of its list. Buckets come
+/// in their order, and the keys of a bucket ascend.
 ///
-/// The key was there at a moment of the call, and each other key that the cursor has passed by was absent at
-/// a moment of the call. So call after call, whatever other threads do meanwhile, and whatever other calls
-/// the pass makes in between, each key that is there all the while is given just once, and none twice.
+/// The key was there at a moment of the call, and each other key that the cursor passed was absent at a
+/// moment of the call. So call after call, whatever other threads do meanwhile, and whatever other
+/// calls the pass makes in between, each key that is there all the while is given exactly once, and no
+/// key twice.
 ///
 /// It makes no call, and all its steps are loads, three for each bucket that it enters.
 ///
-/// OutOfSteps is its one refusal. The cursor keeps how far it has come: the budget was used up by the buckets
-/// that it has gone over and the one where it stands. While the other passes stand still, a budget of 5n + 11,
-/// with n nodes in the cursor's bucket, is enough to give a key or to come at least to the next bucket, and
-/// what is given took at most 5n + 3 steps for each bucket that it went through, or 5n + 5 with values. Where
-/// others disturb the pass m times at a bucket during the call, that is (m + 1)(5(n + m) + 11), and at most
-/// (m + 1)(5(n + m) + 3) for the bucket, or (m + 1)(5(n + m) + 5) with values. An advance of the epoch sends
-/// it back in one of its buckets alone.
+/// Its only refusal is OutOfSteps. The cursor keeps how far it has come: the budget was used up by the
+/// buckets that it has gone over and the one where it stands. While the other passes stand still, a
+/// budget of 5n + 11, with n nodes in the cursor's bucket, is enough to give a key or to come at least
+/// to the next bucket. Giving a key takes at most 5n + 3 steps for each bucket that it went through, or
+/// 5n + 5 with values. If others disturb the pass m times at a bucket during the call, a budget of
+/// (m + 1)(5(n + m) + 11) is enough there, and it takes at most (m + 1)(5(n + m) + 3) for the bucket,
+/// or (m + 1)(5(n + m) + 5) with values. An advance of the epoch sends it back in only one of its
+/// buckets.
 pub fn next_key_at<N: Nodes>(
     slots: &Slots<N>,
     pass: &mut Pass,
@@ -46,8 +48,8 @@ pub fn next_key_at<N: Nodes>(
     }
 }
 
-/// As [`next_key_at`], at a table whose nodes have values: the key with the value that it had at a moment of
-/// the call at which it was there.
+/// Like [`next_key_at`], at a table whose nodes have values: the key with the value that it had at a
+/// moment of the call when it was there.
 pub fn next_entry_at(
     slots: &Slots<Entries>,
     pass: &mut Pass,
@@ -61,8 +63,8 @@ pub fn next_entry_at(
     next_where_at(slots, pass, cursor, budget)
 }
 
-/// As [`next_key_at`], for what serves tables of both kinds: the key with its value where nodes have values,
-/// and with 0 where they have none.
+/// Like [`next_key_at`], for tables of both kinds: the key with its value if nodes have values, and
+/// with 0 if they have none.
 pub fn next_where_at<N: Nodes>(
     slots: &Slots<N>,
     pass: &mut Pass,
@@ -82,7 +84,8 @@ pub fn next_where_at<N: Nodes>(
     next
 }
 
-// As `next_where_at`, where no step is counted; where the cursor is then; and how many steps were made.
+// Like `next_where_at`, but the pass counts no step; also returns the cursor then and the number of
+// steps.
 fn iterate_where<N: Nodes>(
     at: &mut AtTable<'_, N>,
     cursor: Cursor,
@@ -101,8 +104,8 @@ fn iterate_where<N: Nodes>(
     }
 }
 
-/// As [`next_key_at`], at a set: the key with the entry that was there at a moment of the call, with the
-/// value 0. Its steps, its refusal and the budgets that are enough are the same.
+/// Like [`next_key_at`], at a set: the key with the entry that was there at a moment of the call, with
+/// the value 0. Steps, refusal and budgets are the same.
 pub fn next_named_key_at(
     slots: &Slots,
     pass: &mut Pass,
@@ -122,7 +125,8 @@ pub fn next_named_key_at(
     next
 }
 
-// As `next_named_key_at`, where no step is counted; where the cursor is then; and how many steps were made.
+// Like `next_named_key_at`, but the pass counts no step; also returns the cursor then and the number of
+// steps.
 fn iterate_named_keys(
     at: &mut AtTable<'_, Keys>,
     cursor: Cursor,
@@ -141,8 +145,8 @@ fn iterate_named_keys(
     }
 }
 
-/// As [`next_entry_at`]: the key with the entry that was there at a moment of the call, and had this value
-/// then. Its steps, its refusal and the budgets that are enough are the same.
+/// Like [`next_entry_at`], but returns the key with the entry that was there at a moment of the call,
+/// and had this value then. Steps, refusal and budgets are the same.
 pub fn next_named_entry_at(
     slots: &Slots<Entries>,
     pass: &mut Pass,
@@ -163,7 +167,8 @@ pub fn next_named_entry_at(
     next
 }
 
-// As `next_named_entry_at`, where no step is counted; where the cursor is then; and how many steps were made.
+// Like `next_named_entry_at`, but the pass counts no step; also returns the cursor then and the number
+// of steps.
 fn iterate_named_entries(
     at: &mut AtTable<'_, Entries>,
     cursor: Cursor,
@@ -184,7 +189,8 @@ fn iterate_named_entries(
     }
 }
 
-// Goes from bucket to bucket until it finds a node; where the cursor is then; and how many steps were made.
+// Goes from bucket to bucket until it finds a node; also returns the cursor then and the number of
+// steps.
 #[inline(always)]
 fn iterate<N: Nodes>(
     at: &mut AtTable<'_, N>,

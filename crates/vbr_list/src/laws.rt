@@ -11,8 +11,8 @@ pub fn an_iteration_begins()
     ensures { (p : Trace) → HasGiven p p first_cursor [] }
 {}
 
-/// A law: what an iteration has given stays so while the pass makes other calls, and while others make
-/// theirs.
+/// A law: what an iteration has given stays true while the pass makes other calls, and while others
+/// make theirs.
 pub fn an_iteration_waits()
     ensures { (p q r : Trace) (c : Cursor) (keys : List ℕ) →
         HasGiven p q c keys → SeesMore q r → HasGiven p r c keys }

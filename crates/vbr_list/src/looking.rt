@@ -1,6 +1,6 @@
-//! Looking for a key by loads alone. Marked nodes are passed by their links: behind an unmarked link
-//! that stands they are marked for good, and their links don't change, so where they lead the list
-//! goes on.
+//! Looking for a key by loads alone. Marked nodes are passed by their links. Behind an unmarked link
+//! that stands they are marked for good, and their links don't change, so the list goes on where they
+//! lead.
 ghost use Rattle.std.specs.Prelude.{◌≡◌, IfOk, IfErr, IfSome, IfNone};
 ghost use Rattle.vbr_at_table.specs.reads.Held.{held_of};
 ghost use Rattle.vbr_list.specs.look_ups.LookUpPieces.{LookTires, Sees, TraversalStops, TraversesTo};
@@ -76,8 +76,8 @@ impl<N: Nodes> PendingCall<'_, N> {
         Ok(Sight::Absent(pred))
     }
 
-    /// Traverses so until it comes to the key or to where it is absent; none where the budget has no room for
-    /// one more piece.
+    /// Traverses in this way until it comes to the key or to where it is absent; none if the budget has
+    /// no room for one more piece.
     #[inline(always)]
     pub(crate) fn search_past(&mut self) -> Option<Sight>
         ensures goes { GoesOn self.old self.new }

@@ -48,7 +48,8 @@ impl<N: Nodes> PendingCall<'_, N> {
         }
     }
 
-    // Answers a look-up with the node of the key, in one step, if its link still stands; it gives 0.
+    // Answers a look-up with the node of the key, in one step, if its link still stands; the value is
+    // 0.
     #[inline(always)]
     fn show_node(&mut self, node: &Held) -> Result<Option<u64>, Rollback>
         requires sight { IsSightFor self.old (Present (wide_held self.old node.now)) }
@@ -132,7 +133,7 @@ impl<N: Nodes> PendingCall<'_, N> {
     }
 }
 
-// The look-up that gives the value, or doesn't.
+// The look-up, with or without the value.
 #[inline(always)]
 fn look_up_op(gives: bool) -> Op
     ensures { result ≡ look_up_op gives }
@@ -140,16 +141,16 @@ fn look_up_op(gives: bool) -> Op
     if gives { Op::Get } else { Op::Has }
 }
 
-/// Whether a key is in the set, in at most `budget` steps. The answer's point is one load, which
-/// finds the link of the node, or of the last unmarked place before the key, as it was read. Each
-/// slot that the pass could take is in its own pool then.
+/// Returns whether a key is in the set, in at most `budget` steps. The call takes effect at one load,
+/// which finds the link of the node, or of the last unmarked place before the key, as it was read. Each
+/// slot that the pass could take is then in its own pool.
 ///
 /// All its steps are loads, so it writes nothing that another thread can see. It makes three steps to
 /// start, three for a marked node, which it passes by its link alone and leaves in its list, five for
 /// another, and one for the answer.
 ///
-/// OutOfSteps is its one refusal. While the other passes stand still, a budget of 5n + 11 is enough,
-/// with n nodes in the key's bucket, and what is answered took at most 5n + 4 steps.
+/// Its only refusal is OutOfSteps. While the other passes stand still, a budget of 5n + 11 is enough,
+/// with n nodes in the key's bucket, and an answered call took at most 5n + 4 steps.
 pub fn has<N: Nodes>(
     slots: &Slots<N>,
     pass: &mut Pass,
@@ -169,12 +170,12 @@ pub fn has<N: Nodes>(
     is_yes(answer)
 }
 
-/// As [`has`], at a table whose nodes have values: gives the value that is stored with a key, if the
-/// key is there, in two steps more. The answer's point is the same load, after the value was read in
-/// an epoch that stood.
+/// Like [`has`], at a table whose nodes have values: returns the value that is stored with a key, if
+/// the key is there, in two steps more. The call takes effect at the same load, after the value was
+/// read in an epoch that stood.
 ///
-/// OutOfSteps is its one refusal. While the other passes stand still, a budget of 5n + 11 is enough,
-/// with n nodes in the key's bucket, and what is answered took at most 5n + 6 steps.
+/// Its only refusal is OutOfSteps. While the other passes stand still, a budget of 5n + 11 is enough,
+/// with n nodes in the key's bucket, and an answered call took at most 5n + 6 steps.
 pub fn get(
     slots: &Slots<Entries>,
     pass: &mut Pass,
@@ -196,7 +197,7 @@ pub fn get(
     )
 }
 
-// The look-up of a key, which gives its value if it is to; and how many steps were made.
+// The look-up of a key, which returns its value if asked to, and the number of steps made.
 #[inline(always)]
 fn look_up<N: Nodes>(
     slots: &Slots<N>,

@@ -12,18 +12,20 @@ use vbr_at_table::Refusal;
 use vbr_slots::{AtTable, Pass, Slots};
 use vbr_words::{Entries, Nodes};
 
-/// The least key of a bucket that is no less than a number, in at most `budget` steps. It was there at a
-/// moment of the call, and each key of the bucket between the two was absent at a moment of the call;
-/// where there is none, so was each key of the bucket from the number on. So one call after another,
-/// each from behind the last key, gives each key of the bucket that is there all the while just once.
+/// The least key of a bucket that is no less than a number, in at most `budget` steps. It was there at
+/// a moment of the call, and each key of the bucket between the two was absent at a moment of the call.
+/// If there is none, each key of the bucket from the number on was absent at a moment of the call. So
+/// one call after another, each from behind the last key, gives each key of the bucket that is there
+/// all the while exactly once.
 ///
 /// It makes no call, and all its steps are loads, so it writes nothing that another thread can see. It
 /// makes three steps to start, three for a marked node, which it leaves in its list, five for another,
-/// and two more for the last one where nodes have values. It confirms nothing.
+/// and two more for the last one if nodes have values. It confirms nothing.
 ///
-/// OutOfSteps is its one refusal. While the other passes stand still, a budget of 5n + 11 is enough,
-/// with n nodes in the bucket, and what it returns took at most 5n + 3 steps, or 5n + 5 with values. A call
-/// that others disturb m times there makes at most m traversals more, each among at most n + m nodes.
+/// Its only refusal is OutOfSteps. While the other passes stand still, a budget of 5n + 11 is enough,
+/// with n nodes in the bucket, and what it returns took at most 5n + 3 steps, or 5n + 5 with values. A
+/// call that others disturb m times there makes at most m traversals more, each among at most n + m
+/// nodes.
 pub fn next_key<N: Nodes>(
     slots: &Slots<N>,
     pass: &mut Pass,
@@ -42,8 +44,8 @@ pub fn next_key<N: Nodes>(
     }
 }
 
-/// As [`next_key`], at a table whose nodes have values: the key with the value that it had at a moment of
-/// the call at which it was there.
+/// Like [`next_key`], at a table whose nodes have values: the key with the value that it had at a
+/// moment of the call when it was there.
 pub fn next_entry(
     slots: &Slots<Entries>,
     pass: &mut Pass,
@@ -63,8 +65,8 @@ pub fn next_entry(
     }
 }
 
-/// As [`next_key`], at a set: the key with the entry that was there at a moment of the call, with the
-/// value 0. It makes the steps of [`next_key`], and its refusal and the budgets that are enough are the same.
+/// Like [`next_key`], at a set: the key with the entry that was there at a moment of the call, with the
+/// value 0. Steps, refusal and budgets are the same.
 pub fn next_named_key(
     slots: &Slots,
     pass: &mut Pass,
@@ -83,8 +85,8 @@ pub fn next_named_key(
     }
 }
 
-/// As [`next_entry`]: the key with the entry that was there at a moment of the call, and had this value
-/// then. It makes the steps of [`next_entry`], and its refusal and the budgets that are enough are the same.
+/// Like [`next_entry`], but returns the key with the entry that was there at a moment of the call, and
+/// had this value then. Steps, refusal and budgets are the same.
 pub fn next_named_entry(
     slots: &Slots<Entries>,
     pass: &mut Pass,
@@ -126,7 +128,7 @@ fn seek<N: Nodes>(
     )
 }
 
-// As `seek`, where no step is counted; and how many steps were made.
+// Like `seek`, but the pass counts no step; also returns the number of steps.
 #[inline(always)]
 fn seek_by<N: Nodes>(
     at: &mut AtTable<'_, N>,

@@ -1,5 +1,5 @@
-//! What an insert or a store does before it changes anything: where the key is otherwise than it is
-//! wanted, it is answered; else it takes a slot.
+//! What an insert or a store does before it changes anything: if the key's state isn't the wanted one,
+//! the call is answered; otherwise it takes a slot.
 ghost use Rattle.std.specs.Prelude.{◌≡◌, false, None, IfOk, IfErr, IfNone, IfSome};
 ghost use Rattle.vbr_list.specs.updates.Inserting.{Prepares, TriesFor};
 ghost use Rattle.vbr_list.specs.calls.Pieces.{HasRoomForPiece, pass_in};
@@ -17,16 +17,17 @@ use vbr_words::Nodes;
 /// How a call without a slot in hand found its key.
 #[derive(Clone, Copy)]
 pub(crate) enum Met {
-    /// As it is wanted.
+    /// In the wanted state.
     AsWanted,
-    /// Otherwise, and it is answered: with what was there, whose value is 0 where none is given.
+    /// In another state, and the call is answered with what was there; its value is 0 if none is given.
     Otherwise(Option<u64>),
 }
 
 /// Why a call changed nothing at the place that it found.
 #[derive(Clone, Copy)]
 pub(crate) enum Unmet {
-    /// What is there isn't as it is wanted, and the call was answered with it, as by [`Met::Otherwise`].
+    /// The key's state isn't the wanted one, and the call was answered with it, as by
+    /// [`Met::Otherwise`].
     Otherwise(Option<u64>),
     /// What was found has changed since, and no call was made.
     Changed,
@@ -36,11 +37,11 @@ pub(crate) enum Unmet {
 pub(crate) enum Prepared {
     /// A slot in hand.
     Ready(Hand),
-    /// Its answer, which is that of [`Met::Otherwise`].
+    /// Its answer, as in [`Met::Otherwise`].
     Answered(Option<u64>),
 }
 
-// Whether a key is as it is wanted that is there, or isn't, whatever value it has.
+// Whether a present key, or an absent one, is in the wanted state, whatever value it has.
 #[inline(always)]
 fn has_wanted(wanted: Wanted, present: bool) -> bool
     ensures { result ≡ has_wanted wanted present }
@@ -54,8 +55,9 @@ fn has_wanted(wanted: Wanted, present: bool) -> bool
 }
 
 impl<N: Nodes> PendingCall<'_, N> {
-    /// Reads what was there: returns it where it is as wanted, and else answers a get with it. A call that gives
-    /// nothing wants the key absent, and reads nothing: it is answered no where the key is there.
+    /// Reads what was there: returns it if it is as wanted, and otherwise answers a get with it. A call
+    /// that gives nothing wants the key absent, and reads nothing: it is answered no if the key is
+    /// there.
     #[inline(always)]
     pub(crate) fn ask(
         &mut self,
@@ -94,8 +96,9 @@ impl<N: Nodes> PendingCall<'_, N> {
         Err(Unmet::Otherwise(there))
     }
 
-    // Looks for the key until it is found as it is wanted, or the call was answered, as it is otherwise;
-    // none where the budget has no room for one more piece. Where anything is wanted it makes no step.
+    // Looks for the key until it is found in the wanted state, or in another state and the call was
+    // answered; none if the budget has no room for one more piece. If anything is wanted it makes no
+    // step.
     #[inline(always)]
     fn meet(&mut self, wanted: Wanted, gives: bool) -> Option<Met>
         requires asked { GivesOrInserts gives wanted self.old }
@@ -127,8 +130,8 @@ impl<N: Nodes> PendingCall<'_, N> {
         }
     }
 
-    /// Takes a slot once the key was found as it is wanted; else the call is answered: a get with what was
-    /// there, or, where it gives nothing, an insert with no.
+    /// Takes a slot once the key was found in the wanted state. Otherwise the call is answered: a get
+    /// with what was there, or, if it gives nothing, an insert with no.
     #[inline(always)]
     pub(crate) fn prepare(&mut self, wanted: Wanted, gives: bool) -> Result<Prepared, Refusal>
         requires asked { GivesOrInserts gives wanted self.old }

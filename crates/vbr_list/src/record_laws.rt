@@ -14,7 +14,7 @@ ghost use Rattle.vbr_at_table.specs.answers.Records.{PublishesSlot};
 ghost use Rattle.vbr_list.specs.updates.Settling.{PublishedSlot};
 
 /// A law: a slot that a pass has in hand between two of its calls is in its hand alone, whatever others
-/// do meanwhile; and no entry that there ever was in the slot has the birth that it shows.
+/// do meanwhile; and no entry that ever was in the slot has the birth that it shows.
 pub fn a_held_slot_is_private()
     ensures { (p : PassView) (hand : HandView) (run : List Event) →
         PassLaw p → IsHandOf p hand → BeginsFor p.trace.who p.trace.seen run →
@@ -22,8 +22,8 @@ pub fn a_held_slot_is_private()
         IsInHandAlone p.trace.start run p.trace.who hand.slot hand.birth }
 {}
 
-/// A law: let a call take no slot, which begins with a slot in hand and publishes it, or leaves it there.
-/// Then the slot was in hand at each moment of the call until then.
+/// A law: let a call begin with a slot in hand, take no other, and publish it or leave it there. Then
+/// the slot was in hand at each moment of the call until then.
 pub fn a_slot_is_held_until_published()
     ensures published { (p q : PassView) (hand : HandView) (key : ℕ) (moment : List Event)
         (slot : PublishesSlot p.trace q.trace hand.slot hand.birth key) →

@@ -9,6 +9,7 @@ ghost use Rattle.vbr_list.specs.updates.Expecting.{CallsRemoveIf, removal_in, ta
 ghost use Rattle.vbr_list.specs.calls.CallBounds.{Calls, CallsAs, CallsRemove};
 ghost use Rattle.vbr_list.specs.traversals.Leaving.{BoundsOfRemove, Sweeps, WasClear};
 ghost use Rattle.vbr_list.specs.calls.Pieces.{Goes, GoesOn, HasRoomForPiece, Settles};
+ghost use Rattle.vbr_list.specs.updates.Outcomes.{ChangedAsWanted, ChangedIfExpected, there_in, there_of};
 ghost use Rattle.vbr_list.specs.updates.Removing.{Clears, IsMarkedFor, IsOut, LeavesWithRoom, MayExpect, RemoveAnswers, RemoveRollsBack, UnlinksOrSearches};
 ghost use Rattle.vbr_list.specs.named_entries.RemovingExactly.{RemovesExactly, RemovesKeyExactly, RemovesNodeExactly};
 ghost use Rattle.vbr_list.specs.traversals.Traversing.{LocatesFor};
@@ -19,16 +20,17 @@ use crate::call::{PendingCall, begin};
 use crate::entries::{Entry, is_node_of};
 use crate::found::Found;
 use crate::helping::unlink_and_retire;
+use crate::outcome::{Outcome, there_in};
 use crate::valuing::{is_yes, steps_to_value_of, value_if_any};
 use vbr_at_table::budget::affords;
 use vbr_at_table::{Held, Marked, Refusal, Rollback, mark};
 use vbr_slots::{AtTable, Pass, Slots, Stepper};
 use vbr_words::{Entries, Nodes};
 
-// Searches for the key as `find` does, with what is left of a budget, and so helps to unlink each marked
-// node that it meets: when it has come to the key, no marked node of the key was in a list at a moment,
-// but one that was replaced, and each that was removed before has left.
-// Gives how many steps are used then. Few removes lose their unlinking, so it is done apart from them.
+// Searches for the key as `find` does, with what is left of a budget, and so helps to unlink each
+// marked node that it meets. When it has come to the key, there was a moment when no marked node of the
+// key was in a list but a replaced one, and each that was removed before has left. Returns how many
+// steps are used then. Few removes lose their unlinking, so this is done apart from them.
 #[cold]
 #[inline(never)]
 fn search_apart<N: Nodes>(
@@ -52,8 +54,8 @@ fn search_apart<N: Nodes>(
     call.used
 }
 
-// As `search_apart`, at a table: what makes the steps is lent, so that a remove that wins its unlinking
-// has all of its own in registers.
+// Like `search_apart`, at a table: what makes the steps is lent, so that a remove that wins its
+// unlinking keeps all of its own in registers.
 #[inline(always)]
 fn search_on<N: Nodes>(at: &mut AtTable<'_, N>, key: u64, budget: u32, used: u32) -> u32
     requires within { used ≤ budget }
@@ -69,8 +71,8 @@ fn search_on<N: Nodes>(at: &mut AtTable<'_, N>, key: u64, budget: u32, used: u32
 }
 
 impl<N: Nodes> PendingCall<'_, N> {
-    // Unlinks and retires a node of the call's key that is marked; where that is lost, searches on until it
-    // is out of its list, by this pass or another.
+    // Unlinks and retires a marked node of the call's key; if that is lost, searches on until the node
+    // is out of its list, through this pass or another.
     #[inline(always)]
     pub(crate) fn unlink_marked(&mut self, pred: &Held, marked: Marked)
         requires marked { IsMarkedFor self.old (wide_held self.old pred.now)
@@ -90,21 +92,17 @@ impl<N: Nodes> PendingCall<'_, N> {
         }
     }
 
-    // Marks the node that was found, once its value was read where nodes have values: the key is
-    // removed, and nothing rolls back past that. Then takes the node out of its list, as far as the
-    // budget has room. Where another value is expected, it answers a get with the one that was read.
+    // Marks the node that was found, once its value was read if nodes have values: the key is removed,
+    // and nothing rolls back past that. Then takes the node out of its list, as far as the budget has
+    // room. If another value is expected, it answers a get with the one that was read.
     #[inline(always)]
-    fn mark_and_unlink(
-        &mut self,
-        found: &Found,
-        expected: Option<u64>,
-    ) -> Result<Option<u64>, Rollback>
+    fn mark_and_unlink(&mut self, found: &Found, expected: Option<u64>) -> Result<Outcome, Rollback>
         requires expects { MayExpect self.old expected }
         requires locates { LocatesFor self.old (wide_found self.old found.now) }
         requires present { found.now.present ≡ true }
         requires room { HasRoomForPiece self.old }
         ensures settles { Settles self.old self.new }
-        ensures some { IfOk result (λ answer. is_some answer ≡ true) }
+        ensures some { IfOk result (λ outcome. is_some (there_of outcome) ≡ true) }
         ensures answers { IfOk result
             (RemoveAnswers expected self.old self.new (wide_found self.old found.now)) }
         ensures rolls { IfErr result
@@ -119,7 +117,7 @@ impl<N: Nodes> PendingCall<'_, N> {
         let value = read?;
         if !takes_out(expected, value) {
             self.tell_found(found, Some(value))?;
-            return Ok(Some(value));
+            return Ok(Outcome::Unchanged(Some(value)));
         }
         let outcome = mark(&mut self.at, cur);
         self.used += 1;
@@ -127,16 +125,12 @@ impl<N: Nodes> PendingCall<'_, N> {
         if affords(self.budget, self.used) {
             self.unlink_marked(&found.pred, marked);
         }
-        Ok(Some(value))
+        Ok(Outcome::Changed(Some(value)))
     }
 
-    // Answers a remove by what was found; where a value is expected and none is there, a get.
+    // Answers a remove by what was found, or a get if a value is expected and none is there.
     #[inline(always)]
-    fn settle_remove(
-        &mut self,
-        found: &Found,
-        expected: Option<u64>,
-    ) -> Result<Option<u64>, Rollback>
+    fn settle_remove(&mut self, found: &Found, expected: Option<u64>) -> Result<Outcome, Rollback>
         requires expects { MayExpect self.old expected }
         requires locates { LocatesFor self.old (wide_found self.old found.now) }
         requires room { HasRoomForPiece self.old }
@@ -155,7 +149,7 @@ impl<N: Nodes> PendingCall<'_, N> {
         } else {
             self.answer_no(found)?;
         }
-        Ok(None)
+        Ok(Outcome::Unchanged(None))
     }
 }
 
@@ -170,16 +164,16 @@ fn takes_out(expected: Option<u64>, value: u64) -> bool
     }
 }
 
-/// Takes a key out of the set, in at most `budget` steps, and says whether it was there. The answer's
-/// point is one step: the mark of the node, or a load that finds the link of the last place before
-/// the key as it was read. The node that it marked has then left its list: where another comes
-/// between, the call goes on as [`crate::find`] does, until the node is out, unless less than a piece
-/// is left of the budget. Nothing rolls the answer back. Whatever the call unlinked is retired when it
-/// ends, answered or not, into the own pool while that has room; and each slot that the pass could
-/// take is in its own pool then.
+/// Takes a key out of the set, in at most `budget` steps, and returns whether it was there. The call
+/// takes effect at one step: the mark of the node, or a load that finds the link of the last place
+/// before the key as it was read. Nothing rolls the answer back. The node that it marked has left its
+/// list at the end: if another pass interferes, the call goes on as [`crate::find`] does until the node
+/// is out, unless less than a piece is left of the budget. What the call unlinked is retired when it
+/// ends, answered or not, into the own pool while that has room. Each slot that the pass could take is
+/// then in its own pool.
 ///
-/// OutOfSteps is its one refusal. While the other passes stand still, a budget of 9n + 11 is enough,
-/// with n nodes in the key's bucket, and what is answered took at most 9n + 10 steps. With 9n + 12, a
+/// Its only refusal is OutOfSteps. While the other passes stand still, a budget of 9n + 11 is enough,
+/// with n nodes in the key's bucket, and an answered call took at most 9n + 10 steps. With 9n + 12, a
 /// yes leaves fewer nodes there.
 pub fn remove(slots: &Slots, pass: &mut Pass, key: u64, budget: u32) -> Result<bool, Refusal>
     requires own { IsOf pass.old.trace slots.now }
@@ -193,14 +187,14 @@ pub fn remove(slots: &Slots, pass: &mut Pass, key: u64, budget: u32) -> Result<b
             requires empty_hand { stepper.old.hand ≡ None }
         { remove_by(slots, stepper, key, None, budget) },
     );
-    is_yes(answer)
+    is_yes(there_in(answer))
 }
 
-/// As [`remove`], at a table whose nodes have values: gives the value that was stored with the key,
-/// if the key was there. It is read before the node is marked, in two steps more than a remove makes,
-/// and was fixed when the node was published, so it is that of the entry which the mark removes. Its
-/// refusal and the budget that is enough are those of [`remove`]; what is answered took at most 9n + 12
-/// steps, and a yes with 9n + 14 leaves fewer nodes in the key's bucket.
+/// Like [`remove`], at a table whose nodes have values: returns the value that was stored with the key,
+/// if the key was there. It is read before the node is marked, in two steps more than a remove makes.
+/// It was fixed when the node was published, so it is the value of the entry which the mark removes.
+/// Refusal and budget are as for [`remove`]; an answered call took at most 9n + 12 steps, and a yes
+/// with 9n + 14 leaves fewer nodes in the key's bucket.
 pub fn remove_entry(
     slots: &Slots<Entries>,
     pass: &mut Pass,
@@ -213,28 +207,30 @@ pub fn remove_entry(
 {
     pass.law();
     slots.kind();
-    pass.during(
+    let answer = pass.during(
         |stepper|
             requires own { IsOf stepper.old.trace slots.now }
             requires empty_hand { stepper.old.hand ≡ None }
         { remove_by(slots, stepper, key, None, budget) },
-    )
+    );
+    there_in(answer)
 }
 
-/// As [`remove_entry`], but takes the key out only where its value is the one that is expected, and gives
-/// what was there, which is that value exactly where it took the key out. Else it is a get of what was
-/// there, another value or none: its point is one load, after the value was read in an epoch that stood.
-/// Its refusal, the budget that is enough and the steps of an answer are those of [`remove_entry`].
+/// Like [`remove_entry`], but takes the key out only if it has the expected value. Returns whether it did,
+/// and what was there. If that is another value or none, the call is a get of it: it takes effect at one
+/// load, after the value was read in an epoch that stood. Refusal, budget and steps of an answer are as
+/// for [`remove_entry`].
 pub fn remove_if(
     slots: &Slots<Entries>,
     pass: &mut Pass,
     key: u64,
     expected: u64,
     budget: u32,
-) -> Result<Option<u64>, Refusal>
+) -> Result<Outcome, Refusal>
     requires own { IsOf pass.old.trace slots.now }
     requires empty_hand { pass.old.hand ≡ None }
-    ensures { CallsRemoveIf pass.old pass.new key expected budget result }
+    ensures calls { CallsRemoveIf pass.old pass.new key expected budget (there_in result) }
+    ensures changed { ChangedIfExpected expected result }
 {
     pass.law();
     slots.kind();
@@ -247,11 +243,11 @@ pub fn remove_if(
     )
 }
 
-/// As [`remove`], but takes the key out only where its node is this entry's, by its slot and its birth, and
-/// says whether it did. Else it makes no call: at a moment of it the key was absent, or its node was
-/// another. The entry's value isn't looked at.
+/// Like [`remove`], but takes the key out only if its node has this entry's slot and birth, and returns
+/// whether it did. Otherwise it makes no call: at some moment meanwhile the key was absent, or its node
+/// was another. The entry's value isn't looked at.
 ///
-/// Its refusal, the budgets that are enough and the steps of an answer are those of [`remove`].
+/// Refusal, budgets and steps of an answer are as for [`remove`].
 pub fn remove_key_exactly(
     slots: &Slots,
     pass: &mut Pass,
@@ -273,10 +269,10 @@ pub fn remove_key_exactly(
     is_yes(answer)
 }
 
-/// As [`remove_key_exactly`], at a table whose nodes have values: gives the value that was stored with the
-/// key, or none.
+/// Like [`remove_key_exactly`], at a table whose nodes have values: returns the value that was stored
+/// with the key, or none.
 ///
-/// Its refusal, the budgets that are enough and the steps of an answer are those of [`remove_entry`].
+/// Refusal, budgets and steps of an answer are as for [`remove_entry`].
 pub fn remove_exactly(
     slots: &Slots<Entries>,
     pass: &mut Pass,
@@ -298,7 +294,7 @@ pub fn remove_exactly(
     )
 }
 
-// As `remove_exactly`, where no step is counted; and how many steps were made.
+// Like `remove_exactly`, but the pass counts no step; also returns the number of steps.
 #[inline(always)]
 fn remove_exactly_by<N: Nodes>(
     slots: &Slots<N>,
@@ -321,14 +317,14 @@ fn remove_exactly_by<N: Nodes>(
         if !is_node_of(&found, entry) {
             return (Ok(None), call.used);
         }
-        if let Ok(answer) = call.mark_and_unlink(&found, None) {
-            return (Ok(answer), call.used);
+        if let Ok(outcome) = call.mark_and_unlink(&found, None) {
+            return (Ok(outcome.there()), call.used);
         }
     }
 }
 
-// The remove of a key, of any value or of the one that is expected, with its value where nodes have
-// values; and how many steps were made.
+// The remove of a key, with any value or only with the expected one, with its value if nodes have
+// values, and the number of steps made.
 #[inline(always)]
 fn remove_by<N: Nodes>(
     slots: &Slots<N>,
@@ -336,14 +332,15 @@ fn remove_by<N: Nodes>(
     key: u64,
     expected: Option<u64>,
     budget: u32,
-) -> (Result<Option<u64>, Refusal>, u32)
+) -> (Result<Outcome, Refusal>, u32)
     requires own { IsOf stepper.old.trace slots.now }
     requires empty_hand { stepper.old.hand ≡ None }
     requires expects { is_some expected ≡ true → slots.now.start.shape.values ≡ true }
     ensures took { Took stepper.old.trace stepper.new.trace result.1 }
     ensures calls { CallsAs (removal_in stepper.old.trace key expected)
         (BoundsOfRemove (takes_out expected) stepper.old stepper.new key budget)
-        stepper.old stepper.new budget result.0 }
+        stepper.old stepper.new budget (there_in result.0) }
+    ensures changed { IfOk result.0 (ChangedAsWanted (takes_out expected)) }
 {
     let mut call = begin!(slots, stepper, key, budget, 0);
     call.at.law();
@@ -351,8 +348,8 @@ fn remove_by<N: Nodes>(
         let Some(found) = call.reach() else {
             return (Err(Refusal::OutOfSteps { used: call.used }), call.used);
         };
-        if let Ok(answer) = call.settle_remove(&found, expected) {
-            return (Ok(answer), call.used);
+        if let Ok(outcome) = call.settle_remove(&found, expected) {
+            return (Ok(outcome), call.used);
         }
     }
 }

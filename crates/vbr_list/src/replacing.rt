@@ -15,7 +15,7 @@ use vbr_at_table::budget::affords;
 use vbr_at_table::{Hand, Held, Marked, birth_after, replace};
 use vbr_words::{Layout, Nodes, decode};
 
-// How many steps it takes to read the birth of what a link names, by the link's word.
+// The number of steps to read the birth of what a link names, by the link's word.
 #[inline(always)]
 fn steps_to_birth(word: u64, layout: Layout) -> u32
     ensures is { result ≡ steps_to_birth (unpacked layout word) }
@@ -30,7 +30,7 @@ fn steps_to_birth(word: u64, layout: Layout) -> u32
 
 impl<N: Nodes> PendingCall<'_, N> {
     // Replaces the node that was found, whose value was read, by the slot in hand, which gets this
-    // value, in six steps at most; the node is marked then. Else the hand comes back.
+    // value, in at most six steps; the node is then marked. Otherwise the hand comes back.
     #[inline(always)]
     pub(crate) fn replace_found(
         &mut self,
@@ -82,7 +82,7 @@ impl<N: Nodes> PendingCall<'_, N> {
     }
 
     /// Replaces the node that was found, whose value was read, by the slot in hand, which gets this
-    /// value, and takes the old node out of its list, as far as the budget has room. Else the hand
+    /// value, and takes the old node out of its list, as far as the budget has room. Otherwise the hand
     /// comes back.
     #[inline(always)]
     pub(crate) fn replace_and_unlink(

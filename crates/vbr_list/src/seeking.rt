@@ -1,5 +1,5 @@
 //! Seeking the next key of a bucket by loads alone. Marked nodes are passed by their links, as a
-//! look-up passes them; and nothing is confirmed: each key that was passed by was absent at a moment.
+//! look-up passes them. Nothing is confirmed: each key that was passed was absent at a moment.
 ghost use Rattle.std.specs.Prelude.{◌<◌, ◌≤◌, IfOk, IfErr};
 ghost use Rattle.vbr_slots.specs.steps.AtTables.{IsSameTable, pass_of, trace_of};
 ghost use Rattle.vbr_list.specs.calls.Pieces.{Peeks};
@@ -19,14 +19,14 @@ use vbr_words::{Nodes, decode};
 pub(crate) struct NextNode {
     /// Its key.
     pub(crate) key: u64,
-    /// Its entry, with the value 0 where nodes have none.
+    /// Its entry, with the value 0 if nodes have none.
     pub(crate) entry: Entry,
     /// Whether it was the last of its list: its link names none.
     pub(crate) is_last: bool,
 }
 
-// One traversal by loads from the head of a bucket to its next node, past marked nodes, where so many steps of the
-// budget are used.
+// One traversal by loads from the head of a bucket to its next node, past marked nodes, with so many
+// steps of the budget already used.
 #[inline(always)]
 fn traverse_in<N: Nodes>(
     at: &mut AtTable<'_, N>,
@@ -80,8 +80,8 @@ fn traverse_in<N: Nodes>(
     Ok(None)
 }
 
-/// Seeks the next node of a bucket, where so many steps of the budget are used: gives what it finds,
-/// none where the budget has no room for one more piece; and how many steps are used then.
+/// Seeks the next node of a bucket, with so many steps of the budget already used. Returns what it
+/// finds, none if the budget has no room for one more piece, and how many steps are used then.
 #[inline(always)]
 pub(crate) fn seek_in<N: Nodes>(
     at: &mut AtTable<'_, N>,

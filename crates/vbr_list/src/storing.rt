@@ -1,4 +1,5 @@
-//! Storing a value where what is there is as it is wanted; an insert is a store that wants its key absent.
+//! Conditional stores: a value is stored if the key's state is the wanted one. An insert is a store
+//! that wants its key absent.
 ghost use Rattle.std.specs.Prelude.{◌≡◌, ◌+◌, ◌≤◌, false, true, None, IfOk, IfErr};
 ghost use Rattle.vbr_slots.specs.steps.Calls.{Took};
 ghost use Rattle.vbr_slots.specs.views.Views.{IsOf};
@@ -8,14 +9,17 @@ ghost use Rattle.vbr_list.specs.updates.Inserting.{CountsWithin, HasHandAndRoom}
 ghost use Rattle.vbr_list.specs.calls.Pieces.{IsSameCall, pass_in, trace_in};
 ghost use Rattle.vbr_list.specs.updates.Preparing.{GivesOrInserts};
 ghost use Rattle.vbr_list.specs.updates.Replacing.{HasUnused};
+ghost use Rattle.vbr_list.specs.updates.Outcomes.{ChangedAsWanted, ChangedIfExpected, there_in};
 ghost use Rattle.vbr_list.specs.updates.Settling.{LeavesInHand, LinksNode, MaySettle};
 ghost use Rattle.vbr_list.specs.updates.Storing.{CallsStore};
+ghost use Rattle.vbr_list.specs.updates.Wanted.{wants};
 ghost use Rattle.vbr_list.specs.traversals.Traversing.{LocatesFor};
 ghost use Rattle.vbr_list.specs.declared.wanted.Wanted.TheVariants.{Absent, Anything, Present, Value};
 ghost use Rattle.vbr_list.specs.calls.Words.{wide_found};
 
 use crate::call::{PendingCall, begin};
 use crate::found::Found;
+use crate::outcome::{Outcome, there_in};
 use crate::preparing::{Prepared, Unmet};
 use crate::valuing::steps_to_update;
 use crate::wanted::Wanted;
@@ -23,9 +27,9 @@ use vbr_at_table::{Hand, Refusal, give_back, update};
 use vbr_slots::{Pass, Slots, Stepper};
 use vbr_words::{Entries, Nodes};
 
-/// Why a slot in hand wasn't published with a value. It is in hand still.
+/// Why a slot in hand wasn't published with a value. It is still in hand.
 pub(crate) enum Unstored {
-    /// This is there, which isn't as it is wanted: the call is answered with it.
+    /// This is there, and isn't what is wanted: the call is answered with it.
     Otherwise(Option<u64>),
     /// The steps left of the budget are fewer than a piece of the call may take; no call was made.
     OutOfSteps {
@@ -37,16 +41,16 @@ pub(crate) enum Unstored {
 impl Unstored {
     // The answer of a store whose slot wasn't published.
     #[inline(always)]
-    fn answer(self) -> Result<Option<u64>, Refusal>
+    fn answer(self) -> Result<Outcome, Refusal>
         ensures { result ≡ answer_unstored self }
     {
         match self {
-            Unstored::Otherwise(there) => Ok(there),
+            Unstored::Otherwise(there) => Ok(Outcome::Unchanged(there)),
             Unstored::OutOfSteps { used } => Err(Refusal::OutOfSteps { used }),
         }
     }
 
-    // That of an insert.
+    // The answer of an insert.
     #[inline(always)]
     pub(crate) fn denied(self) -> Result<bool, Refusal>
         ensures { result ≡ answer_unlinked self }
@@ -59,7 +63,8 @@ impl Unstored {
 }
 
 impl<N: Nodes> PendingCall<'_, N> {
-    // Links the slot in hand with this value where the key was found absent. Else the hand comes back.
+    // Links the slot in hand with this value if the key was found absent. Otherwise the hand comes
+    // back.
     #[inline(always)]
     fn link_found(&mut self, found: &Found, value: u64, hand: Hand) -> Result<(), Hand>
         requires locates { LocatesFor self.old (wide_found self.old found.now) }
@@ -86,9 +91,10 @@ impl<N: Nodes> PendingCall<'_, N> {
         }
     }
 
-    /// Stores the value by the slot in hand, if what is there is as it is wanted then, and gives what was there.
-    /// Else, and where the budget has no room for one more piece, the hand comes back. An insert is the store that
-    /// wants its key absent and gives nothing: where the key is there, it is answered no.
+    /// Stores the value by the slot in hand, if the key's state is then the wanted one, and returns
+    /// what was there. Otherwise, or if the budget has no room for one more piece, the hand comes back.
+    /// An insert is the store that wants its key absent and gives nothing: if the key is there, it is
+    /// answered no.
     #[inline(always)]
     pub(crate) fn store_held(
         &mut self,
@@ -134,25 +140,24 @@ impl<N: Nodes> PendingCall<'_, N> {
     }
 }
 
-/// Gives a key a value where what is there is as it is wanted, in at most `budget` steps, and gives
-/// what was there: the value that the key had, or none where it was absent. So the value is stored
-/// exactly where [`Wanted::wants`] that, in one step, which is an insert in the history; or two calls
-/// next to each other, where the key was there: it is removed with the value that it had, and
-/// inserted with the new one, and no call of another pass finds it absent between. Where it isn't as
-/// wanted, nothing changes, and the answer is that of a get. A store takes a slot once it has found the
-/// key as it is wanted, or at once where anything is, and traverses anew with it; a slot that is left
-/// over goes back to the own pool. A node that it replaced has then left its list: where another comes
-/// between, the call goes on as [`crate::find`] does, until the node is out, unless less than a piece
-/// is left of the budget.
+/// Conditional store: gives a key a value if the key's state matches `wanted`, in at most `budget`
+/// steps. Returns what was there: the value that the key had, or none if it was absent. So the value is
+/// stored exactly when [`Wanted::wants`] what is returned, in one step. That is an insert in the
+/// history or, if the key was there, two calls next to each other: it is removed with the value that it
+/// had, and inserted with the new one, and no call of another pass finds it absent between. If the
+/// state doesn't match, nothing changes, and the call is answered as a get. A store takes a slot once
+/// it has found the key in the wanted state, or at once if anything is wanted, and traverses anew with
+/// it. A slot that is left over goes back to the own pool. A node that it replaced has left its list at
+/// the end: if another pass interferes, the call goes on as [`crate::find`] does until the node is out,
+/// unless less than a piece is left of the budget.
 ///
-/// Its refusals are OutOfSteps, and, where the key was as it is wanted, NoSlot and EpochSpent: then no
-/// call was made, and what is there stays. The budgets that are enough are those of [`crate::insert`],
-/// and two steps more for [`Wanted::Value`]: while the other passes stand still, 18n + 82, or 18n + w + 20
-/// if that is more, with n nodes in the key's bucket and w = slots / 64, rounded up; and 18n + 82 with a slot
-/// in the pass's own pool, unless the epoch is spent.
-/// What is answered took at most six steps more, and with eight more a node that it replaced has left
-/// its list. It advances the epoch at most once, and only where no slot that it could take is stamped
-/// below the epoch that it read.
+/// Its refusals are OutOfSteps and, if the key's state matched, NoSlot and EpochSpent: then no call was
+/// made, and what is there stays. Budgets are as for [`crate::insert`], with two steps more for
+/// [`Wanted::Value`]: while the other passes stand still, 18n + 82, or 18n + w + 20 if that is more,
+/// with n nodes in the key's bucket and w = slots / 64, rounded up; and 18n + 82 with a slot in the
+/// pass's own pool, unless the epoch is spent. An answered call took at most six steps more, and with
+/// eight more a node that it replaced has left its list. It advances the epoch at most once, and only
+/// if no slot that it could take is stamped below the epoch that it read.
 #[inline]
 pub fn store(
     slots: &Slots<Entries>,
@@ -170,11 +175,13 @@ pub fn store(
         Wanted::Absent => get_or_insert(slots, pass, key, value, budget),
         Wanted::Present => replace(slots, pass, key, value, budget),
         Wanted::Anything => put(slots, pass, key, value, budget),
-        Wanted::Value(expected) => compare_exchange(slots, pass, key, expected, value, budget),
+        Wanted::Value(expected) => {
+            there_in(compare_exchange(slots, pass, key, expected, value, budget))
+        }
     }
 }
 
-/// As [`store`] where [`Wanted::Present`] is wanted, and compiled for that.
+/// [`store`] with [`Wanted::Present`], compiled for that case.
 #[inline]
 pub fn replace(
     slots: &Slots<Entries>,
@@ -187,15 +194,16 @@ pub fn replace(
     requires empty_hand { pass.old.hand ≡ None }
     ensures { CallsStore pass.old pass.new key value Present budget result }
 {
-    pass.during(
+    let answer = pass.during(
         |stepper|
             requires own { IsOf stepper.old.trace slots.now }
             requires empty_hand { stepper.old.hand ≡ None }
         { store_by(slots, stepper, key, value, Wanted::Present, budget) },
-    )
+    );
+    there_in(answer)
 }
 
-/// As [`store`] where [`Wanted::Anything`] is wanted, and compiled for that.
+/// [`store`] with [`Wanted::Anything`], compiled for that case.
 #[inline]
 pub fn put(
     slots: &Slots<Entries>,
@@ -208,15 +216,16 @@ pub fn put(
     requires empty_hand { pass.old.hand ≡ None }
     ensures { CallsStore pass.old pass.new key value Anything budget result }
 {
-    pass.during(
+    let answer = pass.during(
         |stepper|
             requires own { IsOf stepper.old.trace slots.now }
             requires empty_hand { stepper.old.hand ≡ None }
         { store_by(slots, stepper, key, value, Wanted::Anything, budget) },
-    )
+    );
+    there_in(answer)
 }
 
-/// As [`store`] where [`Wanted::Absent`] is wanted, and compiled for that.
+/// [`store`] with [`Wanted::Absent`], compiled for that case.
 #[inline]
 pub fn get_or_insert(
     slots: &Slots<Entries>,
@@ -229,15 +238,16 @@ pub fn get_or_insert(
     requires empty_hand { pass.old.hand ≡ None }
     ensures { CallsStore pass.old pass.new key value Absent budget result }
 {
-    pass.during(
+    let answer = pass.during(
         |stepper|
             requires own { IsOf stepper.old.trace slots.now }
             requires empty_hand { stepper.old.hand ≡ None }
         { store_by(slots, stepper, key, value, Wanted::Absent, budget) },
-    )
+    );
+    there_in(answer)
 }
 
-/// As [`store`] where [`Wanted::Value`] is wanted, and compiled for that.
+/// [`store`] with [`Wanted::Value`], compiled for that case. Also returns whether it stored the value.
 #[inline]
 pub fn compare_exchange(
     slots: &Slots<Entries>,
@@ -246,10 +256,12 @@ pub fn compare_exchange(
     expected: u64,
     value: u64,
     budget: u32,
-) -> Result<Option<u64>, Refusal>
+) -> Result<Outcome, Refusal>
     requires own { IsOf pass.old.trace slots.now }
     requires empty_hand { pass.old.hand ≡ None }
-    ensures { CallsStore pass.old pass.new key value (Value expected) budget result }
+    ensures calls { CallsStore pass.old pass.new key value (Value expected) budget
+        (there_in result) }
+    ensures changed { ChangedIfExpected expected result }
 {
     pass.during(
         |stepper|
@@ -259,8 +271,9 @@ pub fn compare_exchange(
     )
 }
 
-// As `store`, where no step is counted; and how many steps were made. With a slot in hand it searches anew, and
-// stores by it, or gives it back where the key is otherwise than wanted meanwhile.
+// Like `store`, but the pass counts no step; also returns the number of steps. With a slot in hand it
+// searches anew, and stores by it, or gives it back if the key's state has changed from the wanted one
+// meanwhile.
 #[inline(always)]
 fn store_by(
     slots: &Slots<Entries>,
@@ -269,22 +282,23 @@ fn store_by(
     value: u64,
     wanted: Wanted,
     budget: u32,
-) -> (Result<Option<u64>, Refusal>, u32)
+) -> (Result<Outcome, Refusal>, u32)
     requires own { IsOf stepper.old.trace slots.now }
     requires empty_hand { stepper.old.hand ≡ None }
     ensures took { Took stepper.old.trace stepper.new.trace result.1 }
-    ensures calls { CallsStore stepper.old stepper.new key value wanted budget result.0 }
+    ensures calls { CallsStore stepper.old stepper.new key value wanted budget (there_in result.0) }
+    ensures changed { IfOk result.0 (ChangedAsWanted (wants wanted)) }
 {
     slots.kind();
     let mut call = begin!(slots, stepper, key, budget, 0);
     call.at.law();
     let hand = match call.prepare(wanted, true) {
         Ok(Prepared::Ready(hand)) => hand,
-        Ok(Prepared::Answered(there)) => return (Ok(there), call.used),
+        Ok(Prepared::Answered(there)) => return (Ok(Outcome::Unchanged(there)), call.used),
         Err(refusal) => return (Err(refusal), call.used),
     };
     match call.store_held(value, wanted, true, hand) {
-        Ok(there) => (Ok(there), call.used),
+        Ok(there) => (Ok(Outcome::Changed(there)), call.used),
         Err((back, why)) => {
             give_back(&mut call.at, back);
             (why.answer(), call.used)

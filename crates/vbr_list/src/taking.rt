@@ -1,5 +1,5 @@
-//! An answer no, of an insert whose key is there or of a remove whose key is absent; and the slot that an
-//! insert or a store takes.
+//! The answer no, to an insert whose key is there or to a remove whose key is absent; and the slot that
+//! an insert or a store takes.
 ghost use Rattle.std.specs.Prelude.{◌≡◌, ◌+◌, ◌≤◌, false, length, None, IfOk, IfErr};
 ghost use Rattle.vbr_slots.specs.steps.Calls.{Quiet};
 ghost use Rattle.vbr_at_table.specs.answers.Answering.{KeepsIn};
@@ -16,8 +16,8 @@ use vbr_machine::Op;
 use vbr_words::Nodes;
 
 impl<N: Nodes> PendingCall<'_, N> {
-    /// Answers no by what was found, in one step, if the link that tells it is as it was read: an insert
-    /// where the key is present, else a remove.
+    /// Answers no by what was found, in one step, if the link that shows it is as it was read: an
+    /// insert if the key is present, else a remove.
     #[inline]
     pub(crate) fn answer_no(&mut self, found: &Found) -> Result<(), Rollback>
         requires locates { LocatesFor self.old (wide_found self.old found.now) }

@@ -1,5 +1,5 @@
 //! What a search found is read, and a get is answered by it: for calls of a map that change what is
-//! there only where it is as they want it.
+//! there only if it is as they want it.
 ghost use Rattle.std.specs.Prelude.{◌≡◌, ◌+◌, ◌<◌, true, IfOk, IfErr};
 ghost use Rattle.vbr_at_table.specs.answers.Answering.{KeepsIn};
 ghost use Rattle.vbr_at_table.specs.reads.Reading.{ReadsIn};
@@ -17,7 +17,7 @@ use vbr_machine::Op;
 use vbr_words::Nodes;
 
 impl<N: Nodes> PendingCall<'_, N> {
-    /// The value of the node that was found, in two steps; none, in no step, where the key is absent.
+    /// The value of the node that was found, in two steps; none, without a step, if the key is absent.
     #[inline]
     pub(crate) fn read_found(&mut self, found: &Found) -> Result<Option<u64>, Rollback>
         requires values { (trace_in self.old).start.shape.values ≡ true }
@@ -46,8 +46,8 @@ impl<N: Nodes> PendingCall<'_, N> {
         }
     }
 
-    /// Answers a get with what was there, in one step, if the link that tells it is as it was read: the
-    /// value that was read of the node, or no where the key is absent.
+    /// Answers a get with what was there, in one step, if the link that shows it is as it was read: the
+    /// value read from the node, or no if the key is absent.
     #[inline]
     pub(crate) fn tell_found(&mut self, found: &Found, there: Option<u64>) -> Result<(), Rollback>
         requires knows { KnowsThere self.old (wide_found self.old found.now) there }

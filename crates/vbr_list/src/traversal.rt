@@ -59,15 +59,16 @@ impl<N: Nodes> PendingCall<'_, N> {
             (wide_visited self.old met)) }
         ensures moved { IfErr result (RollsBackFrom (trace_in self.old) (trace_in self.new)) }
     {
-        // Once it is read, its range is known: so the steps that it has room for are counted without overflow.
+        // Once it is read, its range is known, so the steps that it has room for are counted without
+        // overflow.
         let _budget = self.budget;
         visit_at(&mut self.at, here, self.key, &mut self.used)
     }
 
-    // Helps to unlink a marked node behind a place, in one step to six: gives the place with its new link,
-    // if the epoch stayed. Few traversals meet one, so it is done apart from them. The place's epoch is
-    // taken from the marked node, and where it is from before the help, so that a traversal needs no
-    // register for these.
+    // Helps to unlink a marked node behind a place, in one to six steps: returns the place with its new
+    // link, if the epoch stayed. Few traversals meet one, so it is done apart from them. The place's
+    // epoch is taken from the marked node, and where it is from before the help, so that a traversal
+    // needs no register for these.
     #[inline(always)]
     fn help(&mut self, pred: Held, marked: Marked) -> Result<Held, Rollback>
         requires pred { IsPredFor self.old (wide_held self.old pred) }

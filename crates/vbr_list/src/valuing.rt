@@ -1,4 +1,4 @@
-//! Values of nodes, where nodes have them.
+//! Values of nodes, if nodes have them.
 ghost use Rattle.std.specs.Prelude.{◌≡◌, IfOk, IfErr};
 ghost use Rattle.vbr_slots.specs.steps.AtTables.{IsSameTable, pass_of, trace_of};
 ghost use Rattle.vbr_slots.specs.views.Views.{knows};
@@ -13,7 +13,8 @@ use vbr_at_table::{Held, Refusal, Rollback, value_of};
 use vbr_slots::{AtTable, Slots};
 use vbr_words::Nodes;
 
-/// Reads the value of a node, in two steps, where nodes have values; else it makes no step, and gives 0.
+/// Reads the value of a node, in two steps, if nodes have values; otherwise it makes no step, and
+/// returns 0.
 #[inline(always)]
 pub(crate) fn value_if_any<N: Nodes>(at: &mut AtTable<'_, N>, node: &Held) -> Result<u64, Rollback>
     requires held { IsHeld (knows (trace_of at.old)) (said at.old.slots.now node.now) }
@@ -28,7 +29,7 @@ pub(crate) fn value_if_any<N: Nodes>(at: &mut AtTable<'_, N>, node: &Held) -> Re
     if N::VALUES { value_of(at, node) } else { Ok(0) }
 }
 
-/// How many steps it takes to read the value of a node, if it has one.
+/// The number of steps to read the value of a node, if it has one.
 #[inline(always)]
 pub(crate) fn steps_to_value_of<N: Nodes>(slots: &Slots<N>) -> u32
     ensures { result ≡ steps_to_value_of slots.now.start }
@@ -37,7 +38,7 @@ pub(crate) fn steps_to_value_of<N: Nodes>(slots: &Slots<N>) -> u32
     if N::VALUES { 2 } else { 0 }
 }
 
-/// How many steps it takes to link a new node.
+/// The number of steps to link a new node.
 #[inline(always)]
 pub(crate) fn steps_to_update<N: Nodes>(slots: &Slots<N>) -> u32
     ensures { result ≡ steps_to_update slots.now.start }

@@ -16,7 +16,7 @@ pub enum Wanted {
 }
 
 impl Wanted {
-    /// Whether this is as wanted: the value that a key has, or none where it is absent.
+    /// Whether this is as wanted: the value that a key has, or none if it is absent.
     #[inline(always)]
     pub fn wants(self, there: Option<u64>) -> bool
         ensures { result ≡ wants self there }

@@ -1,4 +1,4 @@
--- What the laws of a set say: those of tokens, and those of room.
+-- What the laws of a set say: the laws of tokens, and the laws of room.
 use Rattle.std.specs.Prelude.{ℕ, ◌+◌, ◌-◌, ◌*◌, ◌<◌, ◌≤◌, Err, List, length, Option}
 use Rattle.vbr_machine.specs.History.{set_after}
 use Rattle.vbr_machine.specs.Keys.{AreKeysOf}
@@ -42,15 +42,15 @@ use Rattle.vbr_set.specs.histories.Tokens.{CatchesUp, IsChain, IsTokenOf, Preced
 abbrev pub LookUpsMakeProgress : Type 0
 LookUpsMakeProgress = (p q : PassView) (key budget : ℕ) (refusal : Refusal) → PassLaw p → Calls Has p q key budget (Err refusal) → budget < enough_among (listed_for p.trace key) (most_disturbed p.trace q.trace)
 
--- so it is of a remove
+-- likewise a remove
 abbrev pub RemovesMakeProgress : Type 0
 RemovesMakeProgress = (p q : PassView) (key budget : ℕ) (refusal : Refusal) → PassLaw p → Calls Remove p q key budget (Err refusal) → budget < enough_to_search_among (listed_for p.trace key) (most_disturbed p.trace q.trace)
 
--- and so of an insert that is refused for want of steps, whose own pool had a slot, or which took one out of the shared pool while others took so many
+-- and an insert that is refused for want of steps, whose own pool had a slot, or which took one out of the shared pool while others took so many
 abbrev pub InsertsMakeProgress : Type 0
 InsertsMakeProgress = (p q : PassView) (key budget : ℕ) (refusal : Refusal) → PassLaw p → Calls Insert p q key budget (Err refusal) → LacksSteps (enough_to_insert_among (listed_for p.trace key) (most_disturbed p.trace q.trace) (steps_for_slot p q.trace)) budget refusal
 
--- so it is of the calls of a map: a remove by its value is one, and a store has five steps more than an insert for each time that it is disturbed, and two more where it compares
+-- the same for the calls of a map: a remove by its value counts as a remove, and a store has five steps more than an insert for each time that it is disturbed, and two more if it compares
 pub record MapsMakeProgress : Type 0 where
   pub get : (p q : PassView) (key budget : ℕ) (refusal : Refusal) → PassLaw p → CallsGet p q key budget (Err refusal)
       → budget < enough_among (listed_for p.trace key) (most_disturbed p.trace q.trace)
@@ -65,13 +65,13 @@ pub record MapsMakeProgress : Type 0 where
 
 -- ---- tokens
 
--- who catches up with the last token of a chain catches up with the first
+-- a caller that catches up with the last token of a chain catches up with the first
 abbrev pub TokensHandOn : Type 0
 TokensHandOn =
     (set : TableView) (first : SeenView) (tokens : List SeenView) (p q : PassView)
     → IsChain first tokens → CatchesUp set p (end_of first tokens) q → CatchesUp set p first q
 
--- a call that was answered before a token was made stands before each call that is answered after somebody caught up with it, or with one further down its chain; so do calls that were answered together
+-- a call that was answered before a token was made stands before each call that is answered after somebody caught up with it, or with one further down its chain; and so do calls that were answered together
 abbrev pub CallsStayInOrder : Type 0
 CallsStayInOrder =
     (set : TableView) (ones others : List Call) (g h k : Trace) (first : SeenView) (tokens : List SeenView) (p q : PassView) (r s : Trace)
@@ -79,7 +79,7 @@ CallsStayInOrder =
     → CatchesUp set p (end_of first tokens) q → IsSame q.trace r → Begins q.trace.seen r.seen → AnswersAll others r s
     → Precedes ones others (calls_of s.start s.seen)
 
--- what an answer leaves stands on while its pass makes no call, as when it takes slots or gives some back: the calls stand in the one legal history that the pass then has
+-- what an answer leaves stands on while its pass makes no call, even if it takes slots or gives some back: the calls stand in the one legal history that the pass then has
 pub record AnswersStay : Type 0 where
   pub set : (calls : List Call) (p : Trace) (q r : PassView) → PassLaw r → AnswersAll calls p q.trace → Quiet q.trace r.trace → AnswersAll calls p r.trace
   pub map : (calls : List Call) (p : Trace) (q r : PassView) → PassLaw r → MapAnswersAll calls p q.trace → Quiet q.trace r.trace → MapAnswersAll calls p r.trace
@@ -108,18 +108,18 @@ pub record PassesUnlinkInTurn : Type 0 where
 abbrev pub OneUnstampedAtEachMoment : Type 0
 OneUnstampedAtEachMoment = (p : Trace) (moment : List Event) → UnlinkedInTurn p → Begins moment p.seen → number_at p.start moment (Unstamped p.who) ≤ 1
 
--- a pass that has all its slots got the answer that there is no slot for an insert or a store, and no other pass made a step meanwhile
+-- a pass that has all its slots was answered that there is no slot for an insert or a store, and no other pass made a step meanwhile
 pub record RefusedAlone (m n : MemberView) (key budget : ℕ) : Type 0 where
   pub law : PassLaw n.pass
   pub has_all : HasAllSlots m.pass
   pub refused : InsertRefused m n key budget NoSlot
   pub alone : IsAlone m.pass.trace n.pass.trace
 
--- an insert or a store that is alone finds no slot only where all slots are taken up
+-- an insert or a store that is alone finds no slot only if all slots are taken up
 abbrev pub NoSlotAlone : Type 0
 NoSlotAlone = (m n : MemberView) (key budget : ℕ) → RefusedAlone m n key budget → AreTakenUp n.pass.trace
 
--- besides, all slots but 64 for each other pass, and one for each that holds a slot, have a key of the set or a marked node, where each other pass stands between two calls
+-- besides, if each other pass stands between two calls, all slots but 64 for each other pass, and one for each that holds a slot, have a key of the set or a marked node
 abbrev pub SlotsThatSuffice : Type 0
 SlotsThatSuffice =
     (m n : MemberView) (key budget : ℕ) (keys : List ℕ) (aside : ℕ → Option Aside) → RefusedAlone m n key budget

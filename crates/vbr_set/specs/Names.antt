@@ -1,4 +1,4 @@
--- What the contracts of the set name of the crates below it, for crates that list `vbr_set` alone.
+-- What the contracts of the set name from the crates below it, for crates that list `vbr_set` alone.
 pub use Rattle.vbr_words.specs.Dimensions.{Dimensions}
 pub use Rattle.vbr_machine.specs.Start.{Start, IsStart, set_start}
 pub use Rattle.vbr_machine.specs.Maps.{map_start}

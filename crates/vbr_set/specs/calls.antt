@@ -1,4 +1,4 @@
--- What calls tell.
+-- What calls promise.
 pub mod MapCalls
 pub mod Members
 pub mod AtSets

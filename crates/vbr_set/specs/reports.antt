@@ -1,4 +1,4 @@
--- What a report tells, of a set and of a map.
+-- What a report says, of a set and of a map.
 pub mod Contents
 pub mod Kinds
 pub mod KindLaws

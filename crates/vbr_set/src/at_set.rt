@@ -1,4 +1,4 @@
-//! A caller at its set: it has each call, which a member, and a pass beside its set, make by it.
+//! A caller at its set. It has every call; a member, and a pass beside its set, make theirs through it.
 pub mod batches;
 pub mod calls;
 pub mod iterating;
@@ -12,7 +12,7 @@ use crate::set::VbrSet;
 use vbr_slots::Pass;
 use vbr_words::{Keys, Nodes};
 
-// A caller at its set, for one call. It is a macro since a function can't hand on in a call what it was lent.
+// A caller at its set, for one call. It is a macro because a function can't lend on what it was lent.
 macro_rules! at_set {
     ($set:expr, $pass:expr) => {
         $crate::at_set::AtSet {

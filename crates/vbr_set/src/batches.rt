@@ -6,13 +6,13 @@ use vbr_slots::BATCH;
 
 /// What brings words of keys into the cache.
 pub trait Warms {
-    /// Brings into the cache what look-ups of these keys begin with, or of the first [`BATCH`] of them. It is
-    /// no step.
+    /// Brings into the cache what look-ups of these keys, or of the first [`BATCH`] of them, begin
+    /// with. It makes no step.
     fn warm(&mut self, keys: &[u64])
         ensures { self.new ≡ self.old };
 }
 
-/// What looks keys up, and is answered by an `A`.
+/// What looks keys up, with an `A` for each answer.
 pub trait LooksUp<A>: Warms {
     ghost told: { Self → Self → ℕ → ℕ → A → Type 0 };
 
@@ -21,7 +21,8 @@ pub trait LooksUp<A>: Warms {
         ensures { told self.old self.new key budget result };
 }
 
-/// Looks keys up in their order, each in at most `budget` steps, and writes the answer of each at its place.
+/// Looks keys up in their order, each in at most `budget` steps, and writes each answer at the place of
+/// its key.
 pub fn look_up_all<A: Drop, W: LooksUp<A>>(
     who: &mut W,
     keys: &[u64],

@@ -3,11 +3,11 @@ use crate::member::Member;
 use std::error::Error;
 use std::fmt;
 
-/// Why all members of a set got no report, or those of a map, which `M` then are. The tests are made in
-/// this order, and the members come back as they were.
+/// Why all members of a set, or of a map, got no report; `M` is the type of its members. Tested in
+/// this order; the members come back as they were.
 #[derive(Drop)]
 pub enum CloseAllError<M = Member> {
-    /// There are fewer members than the set was opened with, or none.
+    /// There are fewer members than were opened with the set, or none.
     Missing(Vec<M>),
     /// There is no memory for the report.
     Memory(Vec<M>),

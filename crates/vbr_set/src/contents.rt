@@ -1,4 +1,4 @@
-//! What the words of a closed table tell.
+//! What the words of a closed table say.
 ghost use Rattle.std.specs.Prelude.{◌≡◌, ℕ, ◌+◌, ◌≤◌, List, [], false, length};
 ghost use Rattle.std.specs.Vec.{vec_capacity};
 ghost use Rattle.vbr_words.specs.Places.{words_in};
@@ -66,7 +66,7 @@ fn gather<N: Kind>(
     (live, marked)
 }
 
-/// What the words of a closed table tell, where the slots are noted whose nodes are in lists.
+/// What the words of a closed table say, once the slots whose nodes are in lists are noted.
 pub(crate) fn contents_by<N: Kind>(
     shape: &Shape,
     words: &[u64],
@@ -90,7 +90,7 @@ pub(crate) fn contents_by<N: Kind>(
     }
 }
 
-/// What the words of a closed table tell.
+/// What the words of a closed table say.
 pub(crate) fn contents_of<N: Kind>(
     shape: &Shape,
     words: &[u64],

@@ -3,16 +3,16 @@ use crate::member::Member;
 use std::error::Error;
 use std::fmt;
 
-/// Why the last member of a set got no report, or that of a map, whose members `M` then are.
+/// Why the last member of a set, or of a map, got no report; `M` is the type of its members.
 #[derive(Drop)]
 pub enum EndError<M = Member> {
-    /// A pass never came back. The set is gone. A member that is closed or dropped gives its pass back, so
-    /// no program is known to get this. A contract says that it doesn't come to the member of a set that
-    /// was opened for one; of several, tests do, also where memory lacks.
+    /// A pass never came back. The set is gone. A member that is closed or dropped gives its pass back,
+    /// so no program is known to get this. For a set opened for one member a contract says that it
+    /// doesn't come; for several, tests do, even if memory is short.
     Lost,
-    /// There is no memory for the report. The member comes back, by its contract the same pass of the same
-    /// set: it can make calls, and be closed again. That it still has what the other members gave back is
-    /// tested: its next close returns the report.
+    /// There is no memory for the report. The member comes back, by its contract the same pass of the
+    /// same set: it can make calls, and be closed again. Tests, and no contract, say that it still has
+    /// what the other members gave back: its next close returns the report.
     Memory(M),
 }
 

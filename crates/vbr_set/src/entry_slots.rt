@@ -73,7 +73,7 @@ fn without_keys(keyed: Vec<(u64, u32)>, mut slots: Vec<u32>) -> Vec<u32>
     slots
 }
 
-/// What the words of a closed table tell, and the slots of its linked nodes, in the order of their keys.
+/// What the words of a closed table say, and the slots of its linked nodes, in the order of their keys.
 pub(crate) fn contents_with_slots<N: Kind>(
     shape: &Shape,
     words: &[u64],

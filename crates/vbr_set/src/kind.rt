@@ -29,11 +29,11 @@ use std::alloc::Global;
 use vbr_slots::{OpenManyError, Pass, Slots};
 use vbr_words::{Nodes, Shape};
 
-// What an opening of slots gives: the slots with their passes, or why there are none.
+// What an opening of slots returns: the slots with their passes, or why there are none.
 pub(crate) type OpenedSlots<N> = Result<(Slots<N>, Vec<Pass>), OpenManyError>;
 
-/// What the kind of nodes decides: [`vbr_words::Keys`] are those of a set, and [`vbr_words::Entries`] those
-/// of a map. All that a set and a map have in common is written once, over a kind.
+/// What the kind of nodes decides: a set has [`vbr_words::Keys`], and a map [`vbr_words::Entries`]. All
+/// that a set and a map have in common is written once, over a kind.
 pub trait Kind: Nodes + Sized {
     /// What a set or a map opens with and what its report lists: a key, or a key with its value.
     type Item: Copy;
@@ -69,7 +69,7 @@ pub trait Kind: Nodes + Sized {
             let start = with_opened shape.now opened in
             AreAfter start words.now run → result ≡ shown (incarnations_after start run) slot };
 
-    /// The report of what the words of a closed table tell.
+    /// The report of what the words of a closed table say.
     fn report(told: Contents<Self::Item>) -> Self::Report
         ensures { (table : TableView) (passes : List PassView) →
             table.start.shape.values ≡ Self.VALUES → (end : TellsEnd shown table passes told) →

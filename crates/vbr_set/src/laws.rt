@@ -6,8 +6,8 @@ ghost use Rattle.vbr_set.specs.progress.WalkProgress.{WalksMakeProgress};
 
 use vbr_machine::laws::a_run_is_a_map;
 
-/// A law: who catches up with the last token of a chain catches up with the first, through any number
-/// of callers that each caught up with a token before they made the next.
+/// A law: a caller that catches up with the last token of a chain catches up with the first, through
+/// any number of callers that each caught up with a token before they made the next.
 pub fn tokens_hand_on()
     ensures { TokensHandOn }
 {}
@@ -35,43 +35,44 @@ pub fn look_ups_make_progress()
     ensures { LookUpsMakeProgress }
 {}
 
-/// A law: so it is of a remove, whose budget was below (m + 1) * (9 * (n + m) + 11).
+/// A law: likewise a remove that runs out of steps was disturbed. Its budget was below
+/// (m + 1) * (9 * (n + m) + 11).
 pub fn removes_make_progress()
     ensures { RemovesMakeProgress }
 {}
 
-/// A law: so it is of an insert that is refused for want of steps. With a slot in the pass's own pool
-/// its budget was below (m + 2) * (9 * (n + m) + 7) + 68. With none, 68 stands for the greater of it and
-/// w + 6, with w flag words, and besides for each slot that other passes took out of the shared pool
-/// meanwhile the bound is one more.
+/// A law: likewise an insert that is refused for want of steps was disturbed. With a slot in the pass's
+/// own pool its budget was below (m + 2) * (9 * (n + m) + 7) + 68. With none, 68 stands for the greater
+/// of it and w + 6, with w flag words, and besides for each slot that other passes took out of the
+/// shared pool meanwhile the bound is one more.
 pub fn inserts_make_progress()
     ensures { InsertsMakeProgress }
 {}
 
-/// A law: so it is of the calls of a map. A get goes as a look-up, and a remove by its value as a remove; a
-/// store has five steps more than an insert for each time that it was disturbed, and two more where it
-/// compares the value.
+/// A law: likewise the calls of a map. A get counts as a look-up, and a remove by its value as a
+/// remove. A store has five steps more than an insert for each time that it was disturbed, and two more
+/// if it compares the value.
 pub fn maps_make_progress()
     ensures { MapsMakeProgress }
 {}
 
-/// A law: so it is of a call of a walk. Its budget was below what the buckets cost that its cursor has gone
-/// over, each (m + 1) * (5 * (n + m) + 3) with its own n, or (m + 1) * (5 * (n + m) + 5) in a map, and
-/// (m + 1) * (5 * (n + m) + 11) for the one where it then stands. In a stretch of a run m is as the laws of
-/// stretches have it.
+/// A law: likewise a call of a walk. Its budget was below what the buckets cost that its cursor has
+/// gone over, each (m + 1) * (5 * (n + m) + 3) with its own n, or (m + 1) * (5 * (n + m) + 5) in a map,
+/// and (m + 1) * (5 * (n + m) + 11) for the one where it then stands. In a stretch of a run, the laws
+/// of stretches say what m is.
 pub fn walks_make_progress()
     ensures { WalksMakeProgress }
 {}
 
-/// A law: while the members of a set or of a map stand still, the balances of all of them, each once, add up
-/// to how many keys it has.
+/// A law: while the members of a set or of a map stand still, the balances of all of them, each once,
+/// add up to its number of keys.
 pub fn balances_add_up()
     ensures { BalancesAddUp }
 {}
 
-/// A law: where the members of a set or of a map, each once, get a report, it tells whether a renewal has room.
-/// So a renewal that is refused for want of room is one of more keys than slots, and one that is refused memory
-/// isn't.
+/// A law: if the members of a set or of a map, each once, get a report, the report shows whether a
+/// renewal has room. So a renewal that is refused for want of room has more keys than slots, and one
+/// that is refused for want of memory hasn't.
 pub fn room_is_told()
     ensures { RoomIsTold }
 {}

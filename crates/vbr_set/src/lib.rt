@@ -8,13 +8,14 @@
 //! steps. A look-up writes nothing that another thread can see. [`Member::close`] gives a member back,
 //! and the last close returns what is in the set.
 //!
-//! A set may open with keys ([`Member::open_with`]), as those of the report: so one whose epoch comes near
-//! its last goes on in a fresh set.
+//! A set may open with keys ([`Member::open_with`]), such as the keys of a report. So a set whose epoch
+//! nears its last one goes on as a fresh set.
 //!
-//! What a member has seen has one legal history of a set. A call that is answered stands in it, once,
-//! after the calls that the member had made before; members that meet ([`Member::meet`]) share one
-//! history. [`Member::seen`] gives a token of what a member has seen, to be sent with whatever the program
-//! orders its threads by; each call of who takes it in by [`Member::catch_up`] stands after all of that.
+//! What a member has seen has one legal history of a set. An answered call stands in it, once, after
+//! the calls that the member had made before; members that meet ([`Member::meet`]) share one history.
+//! [`Member::seen`] gives a token of what a member has seen, to be sent with whatever the program
+//! orders its threads by. If another member takes the token in by [`Member::catch_up`], each of its
+//! later calls stands after all of that.
 //!
 //! From `crates/vbr_example`, whose workers claim pages in threads of their own:
 //!
@@ -24,16 +25,16 @@
 //!     &|_, worker| worker.claim_all(),
 //! ```
 //!
-//! A step is one atomic operation on one word that threads share, and the unit of budgets. A call
-//! makes 3 steps to start, 5 for each node that it looks at in the key's bucket, up to 9 for a
-//! removed one, and 1 to 7 for its answer; an insert of an absent key takes a slot and goes through
-//! the bucket twice. `docs/USING.md` has all this, and how large to open a set.
+//! A step is one atomic operation on one word that threads share, and the unit of budgets. A call makes
+//! 3 steps to start, 5 for each node that it looks at in the key's bucket, up to 9 for a removed one,
+//! and 1 to 7 for its answer. An insert of an absent key takes a slot and goes through the bucket
+//! twice. See `docs/USING.md` for all of this, and for how large to open a set.
 //!
-//! Where the set is to be borrowed, [`VbrSet::open`] gives the set and its passes apart.
-//! [`VbrSet::with_pass`] makes a [`VbrSetRef`] of a pass, with the calls of a member, and
-//! [`VbrSet::close`] takes all passes back and tells one report of them, and [`VbrSet::renew`] opens a
-//! fresh set with the keys at once. The calls of [`VbrSet`] itself take a pass, and ask that it is one of
-//! the set with no slot in hand.
+//! If the set is to be borrowed, [`VbrSet::open`] returns the set and its passes apart.
+//! [`VbrSet::with_pass`] makes a [`VbrSetRef`] of a pass, with the calls of a member. [`VbrSet::close`]
+//! takes all passes back and returns one report, and [`VbrSet::renew`] opens a fresh set with the keys
+//! at once. The calls of [`VbrSet`] itself take a pass, which must be one of the set with no slot in
+//! hand.
 #![tactic(auto)]
 
 pub mod at_set;
@@ -72,7 +73,7 @@ pub use renew_error::RenewError;
 pub use report::{MapReport, Report};
 pub use report_with_slots::ReportWithSlots;
 pub use set_ref::VbrSetRef;
-pub use vbr_list::{Cursor, Entry, NotReplaced, Refusal, StillInHand, Wanted};
+pub use vbr_list::{Cursor, Entry, NotReplaced, Outcome, Refusal, StillInHand, Wanted};
 pub use vbr_machine::{Call, Op};
 pub use vbr_slots::{
     CloseError, MAX_MANY_PASSES, MAX_PASSES, OpenError, OpenManyError, Pass, Seen,
@@ -92,9 +93,9 @@ pub type VbrMap = set::VbrSet<Entries>;
 /// A member of a set: one of its passes, with a share of the set.
 pub type Member = member::Member<Keys>;
 
-/// A member of a map, with the calls of a map in place of those of a set: one of its passes, with a share
-/// of the map.
+/// A member of a map, with the calls of a map in place of the calls of a set: one of its passes, with a
+/// share of the map.
 pub type MapMember = member::Member<Entries>;
 
-/// A pass with a reference to its map, as [`VbrSetRef`] is one with a reference to its set.
+/// A pass with a reference to its map, like a [`VbrSetRef`] of a set.
 pub type VbrMapRef<'s> = set_ref::VbrSetRef<'s, Entries>;

@@ -3,8 +3,8 @@ use std::error::Error;
 use std::fmt;
 use vbr_list::Refusal;
 
-/// Why no list of all keys came, or of all entries. The pass has made no call of the set, and can go on at
-/// once.
+/// Why no list of all keys, or of all entries, came. The pass has made no call of the set, and can go
+/// on at once.
 #[derive(Clone, Copy, Debug, PartialEq, Eq, Hash)]
 pub enum ListError {
     /// A whole call was refused for want of steps, and brought the cursor no further.

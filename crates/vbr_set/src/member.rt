@@ -34,9 +34,9 @@ use vbr_words::{Keys, Nodes};
 
 /// One of the passes of a set, with a share of the set: all that a thread needs to make calls.
 ///
-/// Its calls ask nothing of their caller. It goes from thread to thread, and one thread at a time
-/// has it. [`Member::open`] makes the members of a set, and [`Member::close`] takes them back, or
-/// [`Member::close_all`] all at once. One that is dropped gives its pass back, as a close does, and the
+/// Its calls ask nothing of their caller. It may go from thread to thread; one thread at a time has it.
+/// [`Member::open`] makes the members of a set, and [`Member::close`] takes them back, or
+/// [`Member::close_all`] all at once. A dropped member gives its pass back, as a close does, and the
 /// memory of a set is freed with its last member.
 ///
 /// A member may hold one slot between its calls ([`Member::hold`]), for a program that keeps a record of its
@@ -66,7 +66,7 @@ impl<N: Nodes> Model for Member<N> {
 }
 
 impl<N: Nodes> Member<N> {
-    // What it has of its set, with its balance, and its pass.
+    // Its share of the set, its balance and its pass.
     pub(crate) fn into_parts(self) -> (Stake<N>, Pass)
         ensures is { member_with result.0 result.1 ≡ self }
         ensures stake { IsStake result.0 result.1 }
@@ -88,8 +88,8 @@ impl<N: Nodes> Member<N> {
     }
 }
 
-/// One that is dropped gives its slots and its pass back as [`Member::close`] does, but gets nothing: so the
-/// last one that is closed still gets a report. It needs no memory.
+/// A dropped member gives its slots and its pass back as [`Member::close`] does, but gets nothing. So
+/// the last one that is closed still gets a report. It needs no memory.
 impl<N: Nodes> Drop for Member<N> {
     fn drop(self) {
         let mut member = self;

@@ -5,10 +5,10 @@ ghost use Rattle.vbr_set.specs.progress.Winning.{InsertsPayForGains, KnownBudget
 ghost use Rattle.vbr_set.specs.progress.Progressing.{AnswersDisturb, EpochsArePaid, FewUnanswered, MapRefusalsShowAnswers, PassesAdvanceInNeed, RefusalsShowAnswers, ShapesTellEnough};
 ghost use Rattle.vbr_set.specs.progress.WalkProgress.{MembersWalk, ShapesTellEnoughToWalk, StepsOrWalksAreAnswered, WalksShowAnswers};
 
-/// A law: a pass has made each step that would advance the epoch where it needed that: it had a slot, in
-/// which it may give birth, that is stamped with the epoch. So it is when it is opened, and after each
-/// call of a set or a map, answered or refused, each meeting, each catching up, and each giving back,
-/// each reserve and each top-up of slots.
+/// A law: a pass made each step that would advance the epoch only when it needed that: it had a slot,
+/// in which it may give birth, that is stamped with the epoch. This holds when it is opened, and after
+/// each call of a set or a map, answered or refused, each meeting, each catching up, and each giving
+/// back, each reserve and each top-up of slots.
 pub fn passes_advance_in_need()
     ensures { PassesAdvanceInNeed }
 {}
@@ -21,71 +21,72 @@ pub fn answers_disturb()
     ensures { AnswersDisturb }
 {}
 
-/// A law: so a look-up, a remove or an insert with a budget that is enough where no update is answered
-/// yes is refused for want of steps only where another pass was answered yes meanwhile. An insert whose
-/// own pool is empty also counts the slots that others took out of the shared pool: those that they did take
-/// here, and those that they can take in `known_budgets_show_answers`.
+/// A law: so a look-up, a remove or an insert, with a budget that is enough while no update is answered
+/// yes, is refused for want of steps only if another pass was answered yes meanwhile. An insert whose
+/// own pool is empty also counts the slots that others took out of the shared pool: those that they did
+/// take here, and those that they can take in `known_budgets_show_answers`.
 pub fn refusals_show_answers()
     ensures { RefusalsShowAnswers }
 {}
 
-/// A law: so it is of the calls of a map.
+/// A law: the same for the calls of a map.
 pub fn map_refusals_show_answers()
     ensures { MapRefusalsShowAnswers }
 {}
 
-/// A law: so it is of the calls of a walk. With a budget that is enough in the bucket of its cursor, where
-/// no update is answered yes, a call gives a key, comes to the end or brings the cursor to a later bucket,
-/// or another pass was answered yes meanwhile. With one that is enough for all buckets from there on it is
-/// refused only where another was. With one that is enough in each bucket so is a list or a count of all
-/// keys.
+/// A law: the same for the calls of a walk. With a budget that is enough in the bucket of its cursor
+/// while no update is answered yes, a call gives a key, comes to the end or brings the cursor to a
+/// later bucket, or another pass was answered yes meanwhile. With a budget that is enough for all
+/// buckets from there on, it is refused only if another pass was. With a budget that is enough in each
+/// bucket, the same holds for a list or a count of all keys.
 pub fn walks_show_answers()
     ensures { WalksShowAnswers }
 {}
 
-/// A law: while a pass makes a call with a budget that is enough where no update is answered yes,
-/// somebody is answered, it or another. Of an insert or a store: unless it is refused for want of a slot
-/// or of an epoch. Its budget may be the one of `known_budgets_show_answers`.
+/// A law: while a pass makes a call with a budget that is enough while no update is answered yes,
+/// somebody is answered, it or another. For an insert or a store: unless it is refused for want of a
+/// slot or of an epoch. Its budget may be the one of `known_budgets_show_answers`.
 pub fn calls_are_answered()
     ensures { CallsAreAnswered }
 {}
 
 /// A law: let each pass make one such call after another, with no more than so many steps each. What it
-/// does after a call in the steps that are left of its budget is among them, as where it tops its slots
-/// up; else it makes no step between. Or let it make no more than twice so many steps at all. Then
+/// does after a call in the steps left of its budget, such as topping its slots up, counts among them;
+/// otherwise it makes no step in between. Or let it make no more than twice so many steps at all. Then
 /// somebody is answered in any stretch of a run in which all of them make more steps than twice so many
 /// for each pass.
 pub fn steps_are_answered()
     ensures { StepsAreAnswered }
 {}
 
-/// A law: so it is of callers that walk, too, each call of a walk with a budget that is enough in the bucket
-/// of its cursor. In such a stretch somebody is answered, or one of these calls gives a key, comes to the end
-/// or brings its cursor to a later bucket.
+/// A law: the same for callers that also walk, each call of a walk with a budget that is enough in the
+/// bucket of its cursor. In such a stretch somebody is answered, or one of these calls gives a key,
+/// comes to the end or brings its cursor to a later bucket.
 pub fn steps_or_walks_are_answered()
     ensures { StepsOrWalksAreAnswered }
 {}
 
-/// A law: while no update is answered yes, a pass is disturbed at most once, twice for each node that was
-/// marked at first, and once for each pass, where each had at most one slot unlinked and not stamped.
+/// A law: if each pass had at most one slot unlinked and not stamped, then, while no update is answered
+/// yes, a pass is disturbed at most once, twice for each node that was marked at first, and once for
+/// each pass.
 pub fn few_unanswered()
     ensures { FewUnanswered }
 {}
 
-/// A law: the shape of a table tells a budget that is enough whatever is in it, for a look-up, for a
-/// remove, and for an insert by a pass that has a slot of its own.
+/// A law: the shape of a table gives a budget that is enough, whatever is in the table, for a look-up,
+/// for a remove, and for an insert by a pass that has a slot of its own.
 pub fn shapes_tell_enough()
     ensures { ShapesTellEnough }
 {}
 
-/// A law: each look-up of a batch is such a call, and each get, where the budget is enough by the shape of
-/// the table.
+/// A law: each look-up or get of a batch is such a call, if the budget is enough by the shape of the
+/// table.
 pub fn batches_call()
     ensures { BatchesCall }
 {}
 
-/// A law: the shape of a table tells a budget that is enough whatever is in it, for a call of a walk, to
-/// give a key or to come to the next bucket.
+/// A law: the shape of a table gives a budget that is enough, whatever is in the table, for a call of a
+/// walk to give a key or to come to the next bucket.
 pub fn shapes_tell_enough_to_walk()
     ensures { ShapesTellEnoughToWalk }
 {}
@@ -101,23 +102,24 @@ pub fn members_call()
     ensures { MembersCall }
 {}
 
-/// A law: the epoch is at most one more than the removes and replacements that were answered yes, however
-/// many inserts were begun, where each pass came back from its calls.
+/// A law: if each pass came back from its calls, the epoch is at most one more than the number of
+/// removes and replacements that were answered yes, however many inserts were begun.
 pub fn epochs_are_paid()
     ensures { EpochsArePaid }
 {}
 
 // ---- slots out of the shared pool
 
-/// A law: a pass wins a flag only where it has no slot, and puts none into the shared pool that is its last, by each
-/// call of a set or a map, answered or refused, while it has all its slots, and by each meeting and catching up. By
-/// giving back it goes beyond that once at most, and by each reserve and each top-up of slots at most once for each
-/// slot that it takes. A pass that may lack slots goes beyond it at most once by each insert.
+/// A law: a pass wins a flag only if it has no slot, and never puts its last slot into the shared pool.
+/// This holds for each call of a set or a map, answered or refused, while it has all its slots, and for
+/// each meeting and catching up. By giving back it goes beyond that at most once, and by each reserve
+/// and each top-up of slots at most once for each slot that it takes. A pass that may lack slots goes
+/// beyond it at most once by each insert.
 pub fn passes_win_in_need()
     ensures { PassesWinInNeed }
 {}
 
-/// A law: where each other pass never went beyond its need, all of them never did.
+/// A law: if none of the other passes ever went beyond its need, together they never did.
 pub fn nobody_goes_beyond()
     ensures { NobodyGoesBeyond }
 {}
@@ -129,15 +131,15 @@ pub fn inserts_pay_for_gains()
     ensures { InsertsPayForGains }
 {}
 
-/// A law: so an insert or a store with a budget that is enough with so many slots taken by others is refused for
-/// want of steps only where another pass was answered yes meanwhile. That budget is known as the call begins, also
-/// where its own pool is empty.
+/// A law: so an insert or a store with a budget that is enough with so many slots taken by others is
+/// refused for want of steps only if another pass was answered yes meanwhile. That budget is known as
+/// the call begins, even if its own pool is empty.
 pub fn known_budgets_show_answers()
     ensures { KnownBudgetsShowAnswers }
 {}
 
-/// A law: the shape of a table and the number of passes tell a budget that is enough for an insert and for a store of
-/// any pass, whatever is in the table and in the pass's own pool.
+/// A law: the shape of a table and the number of passes give a budget that is enough for an insert and
+/// for a store of any pass, whatever is in the table and in the pass's own pool.
 pub fn shapes_tell_without_slots()
     ensures { ShapesTellWithoutSlots }
 {}

@@ -29,8 +29,8 @@ pub fn a_held_slot_stays_in_hand()
         IsInHand ((know_after p.trace.start moment p.trace.who).own aside.slot) }
 {}
 
-/// A law: no slot is lost while a member holds one. What it had before it has with that one, and has it all in
-/// its pool and its hand once it lets go.
+/// A law: no slot is lost while a member holds one. With that one it has all that it had before, and
+/// once it lets go, all are in its pool and its hand.
 pub fn held_slots_come_back()
     ensures { HeldSlotsComeBack }
 {}

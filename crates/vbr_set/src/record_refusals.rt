@@ -8,7 +8,7 @@ use vbr_list::Refusal;
 pub enum HoldRefusal {
     /// It holds one already.
     Held,
-    /// None was taken, for want of steps, of a slot or of an epoch.
+    /// No slot was taken, for want of steps, of a slot or of an epoch.
     Refused(Refusal),
 }
 
@@ -33,10 +33,11 @@ impl Error for HoldRefusal {}
 pub enum HeldRefusal {
     /// It holds none.
     NotHeld,
-    /// Its own pool is full, which an insert with a slot of its own may have left so: it holds the slot still,
+    /// Its own pool is full, as an insert with a slot of its own may leave it. It still holds the slot,
     /// and can make the call once it has given slots back.
     Full,
-    /// The steps that were made leave no room in the budget for one more piece. It holds the slot still.
+    /// The steps that were made leave no room in the budget for one more piece. It still holds the
+    /// slot.
     OutOfSteps {
         /// The steps of the whole call.
         used: u32,

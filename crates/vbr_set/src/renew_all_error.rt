@@ -3,11 +3,11 @@ use crate::member::Member;
 use std::error::Error;
 use std::fmt;
 
-/// Why the members of a set were not renewed, or those of a map, which `M` then are. The tests are made in
-/// this order, and the members come back as they were.
+/// Why the members of a set, or of a map, were not renewed; `M` is the type of its members. Tested
+/// in this order; the members come back as they were.
 #[derive(Drop)]
 pub enum RenewAllError<M = Member> {
-    /// There are not as many members as the set was opened with.
+    /// There are not as many members as were opened with the set.
     Missing(Vec<M>),
     /// There are more keys than the fresh set would have slots.
     Room(Vec<M>),

@@ -5,15 +5,15 @@ use std::error::Error;
 use std::fmt;
 use vbr_slots::Pass;
 
-/// Why a set was not renewed, or a map, which `S` then is. The tests are made in this order.
+/// Why a set, or a map, was not renewed; `S` is the type of the set or map. Tested in this order.
 #[derive(Drop)]
 pub enum RenewError<S = VbrSet, R = Report> {
     /// There are fewer passes than were opened. All comes back as it was.
     Missing(S, Vec<Pass>),
     /// There is no memory to close the set. All comes back as it was.
     Memory(S, Vec<Pass>),
-    /// The set is closed, and there is no memory to open it anew: [`VbrSet::open_with`] with the keys of
-    /// the report goes on from there, and so does the call of a map with the entries of its report.
+    /// The set is closed, and there is no memory to open it anew: [`VbrSet::open_with`] with the keys,
+    /// or the entries, of the report goes on from there.
     Closed(R),
 }
 

@@ -1,8 +1,8 @@
 //! What a closed set or map held, and where.
 use crate::report::Report;
 
-/// A report with the slot of each key, or of each entry of a map: number i is the slot of what the report lists at i. A
-/// program that keeps records beside the slots finds by it the record of each.
+/// A report with the slot of each key, or of each entry of a map: slot number i belongs to item number
+/// i of the report. A program that keeps records beside the slots finds each record by it.
 #[derive(Debug, Drop)]
 pub struct ReportWithSlots<R = Report> {
     /// The report.

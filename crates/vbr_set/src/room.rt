@@ -2,16 +2,16 @@
 //! nothing.
 ghost use Rattle.vbr_set.specs.Laws.{NoSlotAlone, OneUnstampedAtEachMoment, PassesHaveAllTheirSlots, PassesUnlinkInTurn, SlotsThatSuffice};
 
-/// A law: a pass has all its slots in its own pool and its hand, and none unstamped, when it is opened,
-/// and after each call of a set or a map, answered or refused, each meeting, each catching up, and each
-/// giving back, each reserve and each top-up of slots.
+/// A law: a pass has all its slots in its own pool and its hand, and none unstamped, when it is opened.
+/// The same holds after each call of a set or a map, answered or refused, and after each meeting, each
+/// catching up, each giving back, each reserve and each top-up of slots.
 pub fn passes_have_all_their_slots()
     ensures { PassesHaveAllTheirSlots }
 {}
 
 /// A law: a pass has unlinked in turn, each slot only once it had stamped all that it had unlinked
-/// before, when it is opened, and after each call of a set or a map, answered or refused, each meeting,
-/// each catching up, each giving back, each reserve and each top-up of slots.
+/// before, when it is opened. The same holds after each call of a set or a map, answered or refused,
+/// and after each meeting, each catching up, each giving back, each reserve and each top-up of slots.
 pub fn passes_unlink_in_turn()
     ensures { PassesUnlinkInTurn }
 {}
@@ -22,15 +22,15 @@ pub fn one_unstamped_at_each_moment()
     ensures { OneUnstampedAtEachMoment }
 {}
 
-/// A law: an insert that is alone, in a set or in a map, gets NoSlot only where the keys of the set,
-/// the marked nodes and what the other passes have make up all slots.
+/// A law: an insert that is alone, in a set or in a map, gets NoSlot only if the keys of the set, the
+/// marked nodes and what the other passes have make up all slots.
 pub fn no_slot_alone()
     ensures { NoSlotAlone }
 {}
 
-/// A law: let an insert be alone, and each other pass stand between two calls, whether it holds a slot or
-/// none. Then it gets NoSlot only where all slots but 64 for each other pass, and one for each that holds a
-/// slot, have a key of the set or a marked node.
+/// A law: let an insert be alone, and each other pass stand between two calls, whether it holds a slot
+/// or none. Then it gets NoSlot only if all slots but 64 for each other pass, and one for each that
+/// holds a slot, have a key of the set or a marked node.
 pub fn slots_that_suffice()
     ensures { SlotsThatSuffice }
 {}

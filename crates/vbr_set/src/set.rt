@@ -21,7 +21,7 @@ use vbr_slots::Slots;
 use vbr_words::{Keys, Nodes, Shape};
 
 /// A set of `u64` keys, shared by the passes that were opened with it; or a map from such keys to `u64`
-/// values, where its nodes are [`vbr_words::Entries`].
+/// values, if its nodes are [`vbr_words::Entries`].
 #[derive(Drop)]
 pub struct VbrSet<N: Nodes = Keys> {
     pub(crate) slots: Slots<N>,
@@ -49,7 +49,7 @@ impl<N: Nodes> VbrSet<N> {
         self.slots.shape()
     }
 
-    // Brings into the cache what look-ups of these keys begin with, as [`Slots::warm`].
+    // Brings into the cache what look-ups of these keys begin with, like [`Slots::warm`].
     #[inline]
     pub(crate) fn warm(&self, keys: &[u64]) {
         self.slots.warm(keys);

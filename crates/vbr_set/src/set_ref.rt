@@ -12,11 +12,12 @@ use std::marker::Model;
 use vbr_slots::Pass;
 use vbr_words::{Keys, Nodes};
 
-/// A pass with a reference to its set: what a thread needs to make calls of a set that another has.
+/// A pass with a reference to its set: what a thread needs to make calls on a set that another thread
+/// owns.
 ///
-/// Its calls ask nothing of their caller, and promise what those of a [`Member`] promise.
+/// Its calls ask nothing of their caller, and promise what a [`Member`]'s calls promise.
 /// [`VbrSet::with_pass`] makes it, and [`VbrSetRef::into_pass`] gives the pass back, for
-/// [`VbrSet::close`]. The pass of one that is dropped is lost, and its set can't be closed any more.
+/// [`VbrSet::close`]. If it is dropped, its pass is lost, and the set can't be closed any more.
 ///
 /// It has no lines of the cache of its own, as a [`Member`] has.
 ///

@@ -3,8 +3,9 @@ ghost use Rattle.vbr_set.specs.renewals.RenewingWithSlots.{SlotsCarryOver};
 
 use vbr_machine::record_laws::keys_open_in_slots_of_their_numbers;
 
-/// A law: where all members are renewed with slots ([`Member::renew_all_with_slots`]), the entry number i was in the
-/// slot that is told at i when the old set was reported, and the same key stands in slot i where the fresh one opens.
+/// A law: if all members are renewed with slots ([`Member::renew_all_with_slots`]), then entry number i
+/// was in the slot returned at i when the old set was reported, and the same key stands in slot i when
+/// the fresh one opens.
 ///
 /// [`Member::renew_all_with_slots`]: crate::Member::renew_all_with_slots
 pub fn slots_carry_over()

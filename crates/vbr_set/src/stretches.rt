@@ -3,17 +3,18 @@
 ghost use Rattle.vbr_set.specs.progress.Stretches.{MapStretchesMakeProgress, PassesComeByCalls, StretchesDisturb, StretchesMakeProgress};
 
 /// A law: an insert or a store, answered or refused, makes at most one step that would advance the
-/// epoch; each other call makes none, and so it is of going over keys, of meeting others, of catching up,
-/// of giving slots back and of reserving some.
+/// epoch. Each other call makes none, nor does going over keys, meeting others, catching up, giving
+/// slots back or reserving some.
 pub fn passes_come_by_calls()
     ensures { PassesComeByCalls }
 {}
 
 /// A law of a stretch of a run. Let each pass of the set have begun so many inserts between the ends of
-/// two of its calls, of which the first comes no later than the beginning of the stretch, and the second no
-/// earlier than its end. Then a pass is disturbed in the stretch at most once for each of these inserts,
-/// twice for each update that was answered yes in it, and once for each node that was marked when it began.
-/// So where no update is answered yes, it is disturbed no more often than there are such inserts and nodes.
+/// two of its calls, of which the first comes no later than the beginning of the stretch, and the
+/// second no earlier than its end. Then a pass is disturbed in the stretch at most once for each of
+/// these inserts, twice for each update that was answered yes in it, and once for each node that was
+/// marked when it began. So if no update is answered yes, it is disturbed no more often than there are
+/// such inserts and nodes.
 pub fn stretches_disturb()
     ensures { StretchesDisturb }
 {}
@@ -24,7 +25,7 @@ pub fn stretches_make_progress()
     ensures { StretchesMakeProgress }
 {}
 
-/// A law: so it is of the calls of a map.
+/// A law: the same for the calls of a map.
 pub fn map_stretches_make_progress()
     ensures { MapStretchesMakeProgress }
 {}

@@ -6,6 +6,7 @@ use crate::map_rows::open_two;
 use std::alloc::Global;
 use std::process::Abort;
 use std::test::Fail;
+use vbr_set::Outcome::{Changed, Unchanged};
 use vbr_set::{Refusal, Shape, VbrMapRef};
 use vbr_words::Entries;
 
@@ -14,8 +15,8 @@ fn store_where_absent(rt: &impl Abort, caller: &mut VbrMapRef)
     ensures { caller.new.set ≡ caller.old.set }
 {
     assert_eq!(rt; caller.replace(5, 70, 200), Ok(None));
-    assert_eq!(rt; caller.compare_exchange(5, 0, 70, 200), Ok(None));
-    assert_eq!(rt; caller.remove_if(5, 0, 200), Ok(None));
+    assert_eq!(rt; caller.compare_exchange(5, 0, 70, 200), Ok(Unchanged(None)));
+    assert_eq!(rt; caller.remove_if(5, 0, 200), Ok(Unchanged(None)));
     assert_eq!(rt; caller.get(5, 200), Ok(None));
     assert_eq!(rt; caller.put(5, 70, 200), Ok(None));
     assert_eq!(rt; caller.get(5, 200), Ok(Some(70)));
@@ -35,9 +36,15 @@ fn store_where_present(rt: &impl Abort, caller: &mut VbrMapRef)
 fn change_by_value(rt: &impl Abort, caller: &mut VbrMapRef)
     ensures { caller.new.set ≡ caller.old.set }
 {
-    assert_eq!(rt; caller.compare_exchange(5, 71, 74, 200), Ok(Some(72)));
-    assert_eq!(rt; caller.compare_exchange(5, 72, 74, 200), Ok(Some(72)));
-    assert_eq!(rt; caller.remove_if(5, 72, 200), Ok(Some(74)));
+    assert_eq!(rt;
+        caller.compare_exchange(5, 71, 74, 200),
+        Ok(Unchanged(Some(72)))
+    );
+    assert_eq!(rt;
+        caller.compare_exchange(5, 72, 74, 200),
+        Ok(Changed(Some(72)))
+    );
+    assert_eq!(rt; caller.remove_if(5, 72, 200), Ok(Unchanged(Some(74))));
     assert_eq!(rt; caller.get(5, 200), Ok(Some(74)));
 }
 
@@ -45,7 +52,7 @@ fn change_by_value(rt: &impl Abort, caller: &mut VbrMapRef)
 fn remove_by_value(rt: &impl Abort, caller: &mut VbrMapRef)
     ensures { caller.new.set ≡ caller.old.set }
 {
-    assert_eq!(rt; caller.remove_if(5, 74, 200), Ok(Some(74)));
+    assert_eq!(rt; caller.remove_if(5, 74, 200), Ok(Changed(Some(74))));
     assert_eq!(rt; caller.get(5, 200), Ok(None));
     assert_eq!(rt; caller.get_or_insert(5, 75, 200), Ok(None));
     assert_eq!(rt; caller.get(5, 200), Ok(Some(75)));
@@ -75,7 +82,10 @@ fn store_without_a_slot(rt: &impl Abort, caller: &mut VbrMapRef)
         caller.compare_exchange(5, 70, 71, 200),
         Err(Refusal::NoSlot)
     );
-    assert_eq!(rt; caller.compare_exchange(5, 71, 72, 200), Ok(Some(70)));
+    assert_eq!(rt;
+        caller.compare_exchange(5, 71, 72, 200),
+        Ok(Unchanged(Some(70)))
+    );
     assert_eq!(rt; caller.get_or_insert(5, 71, 200), Ok(Some(70)));
 }
 
@@ -86,7 +96,10 @@ fn replace_thrice(rt: &impl Abort, caller: &mut VbrMapRef)
     assert_eq!(rt; caller.put(5, 70, 200), Ok(None));
     assert_eq!(rt; caller.replace(5, 71, 200), Ok(Some(70)));
     assert_eq!(rt; caller.put(5, 72, 200), Ok(Some(71)));
-    assert_eq!(rt; caller.compare_exchange(5, 72, 73, 200), Ok(Some(72)));
+    assert_eq!(rt;
+        caller.compare_exchange(5, 72, 73, 200),
+        Ok(Changed(Some(72)))
+    );
 }
 
 // Stores 5 in a map of so many slots: of one, or of two, where it is replaced. Compares the value that is left.
@@ -123,9 +136,12 @@ fn take_turns(rt: &impl Abort, first: &mut VbrMapRef, second: &mut VbrMapRef)
     assert_eq!(rt; first.get_or_insert(5, 70, 200), Ok(None));
     assert_eq!(rt; second.get_or_insert(5, 71, 200), Ok(Some(70)));
     assert_eq!(rt; second.replace(5, 72, 200), Ok(Some(70)));
-    assert_eq!(rt; first.compare_exchange(5, 70, 73, 200), Ok(Some(72)));
+    assert_eq!(rt;
+        first.compare_exchange(5, 70, 73, 200),
+        Ok(Unchanged(Some(72)))
+    );
     assert_eq!(rt; first.put(5, 74, 200), Ok(Some(72)));
-    assert_eq!(rt; second.remove_if(5, 74, 200), Ok(Some(74)));
+    assert_eq!(rt; second.remove_if(5, 74, 200), Ok(Changed(Some(74))));
 }
 
 /// The map tells none of the key that both changed once it is removed.

@@ -222,10 +222,3 @@ module _ {p q r : PassView} {epoch budget before : ℕ} (first : Scanned p q epo
       IfErr result (ScansPart p r budget before (length p.pool))
   part_on (Ok told) part = tt
   part_on (Err told) part = record { uses = since_first part.uses; why = part.why; short = part.short }
-
--- the first slot that was looked at isn't stamped below the epoch
-pub first_is : {p q : PassView} {epoch budget before : ℕ} → Scanned p q epoch budget before 0 1 (before + 1) →
-    0 < length p.pool → IsStampedFrom q epoch (get_or q.pool 0 0)
-first_is {p} {q} {epoch} first some =
-    subst (λ (x : Know × List ℕ). epoch ≤ stamp_in (x.0.own (get_or x.1 0 0)))
-    (λ i. (sym first.known i, sym first.pool.0 i)) (first.above 0 (omega arith) some)

@@ -1,5 +1,6 @@
-//! The calls of the handles of a map for a program that keeps a record of its own beside each slot, with their answers
-//! as numbers. A value and an entry go out where the answer is yes, and else nothing is written.
+//! The calls of the handles of a map for a program that keeps a record of its own beside each slot,
+//! with their answers as numbers. A value and an entry are written if the answer is yes, otherwise
+//! nothing is.
 ghost use Rattle.std.specs.Prelude.{◌≡◌};
 ghost use Rattle.vbr_list.specs.calls.Told.{is_yes};
 ghost use Rattle.vbr_handles.specs.Codes.{call_code, held_call_code};
@@ -34,18 +35,18 @@ pub fn insert_held(owner: &mut Owner<MapMember>, key: u64, value: u64, budget: u
     held_call_code(answer)
 }
 
-/// Gives a key a value by the slot that the member of a handle holds, whether the key is there or not, and writes the
-/// value that it had. Where it added the key it then keeps the reserve of the handle. It makes room as
-/// [`insert_held`] does.
+/// Gives a key a value by the slot that the member of a handle holds, whether the key is there or not,
+/// and writes the value that it had. If it added the key, it then tops the reserve of the handle up. It
+/// makes room as [`insert_held`] does.
 pub fn put_held(
     owner: &mut Owner<MapMember>,
     key: u64,
     value: u64,
-    found: &mut u64,
+    there: &mut u64,
     budget: u32,
 ) -> i32
     ensures { TellsPutHeld owner.old.member owner.new.member key value budget
-        found.old found.new result }
+        there.old there.new result }
 {
     if owner.is_empty() {
         return EMPTY;
@@ -55,11 +56,11 @@ pub fn put_held(
     let before = member.pass().steps();
     let answer = member.put_held(key, value, budget);
     top_up_after(member, has_put_new(&answer), budget, before);
-    give_held(answer, found)
+    give_held(answer, there)
 }
 
-/// Puts the slot that the member of a handle holds in the place of this entry's node, with a value
-/// ([`MapMember`]'s `replace_held`). It makes room as [`insert_held`] does.
+/// Puts the slot that the member of a handle holds, with a value, in the place of this entry's node
+/// (`replace_held` of [`MapMember`]). It makes room as [`insert_held`] does.
 pub fn replace_held(
     owner: &mut Owner<MapMember>,
     key: u64,
@@ -78,7 +79,8 @@ pub fn replace_held(
     held_call_code(member.replace_held(key, &at.entry(), value, budget))
 }
 
-/// Looks a key up by the member of a handle, and writes where it stands, with its value ([`MapMember`]'s `get_entry`).
+/// Looks a key up by the member of a handle, and writes where it stands, with its value (`get_entry` of
+/// [`MapMember`]).
 pub fn get_entry(owner: &mut Owner<MapMember>, key: u64, at: &mut Incarnation, budget: u32) -> i32
     ensures { TellsGetNamed owner.old.member owner.new.member key budget
         (entry_named at.old) (entry_named at.new) result }
@@ -89,7 +91,8 @@ pub fn get_entry(owner: &mut Owner<MapMember>, key: u64, at: &mut Incarnation, b
     give_incarnation(owner.member_mut().get_entry(key, budget), at)
 }
 
-/// Takes a key out by the member of a handle where its node is that of this entry ([`MapMember`]'s `remove_exactly`).
+/// Takes a key out by the member of a handle if its node is this entry's (`remove_exactly` of
+/// [`MapMember`]).
 pub fn remove_entry(owner: &mut Owner<MapMember>, key: u64, at: &Incarnation, budget: u32) -> i32
     ensures { TellsRemoveNamed owner.old.member owner.new.member key (entry_named at.now) budget
         result }
@@ -100,8 +103,8 @@ pub fn remove_entry(owner: &mut Owner<MapMember>, key: u64, at: &Incarnation, bu
     taken_code(owner.member_mut().remove_exactly(key, &at.entry(), budget))
 }
 
-/// Tells the next key at a cursor by the member of a handle, and writes it and where it stands, with its value
-/// ([`MapMember`]'s `next_named`).
+/// Finds the next key at a cursor by the member of a handle, and writes it and where it stands, with
+/// its value (`next_named` of [`MapMember`]).
 pub fn next_at(
     owner: &mut Owner<MapMember>,
     cursor: &mut Cursor,
@@ -118,14 +121,14 @@ pub fn next_at(
     give_named(owner.member_mut().next_named(cursor, budget), key, at)
 }
 
-// Writes the value of an answer, where it gives one, and tells the number of the answer.
-fn give_held(answer: Result<Option<u64>, HeldRefusal>, found: &mut u64) -> i32
+// Writes the value of an answer, if it has one, and returns the number of the answer.
+fn give_held(answer: Result<Option<u64>, HeldRefusal>, there: &mut u64) -> i32
     ensures code { result ≡ held_call_code (is_yes answer) }
-    ensures writes { WritesGiven answer found.old found.new }
+    ensures writes { WritesGiven answer there.old there.new }
 {
     match answer {
         Ok(Some(given)) => {
-            *found = given;
+            *there = given;
             YES
         }
         Ok(None) => NO,
@@ -133,7 +136,7 @@ fn give_held(answer: Result<Option<u64>, HeldRefusal>, found: &mut u64) -> i32
     }
 }
 
-// The number of the answer, by whether it gives a value.
+// The number of the answer, by whether it has a value.
 fn taken_code(answer: Result<Option<u64>, Refusal>) -> i32
     ensures { result ≡ call_code (is_yes answer) }
 {

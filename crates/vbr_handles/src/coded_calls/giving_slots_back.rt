@@ -12,7 +12,7 @@ use vbr_set::member::Member;
 use vbr_words::Nodes;
 
 /// Puts the slots that the pass of a handle keeps to itself into the shared pool, as
-/// [`Member::give_slots_back`] does, and returns how many; 0 where the handle is empty.
+/// [`Member::give_slots_back`] does, and returns how many; 0 if the handle is empty.
 pub fn give_slots_back<N: Nodes>(owner: &mut Owner<Member<N>>) -> u32
     ensures { TellsGivenBack owner.old.member owner.new.member result }
 {
@@ -22,9 +22,9 @@ pub fn give_slots_back<N: Nodes>(owner: &mut Owner<Member<N>>) -> u32
     owner.member_mut().give_slots_back()
 }
 
-/// Lets go of the slot that its member holds, gives the slots of its pass back, and then closes a handle, as
-/// [`crate::coded_calls::close`] does: so those that go on have them. Where it is the last one and is refused, it stays
-/// full, holds none, and its slots are in the shared pool.
+/// Lets go of the slot that its member holds, gives the slots of its pass back to the others, and then
+/// closes a handle, as [`crate::coded_calls::close`] does. If it is the last one and is refused, it
+/// stays full, holds none, and its slots are in the shared pool.
 pub fn close<N: Kind, I: Listed<N>>(
     alloc: Global,
     owner: &mut Owner<Member<N>>,

@@ -1,5 +1,5 @@
-//! The calls of an iteration with their answers as numbers. What is next goes out where there is such, and
-//! else nothing is written.
+//! The calls of an iteration with their answers as numbers. What is next is written if there is a next
+//! one, otherwise nothing is.
 ghost use Rattle.std.specs.Prelude.{◌≡◌};
 ghost use Rattle.vbr_list.specs.calls.Told.{is_yes};
 ghost use Rattle.vbr_handles.specs.Codes.{call_code};
@@ -14,7 +14,7 @@ use vbr_set::member::Member;
 use vbr_set::{Cursor, MapMember, Refusal};
 use vbr_words::Nodes;
 
-/// Tells the next key at a cursor by the member of a handle, and writes it.
+/// Finds the next key at a cursor by the member of a handle, and writes it.
 pub fn next_key<N: Nodes>(
     owner: &mut Owner<Member<N>>,
     cursor: &mut Cursor,
@@ -30,7 +30,7 @@ pub fn next_key<N: Nodes>(
     give(owner.member_mut().next_key(cursor, budget), key)
 }
 
-/// Tells the next entry at a cursor by the member of a handle, and writes its key and its value.
+/// Finds the next entry at a cursor by the member of a handle, and writes its key and its value.
 pub fn next_entry(
     owner: &mut Owner<MapMember>,
     cursor: &mut Cursor,
@@ -46,7 +46,7 @@ pub fn next_entry(
     give_entry(owner.member_mut().next_entry(cursor, budget), entry)
 }
 
-// Writes the key and the value of an answer, where it gives an entry, and tells the number of the answer.
+// Writes the key and the value of an answer, if it has an entry, and returns the number of the answer.
 fn give_entry(answer: Result<Option<(u64, u64)>, Refusal>, entry: &mut Entry) -> i32
     ensures code { result ≡ call_code (is_yes answer) }
     ensures writes { WritesGiven answer (entry.old.key, entry.old.value)

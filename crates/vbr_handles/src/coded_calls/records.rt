@@ -1,6 +1,6 @@
-//! The calls of handles for a program that keeps a record of its own beside each slot, with their answers as
-//! numbers: those of a set, and of either. A slot that is taken, and an entry, go out where the answer is yes, and
-//! else nothing is written.
+//! The calls of handles for a program that keeps a record of its own beside each slot, with their
+//! answers as numbers: the calls of a set, and of both kinds. A slot that is taken, or an entry, is
+//! written if the answer is yes, otherwise nothing is.
 ghost use Rattle.std.specs.Prelude.{◌≡◌};
 ghost use Rattle.vbr_list.specs.calls.Told.{is_yes};
 ghost use Rattle.vbr_handles.specs.Codes.{call_code, hold_code, held_call_code, let_go_code};
@@ -42,9 +42,9 @@ pub fn let_go<N: Nodes>(owner: &mut Owner<Member<N>>) -> i32
     let_go_code(owner.member_mut().let_go())
 }
 
-/// Adds a key by the slot that the member of a handle holds, and then keeps the reserve of the handle
-/// ([`topping_up`]). Where the own pool of the pass is full, which no call of a handle leaves so while a slot is held,
-/// it gives those slots back first, one step for each.
+/// Adds a key by the slot that the member of a handle holds, and then tops the reserve of the handle up
+/// ([`topping_up`]). If the own pool of the pass is full, as no call of a handle leaves it while a slot
+/// is held, it gives those slots back first, one step for each.
 ///
 /// [`topping_up`]: crate::coded_calls::topping_up
 pub fn insert_held(owner: &mut Owner<Member<Keys>>, key: u64, budget: u32) -> i32
@@ -61,7 +61,7 @@ pub fn insert_held(owner: &mut Owner<Member<Keys>>, key: u64, budget: u32) -> i3
     held_call_code(answer)
 }
 
-/// Looks a key up by the member of a handle, and writes where it stands ([`Member`]'s `get_entry`).
+/// Looks a key up by the member of a handle, and writes where it stands (`get_entry` of [`Member`]).
 pub fn get_entry(
     owner: &mut Owner<Member<Keys>>,
     key: u64,
@@ -77,7 +77,8 @@ pub fn get_entry(
     give_incarnation(owner.member_mut().get_entry(key, budget), at)
 }
 
-/// Takes a key out by the member of a handle where its node is that of this entry ([`Member`]'s `remove_exactly`).
+/// Takes a key out by the member of a handle if its node is this entry's (`remove_exactly` of
+/// [`Member`]).
 pub fn remove_entry(owner: &mut Owner<Member<Keys>>, key: u64, at: &Incarnation, budget: u32) -> i32
     ensures { TellsRemoveKeyNamed owner.old.member owner.new.member key (entry_named at.now) budget
         result }
@@ -88,8 +89,8 @@ pub fn remove_entry(owner: &mut Owner<Member<Keys>>, key: u64, at: &Incarnation,
     call_code(owner.member_mut().remove_exactly(key, &at.entry(), budget))
 }
 
-/// Tells the next key at a cursor by the member of a handle, and writes it and where it stands ([`Member`]'s
-/// `next_named`).
+/// Finds the next key at a cursor by the member of a handle, and writes it and where it stands
+/// (`next_named` of [`Member`]).
 pub fn next_at(
     owner: &mut Owner<Member<Keys>>,
     cursor: &mut Cursor,
@@ -106,7 +107,8 @@ pub fn next_at(
     give_named(owner.member_mut().next_named(cursor, budget), key, at)
 }
 
-/// Whether the slot of an entry shows its birth still, by the member of a handle ([`Member::is_still`]).
+/// Whether the slot of an entry still shows its birth, by the member of a handle
+/// ([`Member::is_still`]).
 pub fn is_still<N: Nodes>(owner: &mut Owner<Member<N>>, at: &Incarnation) -> i32
     ensures { TellsIfStill owner.old.member owner.new.member (entry_named at.now) result }
 {
@@ -116,7 +118,7 @@ pub fn is_still<N: Nodes>(owner: &mut Owner<Member<N>>, at: &Incarnation) -> i32
     call_code(Ok(owner.member_mut().is_still(&at.entry())))
 }
 
-// Gives the slots of a member's own pool back where that is full.
+// Gives the slots of a member's own pool back if that is full.
 pub(crate) fn make_room<N: Nodes>(member: &mut Member<N>)
     ensures { MakesRoom member.old member.new }
 {
@@ -125,7 +127,7 @@ pub(crate) fn make_room<N: Nodes>(member: &mut Member<N>)
     }
 }
 
-// Writes the slot of an answer, where it gives one, and tells the number of the answer.
+// Writes the slot of an answer, if it has one, and returns the number of the answer.
 fn give_slot(answer: Result<u32, HoldRefusal>, slot: &mut u32) -> i32
     ensures code { result ≡ hold_code answer }
     ensures writes { WritesSlot answer slot.old slot.new }
@@ -140,7 +142,7 @@ fn give_slot(answer: Result<u32, HoldRefusal>, slot: &mut u32) -> i32
     }
 }
 
-// Writes the entry of an answer, where it gives one, and tells the number of the answer.
+// Writes the entry of an answer, if it has one, and returns the number of the answer.
 pub(crate) fn give_incarnation(answer: Result<Option<Entry>, Refusal>, at: &mut Incarnation) -> i32
     ensures code { result ≡ call_code (is_yes answer) }
     ensures writes { WritesGiven answer (entry_named at.old) (entry_named at.new) }
@@ -155,7 +157,7 @@ pub(crate) fn give_incarnation(answer: Result<Option<Entry>, Refusal>, at: &mut 
     }
 }
 
-// Writes the key and the entry of an answer, where it gives them, and tells the number of the answer.
+// Writes the key and the entry of an answer, if it has them, and returns the number of the answer.
 pub(crate) fn give_named(
     answer: Result<Option<(u64, Entry)>, Refusal>,
     key: &mut u64,

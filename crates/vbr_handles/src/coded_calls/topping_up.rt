@@ -1,4 +1,5 @@
-//! What a handle keeps in reserve by itself: after a call that adds a key it takes slots up to that.
+//! The reserve that a handle keeps by itself: after a call that adds a key it takes slots up to that
+//! number.
 ghost use Rattle.std.specs.Prelude.{◌≡◌, ◌&&◌, true, false};
 ghost use Rattle.vbr_slots.specs.views.Views.{Trace, counted_steps, steps_of};
 ghost use Rattle.vbr_handles.specs.ToppingUp.{TopsUpWhere, has_added, has_stored_new, lacks_slots, left_of, reserve_of};
@@ -10,13 +11,14 @@ use vbr_words::Nodes;
 /// The most slots that a handle keeps in reserve by itself.
 pub const MOST: u32 = 32;
 
-/// A reserve is no more than the share of a handle in the slots, by this number; and where no more than this part
-/// of it is lacking, it isn't topped up.
+/// A reserve is at most the share of a handle in the slots, divided by this number; and if no more than
+/// this part of it is lacking, it isn't topped up.
 pub const PARTS: u32 = 8;
 
-/// Tops the reserve of a member up after a call that added a key, where more than an eighth of it is lacking: in
-/// as many tries as slots lack at least, or as the steps of the call left of its budget, where these are
-/// fewer. The pass had counted `before` steps when the call began. Else it does nothing.
+/// Tops the reserve of a member up after a call that added a key, if more than an eighth of it is
+/// lacking. It makes as many tries as slots are then lacking at the least, or as many as the call left
+/// steps of its budget, if these are fewer. The pass had counted `before` steps when the call began.
+/// Otherwise it does nothing.
 ///
 /// So a set that is filled is topped up once in a few inserts, since what comes between two calls keeps the
 /// processor from loading ahead.
@@ -44,7 +46,7 @@ fn has_most<N: Nodes>(member: &Member<N>) -> bool
     member.pass().pool().len() as u32 >= MOST - MOST / PARTS
 }
 
-// As `top_up_after` after a call that added a key.
+// `top_up_after` after a call that added a key.
 #[inline(never)]
 fn top_up_where_lacking<N: Nodes>(member: &mut Member<N>, budget: u32, before: u64)
     ensures { (p : Trace) → before ≡ counted_steps (steps_of p) →

@@ -1,7 +1,7 @@
 -- What a look-up came to, as what its answer asks.
 use Rattle.vbr_list.proofs.Names.{◌≡◌, ◌≢◌, ℕ, ◌≤◌, Bool, true, false, None, Option, is_some, arith, refl, sym, subst}
-use Rattle.vbr_list.proofs.Names.{At, Call, DecidesKey, Get, Ghosts, Insert, IsHeld, IsSlot, KeyAt, Know, link_of}
-use Rattle.vbr_list.proofs.Names.{set_call, Start}
+use Rattle.vbr_list.proofs.Names.{At, Call, Get, Ghosts, Insert, IsSlot, KeyAt, Know}
+use Rattle.vbr_list.proofs.Names.{set_call}
 use Rattle.vbr_at_table.specs.answers.Answering.{IsAnswered}
 use Rattle.vbr_list.specs.look_ups.LookUpPieces.{LookUpAnswers, steps_to_answer}
 use Rattle.vbr_list.specs.calls.Pieces.{trace_in}

@@ -7,12 +7,10 @@ use Rattle.vbr_words.specs.Packing.{slot_bits}
 use Rattle.vbr_slots.specs.declared.at_table.AtTable.{AtTable}
 use Rattle.vbr_slots.specs.steps.AtTables.{IsSameTable}
 use Rattle.vbr_list.specs.named_entries.OtherEntries.{IsNodeOf}
-use Rattle.vbr_list.specs.calls.Words.{wide_found, wide_held, wide_sight}
+use Rattle.vbr_list.specs.calls.Words.{wide_found, wide_held}
 use Rattle.vbr_list.specs.declared.call.PendingCall.{PendingCall}
 use Rattle.vbr_list.specs.declared.entries.Entry.{Entry}
 use Rattle.vbr_list.specs.declared.found.Found.{Found}
-use Rattle.vbr_list.specs.declared.looking.Sight.{Sight}
-use Rattle.vbr_list.specs.declared.looking.Sight.TheVariants.{Absent, Present}
 
 -- what is there is there with wide words
 pub wide_is : {N : Type 0} {kind : Ghosts N} (c : PendingCall N kind) {found : Option Held} {held : Held} →

@@ -11,6 +11,8 @@ use Rattle.vbr_list.specs.traversals.Disturbed.{disturbed, remove_costs_among}
 use Rattle.vbr_list.specs.updates.Expecting.{op_to_remove, removal_in, takes_out}
 use Rattle.vbr_list.specs.traversals.Leaving.{BoundsOfRemove, Leaves}
 use Rattle.vbr_list.specs.calls.Pieces.{GoesOn, Settles, Tries, pass_in, trace_in}
+use Rattle.vbr_list.specs.updates.Outcomes.{there_of}
+use Rattle.vbr_list.specs.declared.outcome.Outcome.{Outcome}
 use Rattle.vbr_list.specs.updates.Removing.{MarksAndSearches, RemoveAnswers, RemovesSoon}
 use Rattle.vbr_list.specs.calls.Told.{given_in}
 use Rattle.vbr_list.specs.traversals.Traversing.{LastTraversal, SearchFinds}
@@ -40,11 +42,12 @@ module _ {N : Type 0} {kind : Ghosts N} {p : PassView} {a b : PendingCall N kind
   traverses = subst (λ k. TraversesAgain 9 (trace_in a) (trace_in b) k a.used b.used) keyed finds.traverses
 
   -- a remove that is answered by what a search found
-  pub removed : {d : PendingCall N kind} (expected answer : Option ℕ) → Settles b d →
-      RemoveAnswers expected b d found answer → (pass_in d).hand ≡ None → d.used ≤ budget →
+  pub removed : {d : PendingCall N kind} (expected : Option ℕ) (outcome : Outcome) → Settles b d →
+      RemoveAnswers expected b d found outcome → (pass_in d).hand ≡ None → d.used ≤ budget →
       CallsAs (removal_in p.trace key expected) (BoundsOfRemove (takes_out expected) p (pass_in d) key budget) p
-      (pass_in d) budget (Ok answer)
-  removed {d} expected answer settles x hand within =
+      (pass_in d) budget (Ok (there_of outcome))
+  removed {d} expected outcome settles x hand within =
+      let answer = there_of outcome in
       let q = trace_in b in
       let r = trace_in d in
       let there = goes.call.key ∙ keyed in

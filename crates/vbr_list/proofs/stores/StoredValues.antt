@@ -16,6 +16,7 @@ use Rattle.vbr_list.specs.updates.Inserting.{CountsWithin, Prepares, SearchedFor
 use Rattle.vbr_list.specs.traversals.Leaving.{LeavesReplaced}
 use Rattle.vbr_list.specs.calls.Pieces.{pass_in, trace_in}
 use Rattle.vbr_list.specs.updates.Preparing.{HasPrepared, told_otherwise}
+use Rattle.vbr_list.specs.updates.Outcomes.{there_in}
 use Rattle.vbr_list.specs.updates.Settling.{SearchesWith, StoredIn, StoredSoon}
 use Rattle.vbr_list.specs.updates.Storing.{CallsStore, HasUnlessStored, Makes, replaced, stored_calls}
 use Rattle.vbr_list.specs.calls.Told.{given_call, stored_call}
@@ -237,7 +238,7 @@ module _ {N : Type 0} {kind : Ghosts N} (b d : PendingCall N kind) (r : PassView
   -- it wasn't, and was given back
   pub calls_unstored : (e : PendingCall N kind) → r.trace ≡ trace_in e → used ≡ e.used → HasStill q r →
       (told : Unstored) → SaysUnstored true value wanted d e told →
-      CallsStore p r b.key value wanted b.budget (answer_unstored told)
+      CallsStore p r b.key value wanted b.budget (there_in (answer_unstored told))
   calls_unstored e back same had (Otherwise there) x =
       let T : Trace → Type 0 = λ t. Made (told_otherwise true q.trace.who d.key there) q.trace t in
       let K : ℕ → Type 0 = λ k. Made (told_otherwise true q.trace.who k there) q.trace r.trace in

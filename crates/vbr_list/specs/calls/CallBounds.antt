@@ -1,4 +1,4 @@
--- What an insert, a remove and a look-up tell.
+-- What an insert, a remove and a look-up promise.
 use Rattle.std.specs.Prelude.{◌≡◌, ◌≢◌, ℕ, ◌+◌, ◌<◌, ◌≤◌, Bool, false, [], None, Option, Result, IfOk, IfErr, is_some}
 use Rattle.vbr_machine.specs.History.{GivesValue, set_call, values_after}
 use Rattle.vbr_machine.specs.Opened.{opening_payloads}
@@ -22,11 +22,11 @@ use Rattle.vbr_list.specs.calls.Told.{given_call, stored_call}
 use Rattle.vbr_at_table.specs.declared.refusal.Refusal.{Refusal}
 
 -- what an insert promises besides its answer: about slots, refusals and steps
--- It advances the epoch only where that is needed, loses no slot, and has each that it had but for the one that it published.
--- It puts a slot into the shared pool only where its own has no more than two places left.
--- It looks for one there only where its own is empty and the key was absent at a moment. It wins one at most, and that where it has none. It is refused only where it must be.
+-- It advances the epoch only if that is needed, loses no slot, and has each that it had but for the one that it published.
+-- It puts a slot into the shared pool only if its own has at most two places left.
+-- It looks for one there only if its own is empty and the key was absent at a moment. It wins at most one, and only if it has none. It is refused only if it must be.
 -- Alone it has steps enough with a budget that is known before. With a slot in the own pool it is then answered, unless the epoch is spent.
--- Alone its answer costs no more than is known before. All that holds of a pass that was disturbed so often, too.
+-- Alone its answer costs no more than is known before. All of this also holds for a pass that was disturbed so often.
 -- With an empty own pool one step more is then counted for each slot that others took out of the shared pool.
 pub record BoundsOfInsert (p q : PassView) (key budget : ℕ) (answer : Result Bool Refusal) : Type 0 where
   pub advances : AdvancesWhereNeeded p q
@@ -45,7 +45,7 @@ pub record BoundsOfInsert (p q : PassView) (key budget : ℕ) (answer : Result B
 -- what a call that looks a key up promises besides its answer: that it only loads, and about slots, refusals and steps
 -- Its answer is all that it adds to the chronicle. It advances no epoch, loses no slot, and is refused for want of steps alone.
 -- Alone it has steps enough with a budget that is known before, and its answer costs no more than is known before, with so many steps to read a value.
--- That holds of a pass, too, that was disturbed so often, by updates of others in the key's bucket and by advances of the epoch.
+-- The same holds for a pass that was disturbed so often, by updates of others in the key's bucket and by advances of the epoch.
 pub record BoundsOfLookUp {A : Type 0} (told : A → Call) (reading : ℕ) (p q : PassView) (key budget : ℕ) (answer : Result A Refusal) : Type 0 where
   pub only_loads : OnlyLoads p.trace q.trace
   pub adds : IfOk answer (λ reply. AddsAnswer (told reply) p.trace q.trace)
@@ -68,7 +68,7 @@ BoundsOfCall Remove = BoundsOfRemove (λ removed. removed)
 BoundsOfCall Has = BoundsOfHas
 BoundsOfCall Get = λ p q key budget answer. ⊥
 
--- the pass is the same; where the call was answered, it made the call that the answer tells, and alone it got the reply of a plain set; where it was refused, it made none; it has no slot in hand, and made no more steps than its budget
+-- the pass is the same; if the call was answered, it made the call that the answer stands for, and alone it got the reply of a plain set; if it was refused, it made none; it has no slot in hand, and made no more steps than its budget
 pub record CallsAs {A : Type 0} (told : A → Call) (BoundsSo : Result A Refusal → Type 0) (p q : PassView) (budget : ℕ) (answer : Result A Refusal) : Type 0 where
   pub same : IsSame p.trace q.trace
   pub made : IfOk answer (λ reply. Made (told reply) p.trace q.trace)
@@ -78,17 +78,17 @@ pub record CallsAs {A : Type 0} (told : A → Call) (BoundsSo : Result A Refusal
   pub steps : TookWithin p.trace q.trace budget
   pub bounds : BoundsSo answer
 
--- so it is of a call of a set, which has no value
+-- the same for a call of a set, which has no value
 abbrev pub Calls : Op → PassView → PassView → ℕ → ℕ → Result Bool Refusal → Type 0
 Calls op p q key budget answer = CallsAs (set_call p.trace.who op key) (BoundsOfCall op p q key budget) p q budget answer
 
 -- ---- calls of a map
 
--- on a table with one pass the value is that of a plain map which opened with the entries of its start, perhaps none, and was given the calls of the pass before, and no others
+-- on a table with one pass the value is what a plain map gives which opened with the entries of its start, perhaps none, and was given the calls of the pass before, and no others
 abbrev pub GivesAlone : Trace → Call → Type 0
 GivesAlone p call = p.passes ≡ 1 → GivesValue (values_after (opening_payloads p.start) (made_by p)) call.op call.key call.reply call.value
 
--- so it is of a call of a map, which has a value where it stores or gives one
+-- the same for a call of a map, which has a value if it stores or gives one
 pub record CallsEntry {A : Type 0} (told : A → Call) (BoundsSo : Result A Refusal → Type 0) (p q : PassView) (budget : ℕ) (answer : Result A Refusal) : Type 0 where
   pub calls : CallsAs told BoundsSo p q budget answer
   pub gives : IfOk answer (λ reply. GivesAlone p.trace (told reply))

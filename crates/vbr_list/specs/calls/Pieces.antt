@@ -15,7 +15,7 @@ use Rattle.vbr_list.specs.declared.call.PendingCall.{PendingCall}
 
 -- ---- a call in progress
 
--- its pass, and what that has seen
+-- its pass, and what the pass has seen
 abbrev pub pass_in : {N : Type 0} {kind : Ghosts N} → PendingCall N kind → PassView
 pass_in c = c.at.stepper.now
 
@@ -37,7 +37,7 @@ pub record IsSameCall {N : Type 0} {kind : Ghosts N} (c d : PendingCall N kind) 
 abbrev pub Replies : {N : Type 0} {kind : Ghosts N} → Op → PendingCall N kind → PendingCall N kind → Bool → Type 0
 Replies op c d reply = Made (set_call (trace_in c).who op c.key reply) (trace_in c) (trace_in d)
 
--- the pass made the call with this answer, which gives a value where nodes have values
+-- the pass made the call with this answer, which gives a value if nodes have values
 abbrev pub MadeGiving : {N : Type 0} {kind : Ghosts N} → Op → PendingCall N kind → PendingCall N kind → Option ℕ → Type 0
 MadeGiving op c d answer = Made (given_in (trace_in c) op c.key answer) (trace_in c) (trace_in d)
 
@@ -56,7 +56,7 @@ pub record Goes (p q : PassView) (before since : ℕ) : Type 0 where
   pub counts : CountsSteps p.trace q.trace before since
   pub hand : KeepsHand p q
 
--- so it is within the budget
+-- the same within the budget
 pub record Tries (p q : PassView) (before since budget : ℕ) : Type 0 where
   pub goes : Goes p q before since
   pub within : (before ≤ since) × (since ≤ budget)
@@ -74,17 +74,17 @@ pub record Settles {N : Type 0} {kind : Ghosts N} (c d : PendingCall N kind) : T
   pub hand : KeepsHand (pass_in c) (pass_in d)
   pub more : c.used < d.used
 
--- the pass only observed: it made loads alone, and added no event to the chronicle
+-- the pass only observed: it made only loads, and added no event to the chronicle
 pub record Observes (p q : Trace) : Type 0 where
   pub only_loads : OnlyLoads p q
   pub adds_none : AddsNone p q
 
--- so it is within the budget
+-- the same within the budget
 pub record Peeks (p q : PassView) (before since budget : ℕ) : Type 0 where
   pub tries : Tries p q before since budget
   pub observes : Observes p.trace q.trace
 
--- so it did, and its steps are counted
+-- it did so, and its steps are counted
 pub record LooksOn (p q : PassView) (before since : ℕ) : Type 0 where
   pub goes : Goes p q before since
   pub observes : Observes p.trace q.trace

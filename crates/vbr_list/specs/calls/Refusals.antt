@@ -20,7 +20,7 @@ pub record FoundNoSlot (p q : PassView) (key : ℕ) : Type 0 where
   pub still : q.pool ≡ []
   pub outside : (slot : ℕ) → slot < p.trace.start.shape.slots → WasOutside p.trace q.trace slot
 
--- the key was absent at a moment, and the epoch is spent, which was returned where the budget had room for the piece that would advance it
+-- the key was absent at a moment, and the epoch is spent, which was returned only if the budget had room for the piece that would advance it
 pub record FoundSpent (p q : PassView) (key budget epoch : ℕ) : Type 0 where
   pub absent : WasSo p.trace q.trace key false
   pub spent : IsSpent q epoch

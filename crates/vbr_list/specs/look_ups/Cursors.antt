@@ -1,4 +1,4 @@
--- Going over all keys from cursor to cursor: what one call tells, and what an iteration has given.
+-- Going over all keys from cursor to cursor: what one call returns, and what an iteration has given.
 use Rattle.std.specs.Prelude.{◌≡◌, ℕ, zero, suc, ◌+◌, ◌-◌, ◌*◌, ◌^◌, ◌<◌, ◌≤◌, max, ◌⊎◌, true, false, List, [], ◌∷◌, Option, Some, None, Result, IfOk, IfErr, IfSome, Contains}
 use Rattle.std.specs.List.{AllByRecursion}
 use Rattle.vbr_machine.specs.Start.{Start}
@@ -30,7 +30,7 @@ first_cursor = record { bucket = 0; from = 0 }
 abbrev pub next_bucket : Cursor → Cursor
 next_bucket c = record { bucket = c.bucket + 1; from = 0 }
 
--- right behind a key of a bucket: in this bucket and from the next number on, or, where no number is greater, before the next bucket
+-- right behind a key of a bucket: in this bucket and from the next number on, or, if no number is greater, before the next bucket
 abbrev pub IsBehindKey : ℕ → ℕ → Cursor → Type 0
 IsBehindKey bucket key c = ((c.bucket ≡ bucket) × (c.from ≡ key + 1)) ⊎ ((c.bucket ≡ bucket + 1) × (c.from ≡ 0) × (2 ^ 64 ≤ key + 1))
 
@@ -67,22 +67,22 @@ abbrev pub GivesNext : Trace → Trace → Cursor → Cursor → Option ℕ → 
 GivesNext p q c d None = PassesBy p q c d None × IsAtEnd p.start d
 GivesNext p q c d (Some key) = PassesBy p q c d (Some key) × IsPastKey (bucket_of p.start.shape key) key d
 
--- where nodes have values, an entry: a key with its value at a moment at which it was there
+-- if nodes have values, an entry: a key with a value that it had at a moment when it was there
 abbrev pub GivesNextEntry : Trace → Trace → Cursor → Cursor → Option (ℕ × ℕ) → Type 0
 GivesNextEntry p q c d None = GivesNext p q c d None
 GivesNextEntry p q c d (Some entry) = GivesNext p q c d (Some entry.0) × WasEntry p q entry.0 entry.1
 
--- so it gives one that is named: the entry was there at a moment
+-- the same with the entry named: it was there at a moment
 abbrev pub GivesNextNamedEntry : Trace → Trace → Cursor → Cursor → Option (ℕ × Entry) → Type 0
 GivesNextNamedEntry p q c d None = GivesNext p q c d None
 GivesNextNamedEntry p q c d (Some told) = GivesNext p q c d (Some told.0) × WasFullEntry p q told.0 told.1
 
--- and of a set: the entry has no value
+-- and for a set: the entry has no value
 abbrev pub GivesNextNamedKey : Trace → Trace → Cursor → Cursor → Option (ℕ × Entry) → Type 0
 GivesNextNamedKey p q c d None = GivesNext p q c d None
 GivesNextNamedKey p q c d (Some told) = GivesNext p q c d (Some told.0) × WasThere p q told.0 told.1 × (told.1.value ≡ 0)
 
--- an entry of which the key is right, and the value where nodes have values
+-- an entry whose key is right, and whose value is right if nodes have values
 abbrev pub GivesNextWhere : Trace → Trace → Cursor → Cursor → Option (ℕ × ℕ) → Type 0
 GivesNextWhere p q c d None = GivesNext p q c d None
 GivesNextWhere p q c d (Some entry) = GivesNext p q c d (Some entry.0) × (p.start.shape.values ≡ true → WasEntry p q entry.0 entry.1)
@@ -119,18 +119,18 @@ abbrev pub walks_cost : Trace → Trace → ℕ → ℕ → ℕ
 walks_cost p q bucket zero = 0
 walks_cost p q bucket (suc more) = walks_cost p q bucket more + (changes_since p q (bucket + more) + 1) * walk_costs p q (bucket + more)
 
--- the most that it costs to go over them, where an advance of the epoch counts once: for each one walk more, in whichever of them
+-- the most that it costs to go over them, if an advance of the epoch counts once: for each one walk more, in whichever of them
 abbrev pub going_costs : Trace → Trace → ℕ → ℕ → ℕ
 going_costs p q bucket count = walks_cost p q bucket count + advances_since p q * greatest_walk_costs p q bucket count
 
--- how many buckets have been entered where a cursor stands so: those before its own, and its own unless it stands before the first key
+-- how many buckets have been entered when a cursor stands so: those before its own, and its own unless it stands before the first key
 abbrev pub entered_by : ℕ → ℕ → ℕ
 entered_by bucket zero = bucket
 entered_by bucket (suc from) = bucket + 1
 
 -- a call was refused, for want of steps alone, in a bucket of the table, where the cursor then stands; it gave no key on the way
--- The cursor keeps how far it has come: the budget was below what the buckets cost that the cursor has gone over, and what is enough in the one where it stands, for a pass that is disturbed in each as often as this one was; alone, for one that is disturbed never.
--- So it is where an advance of the epoch counts once: beyond what it costs to go over all of them the budget had no room for one more piece.
+-- The cursor keeps how far it has come: the budget was below what the buckets cost that the cursor has gone over, and what is enough in the one where it stands, for a pass that is disturbed in each as often as this one was; alone, for one that is never disturbed.
+-- The same holds if an advance of the epoch counts once: beyond what it costs to go over all of them the budget had no room for one more piece.
 pub record StopsShort (p q : PassView) (c d : Cursor) (budget : ℕ) (refusal : Refusal) : Type 0 where
   pub tired : IsTired p q budget refusal
   pub passed : PassesBy p.trace q.trace c d None
@@ -140,8 +140,8 @@ pub record StopsShort (p q : PassView) (c d : Cursor) (budget : ℕ) (refusal : 
   pub disturbed_short : budget < enough_to_come_among p.trace (disturbed_in p.trace q.trace) c.bucket d.bucket
   pub going_short : budget < going_costs p.trace q.trace c.bucket (d.bucket + 1 - c.bucket) + PIECE
 
--- the pass gave what it was to give, or was refused; it made no call, and loads alone, added nothing to the chronicle, and has what slots it had; it made no more steps than its budget
--- What it gave cost no more than seeking in each bucket from the first to the last one that it entered, of a pass that is disturbed in each as often as this one was; alone, of one that is disturbed never. So it is where an advance of the epoch counts once: it cost no more than going over all of them.
+-- the pass gave what it was to give, or was refused; it made no call and only loads, added nothing to the chronicle, and has the slots that it had; it made no more steps than its budget
+-- What it gave cost no more than seeking in each bucket from the first to the last one that it entered, for a pass that is disturbed in each as often as this one was; alone, for one that is never disturbed. The same holds if an advance of the epoch counts once: it cost no more than going over all of them.
 pub record Iterates {A : Type 0} (Gives : A → Type 0) (p q : PassView) (c d : Cursor) (budget : ℕ) (answer : Result A Refusal) : Type 0 where
   pub gives : IfOk answer Gives
   pub refused : IfErr answer (StopsShort p q c d budget)
@@ -155,7 +155,7 @@ pub record Iterates {A : Type 0} (Gives : A → Type 0) (p q : PassView) (c d : 
   pub disturbed_costs : IfOk answer (λ given. TookWithin p.trace q.trace (costs_over_among p.trace (disturbed_in p.trace q.trace) c.bucket (entered_by d.bucket d.from - c.bucket)))
   pub going : IfOk answer (λ given. TookWithin p.trace q.trace (going_costs p.trace q.trace c.bucket (entered_by d.bucket d.from - c.bucket)))
 
--- so it is of keys, of entries, of those that are named, and of entries where nodes have values
+-- the same for keys, for entries, for named ones, and for entries if nodes have values
 abbrev pub IteratesKeys : PassView → PassView → Cursor → Cursor → ℕ → Result (Option ℕ) Refusal → Type 0
 IteratesKeys p q c d budget answer = Iterates (GivesNext p.trace q.trace c d) p q c d budget answer
 
@@ -179,7 +179,7 @@ pub record SeesMore (p q : Trace) : Type 0 where
   pub begins : Begins p.seen q.seen
   pub is_run : IsRun q.start q.passes q.seen
 
--- each of these keys comes before those behind it, so none is given twice, and those of a bucket ascend
+-- each of these keys comes before those behind it, so none is given twice, and the keys of a bucket ascend
 abbrev pub AreInOrder : Start → List ℕ → Type 0
 AreInOrder start [] = Unit {0}
 AreInOrder start (key ∷ keys) = AllByRecursion (ComesFirst start key) keys × AreInOrder start keys

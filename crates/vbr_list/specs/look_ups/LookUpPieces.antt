@@ -19,7 +19,7 @@ use Rattle.vbr_list.specs.declared.looking.Sight.{Sight}
 use Rattle.vbr_list.specs.declared.traversal.Stop.{Stop}
 use Rattle.vbr_list.specs.declared.traversal.Stop.TheVariants.{Again, Tired}
 
--- what a look-up came to is so of the call's key, by what the pass knows
+-- what a look-up came to is true of the call's key, by what the pass knows
 abbrev pub IsSightFor : {N : Type 0} {kind : Ghosts N} → PendingCall N kind → Sight → Type 0
 IsSightFor c sight = IsSight (trace_in c).start (knows (trace_in c)) c.key sight
 
@@ -46,11 +46,11 @@ pub record LookTires {N : Type 0} {kind : Ghosts N} (c d : PendingCall N kind) :
   pub tired : c.budget < d.used + PIECE
   pub looks : TraversesAgain 5 (trace_in c) (trace_in d) c.key c.used d.used
 
--- the steps of an answer: one, and two for the value where it is given
+-- the steps of an answer: one, and two for the value if it is given
 abbrev pub steps_to_answer : Bool → ℕ
 steps_to_answer gives = 1 + steps_where gives
 
--- what is asked for is a look-up, or a get where nodes have values
+-- what is asked for is a look-up, or a get if nodes have values
 abbrev pub IsAskedOf : {N : Type 0} {kind : Ghosts N} → PendingCall N kind → Bool → Type 0
 IsAskedOf c gives = gives ≡ true → (trace_in c).start.shape.values ≡ true
 
@@ -59,7 +59,7 @@ pub record LookUpAnswers {N : Type 0} {kind : Ghosts N} (gives : Bool) (c d : Pe
   pub made : MadeGiving (look_up_op gives) c d answer
   pub adds : AddsAnswer (given_in (trace_in c) (look_up_op gives) c.key answer) (trace_in c) (trace_in d)
 
--- so it is, with the value of a node that was an entry of the key, or with 0
+-- the same, with the value of a node that was an entry of the key, or with 0
 pub record GivesValueOf {N : Type 0} {kind : Ghosts N} (gives : Bool) (c d : PendingCall N kind) (node : Held) (answer : Option ℕ) : Type 0 where
   pub answers : LookUpAnswers gives c d answer
   pub value : ℕ
@@ -67,12 +67,12 @@ pub record GivesValueOf {N : Type 0} {kind : Ghosts N} (gives : Bool) (c d : Pen
   pub zero : gives ≡ false → value ≡ 0
   pub shows : (s : ℕ) → node.at ≡ Slot s → WasHeldEntry (trace_in c) (trace_in d) node s c.key
 
--- so it is, with no
+-- the same, with no
 pub record GivesNone {N : Type 0} {kind : Ghosts N} (gives : Bool) (c d : PendingCall N kind) (answer : Option ℕ) : Type 0 where
   pub answers : LookUpAnswers gives c d answer
   pub none : answer ≡ None
 
--- it isn't answered, and added nothing: the link that is to tell stands no more, or the epoch has moved
+-- it isn't answered, and added nothing: the link that is to show it stands no more, or the epoch has moved
 pub record LookUpRollsBack {N : Type 0} {kind : Ghosts N} (c d : PendingCall N kind) (sight : Sight) (rollback : Rollback) : Type 0 where
   pub quiet : Quiet (trace_in c) (trace_in d)
   pub adds_none : AddsNone (trace_in c) (trace_in d)

@@ -1,4 +1,4 @@
--- The next key of a bucket, from a number on: what is returned of it.
+-- The next key of a bucket, from a number on: what is returned.
 use Rattle.std.specs.Prelude.{◌≡◌, ℕ, ◌+◌, ◌*◌, ◌<◌, ◌≤◌, true, false, Option, Some, None, Result, IfOk, IfErr}
 use Rattle.vbr_words.specs.Buckets.{bucket_of}
 use Rattle.vbr_slots.specs.steps.Alone.{IsAlone}
@@ -32,7 +32,7 @@ abbrev pub IsNextKeyIfAny : Trace → Trace → ℕ → ℕ → Option ℕ → T
 IsNextKeyIfAny p q bucket from None = HasNoNext p q bucket from
 IsNextKeyIfAny p q bucket from (Some key) = IsNextKey p q bucket from key
 
--- the next key with its value at a moment at which it was there
+-- the next key with a value that it had at a moment when it was there
 pub record IsNextEntry (p q : Trace) (bucket from : ℕ) (entry : ℕ × ℕ) : Type 0 where
   pub next : IsNextKey p q bucket from entry.0
   pub was : WasEntry p q entry.0 entry.1
@@ -47,12 +47,12 @@ pub record IsNextNamedEntry (p q : Trace) (bucket from : ℕ) (told : ℕ × Ent
   pub next : IsNextKey p q bucket from told.0
   pub was : WasFullEntry p q told.0 told.1
 
--- so it is, if there is one
+-- the same, if there is one
 abbrev pub IsNextNamedEntryIfAny : Trace → Trace → ℕ → ℕ → Option (ℕ × Entry) → Type 0
 IsNextNamedEntryIfAny p q bucket from None = HasNoNext p q bucket from
 IsNextNamedEntryIfAny p q bucket from (Some told) = IsNextNamedEntry p q bucket from told
 
--- so it is of a set: the entry has no value
+-- the same for a set: the entry has no value
 pub record IsNextNamedKey (p q : Trace) (bucket from : ℕ) (told : ℕ × Entry) : Type 0 where
   pub next : IsNextKey p q bucket from told.0
   pub there : WasThere p q told.0 told.1
@@ -68,14 +68,14 @@ IsNextNamedKeyIfAny p q bucket from (Some told) = IsNextNamedKey p q bucket from
 abbrev pub enough_to_seek : Trace → ℕ → ℕ
 enough_to_seek p bucket = 5 * nodes_listed_in p bucket + 11
 
--- the most that it costs a pass that is alone: five for each, and three, and those of reading the value
+-- the most that it costs a pass that is alone: five for each, and three, and the steps of reading the value
 abbrev pub seek_costs : Trace → ℕ → ℕ
 seek_costs p bucket = 5 * nodes_listed_in p bucket + 3 + steps_to_value_of p.start
 
 -- the pass returned what it was to return, or was refused for want of steps alone
--- It made no call, and loads alone, added nothing to the chronicle, and has the slots that it had. It made no more steps than its budget.
--- Alone it has steps enough with a budget that is known before, and what it tells costs no more than is known before.
--- That holds of a pass that was disturbed so often, too.
+-- It made no call and only loads, added nothing to the chronicle, and has the slots that it had. It made no more steps than its budget.
+-- Alone it has steps enough with a budget that is known before, and what it returns costs no more than is known before.
+-- The same holds for a pass that was disturbed so often.
 pub record Seeks {A : Type 0} (Tells : A → Type 0) (p q : PassView) (bucket budget : ℕ) (answer : Result A Refusal) : Type 0 where
   pub told : IfOk answer Tells
   pub quiet : Quiet p.trace q.trace
@@ -90,7 +90,7 @@ pub record Seeks {A : Type 0} (Tells : A → Type 0) (p q : PassView) (bucket bu
   pub costs : IfOk answer (λ told. IsAlone p.trace q.trace → TookWithin p.trace q.trace (seek_costs p.trace bucket))
   pub disturbed_costs : IfOk answer (λ told. TookWithin p.trace q.trace (seek_costs_among (nodes_listed_in p.trace bucket) (disturbed_in p.trace q.trace bucket) (steps_to_value_of p.trace.start)))
 
--- so it is of a key, of an entry, and of those that are named
+-- the same for a key, for an entry, and for named ones
 abbrev pub SeeksKey : PassView → PassView → ℕ → ℕ → ℕ → Result (Option ℕ) Refusal → Type 0
 SeeksKey p q bucket from budget answer = Seeks (IsNextKeyIfAny p.trace q.trace bucket from) p q bucket budget answer
 

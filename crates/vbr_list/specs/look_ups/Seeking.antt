@@ -15,16 +15,16 @@ use Rattle.vbr_list.specs.declared.seeking.NextNode.{NextNode}
 use Rattle.vbr_list.specs.declared.traversal.Stop.{Stop}
 use Rattle.vbr_list.specs.declared.traversal.Stop.TheVariants.{Again, Tired}
 
--- the next key, if there is one, and its value where nodes have values
+-- the next key, if there is one, and its value if nodes have values
 abbrev pub TellsWhere : Trace → Trace → ℕ → ℕ → Option (ℕ × ℕ) → Type 0
 TellsWhere p q bucket from None = HasNoNext p q bucket from
 TellsWhere p q bucket from (Some entry) = IsNextKey p q bucket from entry.0 × (p.start.shape.values ≡ true → WasEntry p q entry.0 entry.1)
 
--- the entry of the key was there at a moment, and had its value where nodes have values
+-- the entry of the key was there at a moment, and had its value if nodes have values
 abbrev pub WasNode : Trace → Trace → NextNode → Type 0
 WasNode p q next = WasThere p q next.key next.entry × (p.start.shape.values ≡ true → WasFullEntry p q next.key next.entry)
 
--- the node with the next key, if there is one; where it was the last of its list, each key of the bucket above it was absent at a moment too
+-- the node with the next key, if there is one; if it was the last of its list, each key of the bucket above it was absent at a moment too
 abbrev pub TellsNode : Trace → Trace → ℕ → ℕ → Option NextNode → Type 0
 TellsNode p q bucket from None = HasNoNext p q bucket from
 TellsNode p q bucket from (Some next) = TellsWhere p q bucket from (Some (next.key, next.entry.value)) × (next.is_last ≡ true → HasNoNext p q bucket (next.key + 1)) × WasNode p q next
@@ -37,11 +37,11 @@ GivesNextNode p q c d (Some next) = GivesNextWhere p q c d (Some (next.key, next
 abbrev pub IteratesNodes : PassView → PassView → Cursor → Cursor → ℕ → Result (Option NextNode) Refusal → Type 0
 IteratesNodes p q c d budget answer = Iterates (GivesNextNode p.trace q.trace c d) p q c d budget answer
 
--- the steps of a traversal besides those for its nodes: three to start, and those of reading the value
+-- the steps of a traversal besides the steps for its nodes: three to start, and the steps of reading the value
 abbrev pub steps_besides : Trace → ℕ
 steps_besides p = 3 + steps_to_value_of p.start
 
--- one traversal tells what is next
+-- one traversal found what is next
 pub record TraversesToNext (p q : Trace) (bucket from before since : ℕ) (told : Option NextNode) : Type 0 where
   pub tells : TellsNode p q bucket from told
   pub paid : TraversesOnce 5 (steps_besides p) p q bucket before since
@@ -51,7 +51,7 @@ abbrev pub SeekStops : Trace → Trace → ℕ → ℕ → ℕ → ℕ → Stop 
 SeekStops p q bucket before since budget Again = (before < since) × TraversesOnce 5 (steps_besides p) p q bucket before since × IsDisturbed p q bucket
 SeekStops p q bucket before since budget Tired = (budget < since + PIECE) × TraversesOnce 5 3 p q bucket before since
 
--- a seek tells what is next: each traversal but the last was disturbed
+-- a seek found what is next: each traversal but the last was disturbed
 pub record FindsNext (p q : Trace) (bucket from before since : ℕ) (told : Option NextNode) : Type 0 where
   pub tells : TellsNode p q bucket from told
   pub searches : SearchesIn 5 (steps_besides p) p q bucket before since (steps_besides p)

@@ -20,18 +20,18 @@ pub record IsFoundValue (know : Know) (found : Found) (value : ℕ) : Type 0 whe
   pub present : found.present ≡ true
   pub known : (cur : Held) → found.cur ≡ Some cur → ValueAt know cur.at value
 
--- what was there: the value that is known of the node, or none where the key was found absent
+-- what was there: the value that is known of the node, or none if the key was found absent
 abbrev pub IsThere : Know → Found → Option ℕ → Type 0
 IsThere know found None = found.present ≡ false
 IsThere know found (Some value) = IsFoundValue know found value
 
--- nodes have values, what was found tells where the call's key stands, and this was there
+-- nodes have values, what was found shows where the call's key stands, and this was there
 pub record KnowsThere {N : Type 0} {kind : Ghosts N} (c : PendingCall N kind) (found : Found) (there : Option ℕ) : Type 0 where
   pub values : (trace_in c).start.shape.values ≡ true
   pub locates : LocatesFor c found
   pub is : IsThere (knows (trace_in c)) found there
 
--- so it is once it was read, and what was known before is known
+-- the same once it was read, and what was known before is known
 pub record ReadsFound {N : Type 0} {kind : Ghosts N} (c d : PendingCall N kind) (found : Found) (there : Option ℕ) : Type 0 where
   pub keeps : Keeps (knows (trace_in c)) (knows (trace_in d))
   pub known : KnowsThere d found there

@@ -1,4 +1,4 @@
--- Reading the value of a node, where nodes have values. Only contracts of private functions cite this.
+-- Reading the value of a node, if nodes have values. Only contracts of private functions cite this.
 use Rattle.std.specs.Prelude.{◌≡◌, ℕ, true}
 use Rattle.vbr_words.specs.declared.place.At.{At}
 use Rattle.vbr_slots.specs.views.Views.{PassView, knows}
@@ -7,7 +7,7 @@ use Rattle.vbr_at_table.specs.reads.Reading.{RollsBack}
 use Rattle.vbr_at_table.specs.answers.Values.{ValueAt}
 use Rattle.vbr_at_table.specs.declared.rollback.Rollback.{Rollback}
 
--- the value of the node at a place is known, where nodes have values, and what the pass knew it knows
+-- the value of the node at a place is known, if nodes have values, and what the pass knew it knows
 pub record ReadsValue (p q : PassView) (place : At) (found : ℕ) : Type 0 where
   pub keeps : Keeps (knows p.trace) (knows q.trace)
   pub value : p.trace.start.shape.values ≡ true → ValueAt (knows q.trace) place found

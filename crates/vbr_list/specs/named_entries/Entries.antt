@@ -1,4 +1,4 @@
--- What is told of an entry: that it was in the map when it was found, and that its slot is its own still.
+-- What is known of an entry: that it was in the map when it was found, and that its slot is still its own.
 use Rattle.std.specs.Prelude.{◌≡◌, ◌≢◌, ℕ, ◌<◌, nat_lt, Bool, true, false, List, Option, Some, None, Result, IfOk, if◌then◌else◌, is_some}
 use Rattle.vbr_words.specs.declared.nodes.Nodes.{Ghosts}
 use Rattle.vbr_words.specs.declared.place.At.{At}
@@ -83,7 +83,7 @@ pub record EntryAnswers {N : Type 0} {kind : Ghosts N} (gives : Bool) (c d : Pen
 abbrev pub entry_in : Trace → Bool → ℕ → Option Entry → Call
 entry_in p gives key entry = given_in p (look_up_op gives) key (value_of_entry entry)
 
--- so it is of a whole call. Only contracts of private functions cite this
+-- the same for a whole call. Only contracts of private functions cite this
 pub record FindsNamedEntry (gives : Bool) (p q : PassView) (key budget : ℕ) (answer : Result (Option Entry) Refusal) : Type 0 where
   pub calls : CallsAs (entry_in p.trace gives key) (BoundsOfLookUp (entry_in p.trace gives key) (steps_where gives) p q key budget) p q budget answer
   pub there : IfOk answer (WasThereIf p.trace q.trace key)
@@ -112,11 +112,11 @@ pub record IsGone (p q : PassView) (entry : Entry) : Type 0 where
   pub within : Moment p.trace q.trace moment
   pub shown : (world_after p.trace.start moment).birth entry.slot ≢ entry.birth
 
--- one of the two holds, as the answer says; where the slot isn't one of the shape, the answer is no
+-- one of the two holds, as the answer says; if the slot isn't one of the shape, the answer is no
 abbrev pub TellsStill : PassView → PassView → Entry → Bool → Type 0
 TellsStill p q entry true = IsStill p q entry
 TellsStill p q entry false = entry.slot < p.trace.start.shape.slots → IsGone p q entry
 
--- the steps of the question: one, or none where the slot isn't one of the shape
+-- the steps of the question: one, or none if the slot isn't one of the shape
 abbrev pub steps_to_ask : Trace → Entry → ℕ
 steps_to_ask p entry = if nat_lt entry.slot p.start.shape.slots then 1 else 0

@@ -1,4 +1,4 @@
--- What is told of an entry whose node was found, that another took the place of, or that wasn't in the map.
+-- What is known of an entry whose node was found, whose place another took, or that wasn't in the map.
 use Rattle.std.specs.Prelude.{◌≡◌, ℕ, true, List, [], ◌∷◌, ◌++◌, Some}
 use Rattle.vbr_machine.specs.Start.{Start}
 use Rattle.vbr_machine.specs.Accounts.{incarnations_after}

@@ -1,4 +1,4 @@
--- A remove of one entry, and of no other: it takes out the entry's node, or tells that the set or map lacked it.
+-- A remove of one entry, and of no other: it takes out the entry's node, or answers that the set or map lacked it.
 use Rattle.std.specs.Prelude.{◌≡◌, ℕ, Bool, true, false, Option, Some, None, Result, IfOk, IfErr, is_some}
 use Rattle.vbr_machine.specs.History.{set_call}
 use Rattle.vbr_machine.specs.Runs.{Begins}
@@ -29,7 +29,7 @@ pub record TakesOut (call : Call) (p q : Trace) (key : ℕ) (entry : Entry) : Ty
   pub alone : AnswersAlone p Remove key true
   pub marked : MarkedSlot p q entry.slot entry.birth key
 
--- so it is of a map, whose remove gives this value
+-- the same for a map, whose remove gives this value
 pub record TakesOutValue (p q : Trace) (key : ℕ) (entry : Entry) (value : ℕ) : Type 0 where
   pub takes : TakesOut (given_call p.who Remove key (Some value)) p q key entry
   pub gives : GivesAlone p (given_call p.who Remove key (Some value))
@@ -39,22 +39,22 @@ pub record TakesOutNone (p q : Trace) (key : ℕ) (entry : Entry) : Type 0 where
   pub quiet : Quiet p q
   pub lacked : WasOther p q key entry
 
--- what is told of a map: the value that was taken out, or that there was no such entry
+-- what is answered at a map: the value that was taken out, or that there was no such entry
 abbrev pub TellsTaken : Trace → Trace → ℕ → Entry → Option ℕ → Type 0
 TellsTaken p q key entry None = TakesOutNone p q key entry
 TellsTaken p q key entry (Some value) = TakesOutValue p q key entry value
 
--- and of a set: whether the key was taken out
+-- and at a set: whether the key was taken out
 abbrev pub TellsKeyTaken : Trace → Trace → ℕ → Entry → Bool → Type 0
 TellsKeyTaken p q key entry false = TakesOutNone p q key entry
 TellsKeyTaken p q key entry true = TakesOut (set_call p.who Remove key true) p q key entry
 
--- and of a table, as it keeps the call. Only contracts of private functions cite this
+-- and at a table, as it keeps the call. Only contracts of private functions cite this
 abbrev pub TellsNodeTaken : Trace → Trace → ℕ → Entry → Option ℕ → Type 0
 TellsNodeTaken p q key entry None = TakesOutNone p q key entry
 TellsNodeTaken p q key entry (Some value) = TakesOut (given_in p Remove key (Some value)) p q key entry
 
--- a remove of one entry: the pass is the same, no slot is in hand, and it made no more steps than its budget; where it was refused, it made no call; it promises what a remove does besides
+-- a remove of one entry: the pass is the same, no slot is in hand, and it made no more steps than its budget; if it was refused, it made no call; it promises what a remove does besides
 pub record RemovesOne {A : Type 0} (Tells : A → Type 0) (yes : A → Bool) (p q : PassView) (key budget : ℕ) (answer : Result A Refusal) : Type 0 where
   pub same : IsSame p.trace q.trace
   pub told : IfOk answer Tells
@@ -63,7 +63,7 @@ pub record RemovesOne {A : Type 0} (Tells : A → Type 0) (yes : A → Bool) (p 
   pub steps : TookWithin p.trace q.trace budget
   pub bounds : BoundsOfRemove yes p q key budget answer
 
--- so it is at a map, at a set, and at either
+-- the same at a map, at a set, and at either
 abbrev pub RemovesExactly : PassView → PassView → ℕ → Entry → ℕ → Result (Option ℕ) Refusal → Type 0
 RemovesExactly p q key entry budget answer = RemovesOne (TellsTaken p.trace q.trace key entry) is_some p q key budget answer
 

@@ -1,4 +1,4 @@
--- How often other passes disturb a call, and the budgets that suffice all the same.
+-- How often other passes disturb a call, and the budgets that are enough all the same.
 use Rattle.std.specs.Prelude.{ℕ, ◌+◌, ◌-◌, ◌*◌, List}
 use Rattle.vbr_words.specs.Buckets.{bucket_of}
 use Rattle.vbr_machine.specs.Accounts.{incarnations_after}
@@ -24,11 +24,11 @@ disturbed_in p q bucket = disturbed_at p bucket q.seen - disturbed_at p bucket p
 abbrev pub advances_since : Trace → Trace → ℕ
 advances_since p q = (incarnations_after p.start q.seen).epoch - (incarnations_after p.start p.seen).epoch
 
--- and how often others disturbed a pass at a bucket besides, where it advanced the epoch never itself: how often they changed the list there
+-- and how often others disturbed a pass at a bucket in other ways, if it never advanced the epoch itself: how often they changed the list there
 abbrev pub changes_since : Trace → Trace → ℕ → ℕ
 changes_since p q bucket = disturbed_in p q bucket - advances_since p q
 
--- so it is at a key's bucket
+-- the same at a key's bucket
 abbrev pub disturbed_after : Trace → ℕ → List Event → ℕ
 disturbed_after p key run = disturbed_at p (bucket_of p.start.shape key) run
 
@@ -45,7 +45,7 @@ most_disturbed p q = (incarnations_after p.start q.seen).epoch - (incarnations_a
 abbrev pub enough_among : ℕ → ℕ → ℕ
 enough_among nodes times = (times + 1) * (5 * (nodes + times) + 11)
 
--- the most that it costs where it is answered, with so many steps to read a value
+-- the most that it costs if it is answered, with so many steps to read a value
 abbrev pub costs_among : ℕ → ℕ → ℕ → ℕ
 costs_among nodes times reading = (times + 1) * (5 * (nodes + times) + 4 + reading)
 
@@ -64,7 +64,7 @@ changed_after p key run = changed_at p (bucket_of p.start.shape key) run
 abbrev pub enough_to_search_among : ℕ → ℕ → ℕ
 enough_to_search_among nodes times = (times + 1) * (9 * (nodes + times) + 11)
 
--- what a call has to do more than alone where it is disturbed so often: for each time one more search among all nodes that it can meet, and so many steps
+-- what a call has to do more than alone if it is disturbed so often: for each time one more search among all nodes that it can meet, and so many steps
 abbrev pub searches_more : ℕ → ℕ → ℕ → ℕ
 searches_more each nodes times = times * (9 * (nodes + times) + each)
 
@@ -72,7 +72,7 @@ searches_more each nodes times = times * (9 * (nodes + times) + each)
 abbrev pub enough_to_insert_among : ℕ → ℕ → ℕ → ℕ
 enough_to_insert_among nodes times taking = enough_past (nodes + times) taking + searches_more 7 nodes times
 
--- the most that it costs where it is answered, with so many steps to store a value
+-- the most that it costs if it is answered, with so many steps to store a value
 abbrev pub insert_costs_among : ℕ → ℕ → ℕ → ℕ → ℕ
 insert_costs_among nodes times taking storing = insert_costs_past (nodes + times) taking storing + searches_more 7 nodes times
 
@@ -80,7 +80,7 @@ insert_costs_among nodes times taking storing = insert_costs_past (nodes + times
 abbrev pub enough_to_store_among : ℕ → ℕ → ℕ → ℕ
 enough_to_store_among nodes times taking = enough_past (nodes + times) taking + searches_more 12 nodes times
 
--- the most that it costs where it is answered: six more
+-- the most that it costs if it is answered: six more
 abbrev pub store_costs_among : ℕ → ℕ → ℕ → ℕ
 store_costs_among nodes times taking = enough_to_store_among nodes times taking + 6
 
@@ -88,15 +88,15 @@ store_costs_among nodes times taking = enough_to_store_among nodes times taking 
 abbrev pub steps_for_slot : PassView → Trace → ℕ
 steps_for_slot p q = most_to_take_among p.trace.start p.pool (gained p.trace q)
 
--- and those of a store, which may read the value before
+-- and in which a store does, which may read the value before
 abbrev pub steps_to_prepare : Wanted → PassView → Trace → ℕ
 steps_to_prepare wanted p q = steps_for_slot p q + steps_to_compare wanted
 
--- the most that it costs where it is found
+-- the most that it costs if it is found
 abbrev pub find_costs_among : ℕ → ℕ → ℕ
 find_costs_among nodes times = (times + 1) * (9 * (nodes + times) + 3)
 
--- the most that a remove costs which is answered, with so many steps to read a value
+-- the most that an answered remove costs, with so many steps to read a value
 abbrev pub remove_costs_among : ℕ → ℕ → ℕ → ℕ
 remove_costs_among nodes times reading = (times + 1) * (9 * (nodes + times) + 6) + 4 + reading
 
@@ -104,6 +104,6 @@ remove_costs_among nodes times reading = (times + 1) * (9 * (nodes + times) + 6)
 abbrev pub enough_in_hand_among : ℕ → ℕ → ℕ → ℕ
 enough_in_hand_among each nodes times = 9 * (nodes + times) + 11 + searches_more each nodes times
 
--- the most that it costs where it is answered, in so many steps after its last search
+-- the most that it costs if it is answered, in so many steps after its last search
 abbrev pub costs_in_hand_among : ℕ → ℕ → ℕ → ℕ → ℕ
 costs_in_hand_among each nodes times after = 9 * (nodes + times) + 3 + after + searches_more each nodes times

@@ -1,4 +1,4 @@
--- What a traversal found was so: its places stood at moments of what the pass did.
+-- What a traversal found was true: its places stood at moments of what the pass did.
 use Rattle.std.specs.Prelude.{ℕ, ◌<◌, ◌≤◌, Option, Some, None}
 use Rattle.vbr_slots.specs.steps.Alone.{IsAlone}
 use Rattle.vbr_slots.specs.steps.Calls.{Quiet, Took}
@@ -24,7 +24,7 @@ pub record IsFound (p q : Trace) (key : ℕ) (found : Found) : Type 0 where
   pub stood : Stood p q found.pred
   pub cur_stood : CurStood p q found.cur
 
--- a find made no call, and tells where the key stood at moments of it, within its budget; and at a moment no marked node of the key was in a list; alone it costs no more than is known before, nor where it was disturbed so often
+-- a find made no call, and shows where the key stood at moments of it, within its budget; and at a moment no marked node of the key was in a list; alone, and if it was disturbed so often, it costs no more than is known before
 pub record FindsIn (p q : PassView) (key budget : ℕ) (told : Found) : Type 0 where
   pub quiet : Quiet p.trace q.trace
   pub found : IsFound p.trace q.trace key told
@@ -35,7 +35,7 @@ pub record FindsIn (p q : PassView) (key budget : ℕ) (told : Found) : Type 0 w
   pub costs : IsAlone p.trace q.trace → told.used ≤ find_costs p.trace key
   pub disturbed_costs : told.used ≤ find_costs_among (listed_for p.trace key) (disturbed p.trace q.trace key)
 
--- a find gave up for want of steps, and made no call; a pass that was alone had fewer than are enough for the nodes that were listed, and one that was disturbed so often, fewer than are enough then
+-- a find gave up for want of steps, and made no call; a pass that was alone had fewer than are enough for the nodes that were listed, and one that was disturbed so often, fewer than are then enough
 pub record FindGivesUp (p q : PassView) (key budget : ℕ) (refusal : Refusal) : Type 0 where
   pub quiet : Quiet p.trace q.trace
   pub refused : IsTired p q budget refusal

@@ -57,7 +57,7 @@ pub record Helps (p q : PassView) (pred : Held) (gone : Marked) (place : Held) :
 abbrev pub HelpsNone : PassView → PassView → Held → Rollback → Type 0
 HelpsNone p q pred rollback = LosesPlace p.trace q.trace pred
 
--- the marked node was unlinked and retired, so no marked node of its key was in a list but one that was replaced, where it was taken out, and it has left its list, if it stood behind the place by its key; where the epoch stayed, that helped
+-- the marked node was unlinked and retired. So if it was taken out, no marked node of its key was in a list but a replaced one; and it has left its list, if it stood behind the place by its key; if the epoch stayed, that helped
 pub record RetiresMarked (p q : PassView) (pred : Held) (gone : Marked) (place : Held) : Type 0 where
   pub helps : place.epoch ≡ (knows q.trace).epoch → Helps p q pred gone place
   pub late : place.epoch ≢ (knows q.trace).epoch → MovesOn p.trace q.trace

@@ -39,8 +39,8 @@ abbrev pub LeavesReplaced : Trace → Trace → ℕ → Type 0
 LeavesReplaced p q key = ReplacedLeft p.start p.seen q.seen p.who key
 
 -- what a remove promises besides its answer: about slots, refusals, steps, and the node that it marked
--- It advances no epoch, loses no slot, and is refused for want of steps alone.
--- Where it answers yes, the node that it marked has left its list, unless its steps leave no room in the budget for one more piece.
+-- It advances no epoch, loses no slot, and is refused only for want of steps.
+-- If it answers yes, the node that it marked has left its list, unless its steps leave no room in the budget for one more piece.
 -- Alone it has steps enough with a budget that is known before, and its answer costs no more than is known before.
 -- With two steps more, one that is answered yes leaves fewer nodes in the list.
 -- A pass that was disturbed so often has steps enough with a budget for that, and its answer costs no more than that allows.

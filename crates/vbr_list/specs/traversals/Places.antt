@@ -1,5 +1,5 @@
 -- Where a key stands in the list of its bucket: behind which place, and before which node.
-use Rattle.std.specs.Prelude.{◌≡◌, ℕ, ◌≤◌, ◌==◌, Bool, true, false, Option, Some, None}
+use Rattle.std.specs.Prelude.{◌≡◌, ℕ, ◌≤◌, ◌==◌, Bool, false, Option, Some, None}
 use Rattle.vbr_machine.specs.Start.{Start}
 use Rattle.vbr_words.specs.Words.{link_of}
 use Rattle.vbr_words.specs.declared.place.At.TheVariants.{Slot}
@@ -46,7 +46,7 @@ abbrev pub sighted : Sight → Held
 sighted (Present node) = node
 sighted (Absent pred) = pred
 
--- what was found tells where the key stands, by what the pass knows
+-- what was found shows where the key stands, by what the pass knows
 pub record Locates (start : Start) (know : Know) (key : ℕ) (found : Found) : Type 0 where
   pub pred : IsPred start know key found.pred
   pub end : IsEnd know key found.pred found.cur found.present

@@ -67,7 +67,7 @@ pub record MovesOn (p q : Trace) : Type 0 where
 abbrev pub LosesPlace : Trace → Trace → Held → Type 0
 LosesPlace p q pred = MovesOn p q ⊎ ((found : ℕ) × IsLost p q pred (LostExchange found) × ChangesNone p q)
 
--- so it is of what stands behind a place, if that is a node
+-- the same for what stands behind a place, if that is a node
 abbrev pub LosesNext : Trace → Trace → Option Held → Type 0
 LosesNext p q None = ⊥
 LosesNext p q (Some node) = LosesPlace p q node
@@ -86,7 +86,7 @@ nodes_after p run = incarnations_after p.start run
 abbrev pub met_in : Trace → Trace → ℕ → ℕ
 met_in p q bucket = met p.start (nodes_after p p.seen) (nodes_after p q.seen) bucket
 
--- and of that of a key's bucket
+-- and of the list of a key's bucket
 abbrev pub met_since : Trace → Trace → ℕ → ℕ
 met_since p q key = met_in p q (bucket_of p.start.shape key)
 
@@ -103,7 +103,7 @@ pub record StandsStill (p q : Trace) (bucket : ℕ) (held : Held) : Type 0 where
   pub stood : StoodOpen p q bucket held
   pub own : changed_at p bucket q.seen ≡ changed_at p bucket stood.moment
 
--- so it is of what stands behind a place, if that is a node
+-- the same for what stands behind a place, if that is a node
 abbrev pub NextStandsStill : Trace → Trace → ℕ → Option Held → Type 0
 NextStandsStill p q bucket None = Unit {0}
 NextStandsStill p q bucket (Some node) = StandsStill p q bucket node
@@ -123,7 +123,7 @@ TraversesOnce per each p q bucket before since = since ≤ before + each + per *
 abbrev pub IsDisturbed : Trace → Trace → ℕ → Type 0
 IsDisturbed p q bucket = disturbed_at p bucket p.seen < disturbed_at p bucket q.seen
 
--- so many traversals, each with so many steps for a node and so many besides; and no more of them than it was disturbed
+-- so many traversals, each with so many steps for a node and so many besides; at most as many of them as it was disturbed
 pub record RepeatsIn (per : ℕ) (p q : Trace) (bucket each before since tries times : ℕ) : Type 0 where
   pub few : disturbed_at p bucket p.seen + tries ≤ times
   pub paid : since ≤ before + tries * (per * met_in p q bucket + each)
@@ -139,7 +139,7 @@ pub record SearchesIn (per each : ℕ) (p q : Trace) (bucket before since more :
   pub few : disturbed_at p bucket p.seen + lost ≤ disturbed_at p bucket q.seen
   pub paid : since ≤ before + per * met_in p q bucket + lost * (per * met_in p q bucket + each) + more
 
--- so it is along a key's bucket
+-- the same along a key's bucket
 abbrev pub Repeats : ℕ → Trace → Trace → ℕ → ℕ → ℕ → ℕ → ℕ → ℕ → Type 0
 Repeats per p q key each before since tries times = RepeatsIn per p q (bucket_of p.start.shape key) each before since tries times
 

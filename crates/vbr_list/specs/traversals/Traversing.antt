@@ -25,7 +25,7 @@ use Rattle.vbr_list.specs.declared.traversal.Stop.TheVariants.{Again, Tired}
 abbrev pub IsPredFor : {N : Type 0} {kind : Ghosts N} → PendingCall N kind → Held → Type 0
 IsPredFor c pred = IsPred (trace_in c).start (knows (trace_in c)) c.key pred
 
--- what was found tells where the call's key stands
+-- what was found shows where the call's key stands
 abbrev pub LocatesFor : {N : Type 0} {kind : Ghosts N} → PendingCall N kind → Found → Type 0
 LocatesFor c found = Locates (trace_in c).start (knows (trace_in c)) c.key found
 

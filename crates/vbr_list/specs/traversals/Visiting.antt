@@ -52,7 +52,7 @@ pub record HasKey (p q : Trace) (here node : Held) (key : ℕ) : Type 0 where
   pub keyed : KeyAt (knows q) node.at key
   pub of_bucket : (bucket : ℕ) → HeldIn (knows p) here.at bucket → bucket_of q.start.shape key ≡ bucket
 
--- so it is, and its key is below a number
+-- the same, and its key is below a number
 pub record HasKeyBelow (p q : Trace) (here node : Held) (number : ℕ) : Type 0 where
   pub key : ℕ
   pub has : HasKey p q here node key

@@ -1,4 +1,4 @@
--- A remove of a key with any value, or only with the one that is expected: what it takes out, and which call of the history it is.
+-- A remove of a key with any value, or only with the expected one: what it takes out, and which call of the history it is.
 use Rattle.std.specs.Prelude.{ℕ, Bool, Option, Some, None, Result, is_some, if◌then◌else◌}
 use Rattle.vbr_machine.specs.declared.history.Call.{Call}
 use Rattle.vbr_machine.specs.declared.history.Op.{Op}
@@ -11,17 +11,17 @@ use Rattle.vbr_list.specs.updates.Wanted.{wants}
 use Rattle.vbr_list.specs.declared.wanted.Wanted.TheVariants.{Value}
 use Rattle.vbr_at_table.specs.declared.refusal.Refusal.{Refusal}
 
--- whether what was there is taken out: any value, or the one that is expected
+-- whether what was there is taken out: any value, or the expected one
 abbrev pub takes_out : Option ℕ → Option ℕ → Bool
 takes_out None = is_some
 takes_out (Some expected) = wants (Value expected)
 
--- a remove; where a value is expected and another was there, or none, a get
+-- a remove; if a value is expected and another was there, or none, a get
 abbrev pub op_to_remove : Option ℕ → Option ℕ → Op
 op_to_remove None there = Remove
 op_to_remove (Some expected) there = if wants (Value expected) there then Remove else Get
 
--- the call that tells what was there
+-- the call that shows what was there
 abbrev pub removal_call : ℕ → ℕ → Option ℕ → Option ℕ → Call
 removal_call who key expected there = given_call who (op_to_remove expected there) key there
 
@@ -29,6 +29,6 @@ removal_call who key expected there = given_call who (op_to_remove expected ther
 abbrev pub removal_in : Trace → ℕ → Option ℕ → Option ℕ → Call
 removal_in p key expected there = given_in p (op_to_remove expected there) key there
 
--- a remove of an entry with the value that is expected, which tells what was there
+-- a remove of an entry with the expected value, which returns what was there
 abbrev pub CallsRemoveIf : PassView → PassView → ℕ → ℕ → ℕ → Result (Option ℕ) Refusal → Type 0
 CallsRemoveIf p q key expected budget answer = CallsEntry (removal_call p.trace.who key (Some expected)) (BoundsOfRemove (wants (Value expected)) p q key budget) p q budget answer

@@ -1,4 +1,4 @@
--- What an insert, a replacement and a put tell by a slot that the pass has in hand already.
+-- What an insert, a replacement and a put promise by a slot that the pass already has in hand.
 use Rattle.std.specs.Prelude.{◌≡◌, ℕ, ◌+◌, ◌<◌, ◌≤◌, Bool, true, false, Option, Some, None, Result, IfOk, IfErr}
 use Rattle.vbr_words.specs.declared.nodes.Nodes.{Ghosts}
 use Rattle.vbr_slots.specs.steps.Alone.{IsAlone}
@@ -40,7 +40,7 @@ pub record CostsInHand (each after : ℕ) (p q : Trace) (key before since : ℕ)
   pub disturbed_costs : since ≤ before + costs_in_hand_among each (listed_for p key) (disturbed p q key) after
   pub costs : IsAlone p q → since ≤ before + (find_costs p key + after)
 
--- so it is of a budget that didn't suffice: it was less than is enough
+-- the same for a budget that didn't suffice: it was less than is enough
 pub record LacksInHand (each : ℕ) (p q : Trace) (key before budget : ℕ) : Type 0 where
   pub disturbed_lacks : budget < before + enough_in_hand_among each (listed_for p key) (disturbed p q key)
   pub lacks : IsAlone p q → budget < before + enough_to_search p key
@@ -86,7 +86,7 @@ pub record InsertsHeld {T : Type 0} (p q : PassView) (key value budget : ℕ) (h
 
 -- ---- a value is stored by a slot in hand
 
--- with so many steps used before, the slot in hand is published with this value, where this was there: by an insert, or in the place of a node, which has left its list unless the steps leave no room in the budget for one more piece
+-- with so many steps used before, the slot in hand is published with this value, when this was there: by an insert, or in the place of a node, which has left its list unless the steps leave no room in the budget for one more piece
 pub record StoresHeld (p q : PassView) (key value before since budget : ℕ) (hand : HandView) (there : Option ℕ) : Type 0 where
   pub made : Makes (storing_calls p.trace.who key value there) p.trace q.trace
   pub alone : AreAnsweredAlone p.trace (storing_calls p.trace.who key value there)
@@ -147,7 +147,7 @@ pub record HoldsUnput (p q : PassView) (key before budget : ℕ) (hand : HandVie
   pub quiet : Quiet p.trace q.trace
   pub tires : TiresStoring p.trace q.trace key before told.1 budget
 
--- a put by a slot in hand: its steps are within the budget, it takes no slot, and it publishes the slot in hand and tells what was there, or leaves it in hand
+-- a put by a slot in hand: its steps are within the budget, it takes no slot, and it publishes the slot in hand and returns what was there, or leaves it in hand
 pub record PutsHeld (p q : PassView) (key value budget : ℕ) (hand : HandView) (answer : Result (Option ℕ) (HandView × ℕ)) : Type 0 where
   pub steps : TookWithin p.trace q.trace budget
   pub takes_no_slot : TakesNoSlot p q

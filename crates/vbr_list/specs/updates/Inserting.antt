@@ -58,7 +58,7 @@ TakesNone p q before budget (EpochSpent epoch) = InsertShowsSpent p q before bud
 
 -- ---- an answer no
 
--- what is answered no where the key is present, and where it is absent: an insert, and a remove
+-- what is answered no if the key is present, and if it is absent: an insert, and a remove
 abbrev pub denied : Bool → Op
 denied true = Insert
 denied false = Remove
@@ -70,7 +70,7 @@ pub record AnswersNone {N : Type 0} {kind : Ghosts N} (c d : PendingCall N kind)
 
 -- ---- a slot is taken
 
--- what is left before a slot is linked: the steps are within the budget, the epoch is advanced only where that is needed, no slot is lost, each slot that the pass had it has still, one is put into the shared pool only where the own one has no more than two places left, and one flag is won at most
+-- what is left before a slot is linked: the steps are within the budget, the epoch is advanced only if that is needed, no slot is lost, each slot that the pass had it still has, one is put into the shared pool only if the own one has at most two places left, and at most one flag is won
 pub record Prepares {N : Type 0} {kind : Ghosts N} (c d : PendingCall N kind) : Type 0 where
   pub call : IsSameCall c d
   pub counts : CountsWithin (trace_in c) (trace_in d) c.used d.used c.budget
@@ -95,24 +95,24 @@ pub record ProvidesNone {N : Type 0} {kind : Ghosts N} (c d : PendingCall N kind
 abbrev pub Searches : ℕ → Trace → Trace → ℕ → ℕ → ℕ → ℕ → Type 0
 Searches each p q key before since more = SearchesIn 9 each p q (bucket_of p.start.shape key) before since more
 
--- so it is without a slot, and with one that is to be linked: seven steps for each that was disturbed
+-- the same without a slot, and with one that is to be linked: seven steps for each that was disturbed
 abbrev pub SearchesFor : Trace → Trace → ℕ → ℕ → ℕ → ℕ → Type 0
 SearchesFor p q key before since more = Searches 7 p q key before since more
 
--- so it is until a moment at which the pass had made no call yet
+-- the same until a moment at which the pass had made no call yet
 pub record SearchedFor (p q : Trace) (key before since more : ℕ) : Type 0 where
   pub ended : Trace
   pub quiet : Quiet p ended
   pub to : Begins ended.seen q.seen
   pub searches : SearchesFor p ended key before since more
 
--- so it is of one whose budget has no room for one more piece, if it was refused for want of steps
+-- the same for one whose budget has no room for one more piece, if it was refused for want of steps
 abbrev pub SearchesInVain : Trace → Trace → ℕ → ℕ → ℕ → ℕ → Refusal → Type 0
 SearchesInVain p q key before budget more (OutOfSteps used) = SearchesFor p q key before (budget + 1) more
 SearchesInVain p q key before budget more NoSlot = Unit {0}
 SearchesInVain p q key before budget more (EpochSpent epoch) = Unit {0}
 
--- it looked for a slot in the shared pool only where its own pool was empty, and the key had been there as it is wanted
+-- it looked for a slot in the shared pool only if its own pool was empty, and the key had been there as wanted
 abbrev pub TriesFor : {N : Type 0} {kind : Ghosts N} → Wanted → PendingCall N kind → PendingCall N kind → Type 0
 TriesFor wanted c d = TriesOnlyWhere (WasWanted wanted (trace_in c) (trace_in d) c.key) (pass_in c) (pass_in d)
 

@@ -1,4 +1,4 @@
--- What an insert or a store does before it changes anything: it finds its key as it is wanted and takes a slot, or is answered. Only contracts of private functions cite this.
+-- What an insert or a store does before it changes anything: it finds its key in the wanted state and takes a slot, or is answered. Only contracts of private functions cite this.
 use Rattle.std.specs.Prelude.{◌≡◌, ℕ, ◌+◌, ◌<◌, ◌≤◌, Bool, true, false, not, Option, None}
 use Rattle.vbr_words.specs.declared.nodes.Nodes.{Ghosts}
 use Rattle.vbr_machine.specs.History.{set_call}
@@ -35,19 +35,19 @@ use Rattle.vbr_list.specs.look_ups.LookUpPieces.{IsAskedOf}
 
 -- ---- the key is looked for
 
--- whether a key is as it is wanted that is there, or isn't, whatever value it has
+-- whether a present key, or an absent one, is in the wanted state, whatever value it has
 abbrev pub has_wanted : Wanted → Bool → Bool
 has_wanted Absent present = not present
 has_wanted Present present = present
 has_wanted Anything present = true
 has_wanted (Value value) present = false
 
--- what gives nothing wants its key absent, as an insert does; what gives a value is asked at a table whose nodes have one
+-- a call that gives nothing wants its key absent, as an insert does; a call that gives a value is made at a table whose nodes have one
 pub record GivesOrInserts {N : Type 0} {kind : Ghosts N} (gives : Bool) (wanted : Wanted) (c : PendingCall N kind) : Type 0 where
   pub values : IsAskedOf c gives
   pub absent : gives ≡ false → wanted ≡ Absent
 
--- a piece that may answer the call: its steps are counted, three at most, and the slot in hand stays
+-- a piece that may answer the call: its steps are counted, at most three, and the slot in hand stays
 pub record Asks {N : Type 0} {kind : Ghosts N} (c d : PendingCall N kind) : Type 0 where
   pub call : IsSameCall c d
   pub counts : CountsSteps (trace_in c) (trace_in d) c.used d.used
@@ -55,7 +55,7 @@ pub record Asks {N : Type 0} {kind : Ghosts N} (c d : PendingCall N kind) : Type
   pub more : c.used ≤ d.used
   pub few : d.used ≤ c.used + 3
 
--- what was there was only read, and is as it is wanted
+-- what was there was only read, and is as wanted
 pub record ReadsWanted {N : Type 0} {kind : Ghosts N} (wanted : Wanted) (c d : PendingCall N kind) (found : Found) (there : Option ℕ) : Type 0 where
   pub read : ReadsIn (pass_in c) (pass_in d) (steps_where found.present)
   pub used : d.used ≡ c.used + steps_where found.present
@@ -64,12 +64,12 @@ pub record ReadsWanted {N : Type 0} {kind : Ghosts N} (wanted : Wanted) (c d : P
   pub known : IsThere (knows (trace_in d)) found there
   pub is : wants wanted there ≡ true
 
--- the call that answers one which finds its key otherwise: a get of what was there; or, where nothing is given, an insert that is answered no
+-- the call that answers one which finds its key in another state: a get of what was there; or, if nothing is given, an insert that is answered no
 abbrev pub told_otherwise : Bool → ℕ → ℕ → Option ℕ → Call
 told_otherwise true who key there = given_call who Get key there
 told_otherwise false who key there = set_call who Insert key false
 
--- so it was answered with what was there, which isn't as wanted
+-- it was answered with what was there, which isn't as wanted
 pub record TellsOther {N : Type 0} {kind : Ghosts N} (gives : Bool) (wanted : Wanted) (c d : PendingCall N kind) (there : Option ℕ) : Type 0 where
   pub told : Made (told_otherwise gives (trace_in c).who c.key there) (trace_in c) (trace_in d)
   pub is_not : wants wanted there ≡ false
@@ -91,18 +91,18 @@ pub record Meeting {N : Type 0} {kind : Ghosts N} (c d : PendingCall N kind) : T
   pub counts : CountsWithin (trace_in c) (trace_in d) c.used d.used c.budget
   pub hand : KeepsHand (pass_in c) (pass_in d)
 
--- no call was made, and the key was found as it is wanted
+-- no call was made, and the key was found in the wanted state
 pub record MeetsWanted {N : Type 0} {kind : Ghosts N} (wanted : Wanted) (c d : PendingCall N kind) : Type 0 where
   pub quiet : Quiet (trace_in c) (trace_in d)
   pub was : WasWanted wanted (trace_in c) (trace_in d) c.key
   pub searches : SearchesFor (trace_in c) (trace_in d) c.key c.used d.used (steps_to_compare wanted + 3)
 
--- the call was answered, as it was found otherwise
+-- the call was answered, as the key was found in another state
 pub record MeetsOther {N : Type 0} {kind : Ghosts N} (gives : Bool) (wanted : Wanted) (c d : PendingCall N kind) (there : Option ℕ) : Type 0 where
   pub tells : TellsOther gives wanted c d there
   pub searched : SearchedFor (trace_in c) (trace_in d) c.key c.used d.used 6
 
--- the one or the other
+-- one or the other
 abbrev pub IsMet : {N : Type 0} {kind : Ghosts N} → Bool → Wanted → PendingCall N kind → PendingCall N kind → Met → Type 0
 IsMet gives wanted c d AsWanted = MeetsWanted wanted c d
 IsMet gives wanted c d (Otherwise there) = MeetsOther gives wanted c d there
@@ -127,7 +127,7 @@ pub record HasAnswered {N : Type 0} {kind : Ghosts N} (gives : Bool) (wanted : W
   pub spent : (pass_in d).hand ≡ None
   pub searched : SearchedFor (trace_in c) (trace_in d) c.key c.used d.used (steps_to_prepare wanted (pass_in c) (trace_in d) + 3)
 
--- the one or the other
+-- one or the other
 abbrev pub IsPrepared : {N : Type 0} {kind : Ghosts N} → Bool → Wanted → PendingCall N kind → PendingCall N kind → Prepared → Type 0
 IsPrepared gives wanted c d (Ready hand) = HasPrepared wanted c d hand
 IsPrepared gives wanted c d (Answered there) = HasAnswered gives wanted c d there

@@ -49,7 +49,7 @@ abbrev pub PublishesOrKeeps : {N A : Type 0} {kind : Ghosts N} → PendingCall N
 PublishesOrKeeps c d hand (Ok answer) = PublishesSlot (trace_in c) (trace_in d) hand.slot hand.birth c.key
 PublishesOrKeeps c d hand (Err back) = back ≡ hand
 
--- so it is with the value, and the node that was found, whose value was read, was an entry until then
+-- the same with the value, and the node that was found, whose value was read, was an entry until then
 pub record ReplacesRead {N : Type 0} {kind : Ghosts N} (value : ℕ) (c d : PendingCall N kind) (hand : HandView) (found : Found) (old : ℕ) : Type 0 where
   pub stores : StoresByHand 6 value c d hand found (Some old)
   pub entry : ReplacesFoundEntry c d found old
@@ -62,11 +62,11 @@ pub record UnlinksAtOnce {N : Type 0} {kind : Ghosts N} (c d : PendingCall N kin
   pub few : d.used ≤ c.used + 6
   pub leaves : HasRoomForPiece c → LeavesAt (trace_in c) (trace_in d) slot
 
--- so it is, or the place before it was lost, and a search follows
+-- the same, or the place before it was lost, and a search follows
 abbrev pub UnlinksReplaced : {N : Type 0} {kind : Ghosts N} → PendingCall N kind → PendingCall N kind → Held → ℕ → Type 0
 UnlinksReplaced c d pred slot = UnlinksAtOnce c d slot ⊎ SearchesOn (trace_in c) (trace_in d) c.key c.used d.used pred
 
--- each slot that the pass had it has still, but for the one that it published, if it did
+-- each slot that the pass had it still has, but for the one that it published, if it did
 abbrev pub HasUnused : {A E : Type 0} → PassView → PassView → Result A E → Type 0
 HasUnused p q (Ok answer) = HasAllButOne p q
 HasUnused p q (Err error) = HasStill p q

@@ -30,7 +30,7 @@ pub record MaySettle {N : Type 0} {kind : Ghosts N} (c d : PendingCall N kind) :
   pub more : c.used < d.used
   pub takes_no_slot : TakesNoSlot (pass_in c) (pass_in d)
 
--- the pass has stored the value where this was there, and its hand is empty
+-- the pass has stored the value when this was there, and its hand is empty
 pub record Stores {N : Type 0} {kind : Ghosts N} (value : ℕ) (c d : PendingCall N kind) (there : Option ℕ) : Type 0 where
   pub made : Makes (storing_calls (trace_in c).who c.key value there) (trace_in c) (trace_in d)
   pub spent : (pass_in d).hand ≡ None
@@ -45,7 +45,7 @@ pub record SettlesSoon {N : Type 0} {kind : Ghosts N} (most : ℕ) (stored : Boo
   pub few : d.used ≤ c.used + most + 6
   pub leaves : stored ≡ true → c.used + most + PIECE ≤ c.budget → LeavesReplaced (trace_in c) (trace_in d) c.key
 
--- so it is; or, of a node that was replaced, the place before it was lost, and searches follow
+-- the same; or, if a node was replaced, the place before it was lost, and searches follow
 abbrev pub SettlesIn : {N : Type 0} {kind : Ghosts N} → ℕ → Bool → PendingCall N kind → PendingCall N kind → Found → Type 0
 SettlesIn most false c d found = SettlesSoon most false c d
 SettlesIn most true c d found = SettlesSoon most true c d ⊎ MarksAndSearches most (trace_in c) (trace_in d) c.key c.used d.used found.pred
@@ -57,7 +57,7 @@ pub record PublishedSlot (p q : Trace) (slot birth key : ℕ) : Type 0 where
   pub to : Begins ended.seen q.seen
   pub published : PublishesSlot p ended slot birth key
 
--- a new node was linked with the value where the key was absent: an insert, in the steps that one makes
+-- a new node was linked with the value, as the key was absent: an insert, in the steps that one makes
 pub record LinksNode {N : Type 0} {kind : Ghosts N} (value : ℕ) (c d : PendingCall N kind) (hand : HandView) : Type 0 where
   pub made : Made (stored_in (trace_in c) c.key value true) (trace_in c) (trace_in d)
   pub spent : (pass_in d).hand ≡ None
@@ -65,7 +65,7 @@ pub record LinksNode {N : Type 0} {kind : Ghosts N} (value : ℕ) (c d : Pending
   pub had : HasAllButOne (pass_in c) (pass_in d)
   pub few : d.used ≤ c.used + steps_to_update (trace_in c).start
 
--- the slot in hand was published with the value, where this was there; a node that was replaced has left its list, unless the budget has no room for one more piece
+-- the slot in hand was published with the value, when this was there; a node that was replaced has left its list, unless the budget has no room for one more piece
 pub record StoresByHand {N : Type 0} {kind : Ghosts N} (most value : ℕ) (c d : PendingCall N kind) (hand : HandView) (found : Found) (there : Option ℕ) : Type 0 where
   pub stores : Stores value c d there
   pub slot : PublishedSlot (trace_in c) (trace_in d) hand.slot hand.birth c.key
@@ -106,7 +106,7 @@ pub record AnswersLate (p q : Trace) (key before since : ℕ) : Type 0 where
   pub few : disturbed_after p key p.seen + (lost + later + 1) ≤ disturbed_after p key q.seen
   pub paid : since ≤ before + 9 * met_since p ended key + lost * (9 * met_since p ended key + 12) + (later + 1) * (9 * met_since ended q key + 3) + 17
 
--- the one or, of a node that was replaced, the other
+-- one or, if a node was replaced, the other
 abbrev pub StoredIn : Bool → Trace → Trace → ℕ → ℕ → ℕ → ℕ → Type 0
 StoredIn false p q key before since budget = StoredSoon false p q key before since budget
 StoredIn true p q key before since budget = StoredSoon true p q key before since budget ⊎ AnswersLate p q key before since

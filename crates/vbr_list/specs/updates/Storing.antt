@@ -1,4 +1,4 @@
--- A store: a key gets a value, where what is there is as it is wanted, in one point.
+-- A conditional store: a key gets a value if its state is the wanted one, at one point.
 use Rattle.std.specs.Prelude.{◌≡◌, ◌≢◌, ℕ, ◌≤◌, Bool, true, false, List, [], ◌∷◌, Option, Some, None, Result, Ok, Err, IfOk, IfErr, if◌then◌else◌}
 use Rattle.vbr_machine.specs.declared.history.Call.{Call}
 use Rattle.vbr_machine.specs.declared.history.Op.TheVariants.{Get, Remove}
@@ -22,12 +22,12 @@ use Rattle.vbr_at_table.specs.declared.refusal.Refusal.TheVariants.{OutOfSteps, 
 
 -- ---- the calls of the history that it makes
 
--- those that store a value: an insert where the key was absent; else a remove of what was there, and then the insert
+-- the calls that store a value: an insert if the key was absent; otherwise a remove of what was there, and then the insert
 abbrev pub storing_calls : ℕ → ℕ → ℕ → Option ℕ → List Call
 storing_calls who key value None = stored_call who key value true ∷ []
 storing_calls who key value (Some old) = given_call who Remove key (Some old) ∷ stored_call who key value true ∷ []
 
--- those of a store, by what was there: these where that was as wanted, else a get of it
+-- the calls of a store, by what was there: these if that was as wanted, otherwise a get of it
 abbrev pub stored_calls : ℕ → ℕ → ℕ → Wanted → Option ℕ → List Call
 stored_calls who key value wanted there = if wants wanted there then storing_calls who key value there else given_call who Get key there ∷ []
 
@@ -37,19 +37,19 @@ Makes (one ∷ []) p q = Made one p q
 Makes (one ∷ two ∷ []) p q = MadeTwo one two p q
 Makes calls p q = ⊥
 
--- it replaced a node: a value was there, and as it is wanted
+-- it replaced a node: a value was there, and as wanted
 abbrev pub replaced : Wanted → Option ℕ → Bool
 replaced wanted None = false
 replaced wanted (Some old) = wants wanted (Some old)
 
 -- ---- its slots
 
--- each slot that the pass had it has still, but for the one that it published, if it stored
+-- each slot that the pass had it still has, but for the one that it published, if it stored
 abbrev pub HasUnlessStored : Bool → PassView → PassView → Type 0
 HasUnlessStored true p q = HasAllButOne p q
 HasUnlessStored false p q = HasStill p q
 
--- so it is of an answer, and of a refusal, which stores nothing
+-- the same for an answer, and for a refusal, which stores nothing
 abbrev pub HasUnstored : {E : Type 0} → Wanted → PassView → PassView → Result (Option ℕ) E → Type 0
 HasUnstored wanted p q (Ok there) = HasUnlessStored (wants wanted there) p q
 HasUnstored wanted p q (Err refusal) = HasStill p q
@@ -61,7 +61,7 @@ pub record WantedWithoutSlot (wanted : Wanted) (p q : PassView) (key : ℕ) : Ty
   pub was : WasWanted wanted p.trace q.trace key
   pub none : HasNoSlot p q
 
--- at a moment it was as wanted, and the epoch is spent, which was returned where the budget had room for the piece that would advance it
+-- at a moment it was as wanted, and the epoch is spent, which was returned only if the budget had room for the piece that would advance it
 pub record WantedAndSpent (wanted : Wanted) (p q : PassView) (key budget epoch : ℕ) : Type 0 where
   pub was : WasWanted wanted p.trace q.trace key
   pub spent : IsSpent q epoch
@@ -76,12 +76,12 @@ IsRefusedStore wanted p q key budget (EpochSpent epoch) = WantedAndSpent wanted 
 -- ---- the call
 
 -- what a store promises besides its answer: about slots, refusals, steps, and the node that it replaced
--- It advances the epoch only where that is needed, and has each slot that it had but for the one that it published.
--- It puts a slot into the shared pool only where its own has no more than two places left.
--- It looks for one there only where its own is empty and the key was as it is wanted at a moment. It wins one at most, and that where it has none. It is refused only where it must be.
+-- It advances the epoch only if that is needed, and has each slot that it had but for the one that it published.
+-- It puts a slot into the shared pool only if its own has at most two places left.
+-- It looks for one there only if its own is empty and the key was as wanted at a moment. It wins at most one, and only if it has none. It is refused only if it must be.
 -- Alone it has steps enough with a budget that is known before. With a slot in the own pool it is then answered, unless the epoch is spent.
 -- A node that it replaced has left its list, unless its steps leave no room in the budget for one more piece; alone it has with a budget that is known before.
--- Alone its answer costs no more than is known before. All that holds of a pass that was disturbed so often, too.
+-- Alone its answer costs no more than is known before. All of this also holds for a pass that was disturbed so often.
 -- With an empty own pool one step more is then counted for each slot that others took out of the shared pool.
 pub record BoundsOfStore (wanted : Wanted) (p q : PassView) (key budget : ℕ) (answer : Result (Option ℕ) Refusal) : Type 0 where
   pub advances : AdvancesWhereNeeded p q
@@ -98,7 +98,7 @@ pub record BoundsOfStore (wanted : Wanted) (p q : PassView) (key budget : ℕ) (
   pub costs : IfOk answer (λ there. IsAlone p.trace q.trace → TookWithin p.trace q.trace (store_costs wanted p key))
   pub disturbed_costs : IfOk answer (λ there. TookWithin p.trace q.trace (store_costs_among (listed_for p.trace key) (disturbed p.trace q.trace key) (steps_to_prepare wanted p q.trace)))
 
--- the pass is the same; where the call was answered, with what was there, it made the calls that this tells, and alone that was there in a plain map; where it was refused, it made none; it has no slot in hand, made no more steps than its budget, and lost no slot
+-- the pass is the same; if the call was answered, with what was there, it made the calls that this stands for, and alone that was there in a plain map; if it was refused, it made none; it has no slot in hand, made no more steps than its budget, and lost no slot
 pub record CallsStore (p q : PassView) (key value : ℕ) (wanted : Wanted) (budget : ℕ) (answer : Result (Option ℕ) Refusal) : Type 0 where
   pub same : IsSame p.trace q.trace
   pub made : IfOk answer (λ there. Makes (stored_calls p.trace.who key value wanted there) p.trace q.trace)

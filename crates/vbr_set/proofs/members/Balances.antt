@@ -13,7 +13,10 @@ use Rattle.vbr_slots.specs.views.Views.{PassView, TableView, Trace}
 use Rattle.vbr_list.specs.updates.Expecting.{removal_call}
 use Rattle.vbr_list.specs.updates.Storing.{stored_calls, storing_calls}
 use Rattle.vbr_list.specs.calls.Told.{given_call, stored_call}
+use Rattle.vbr_list.specs.updates.Outcomes.{ChangedIfExpected, is_changed, there_in}
 use Rattle.vbr_list.specs.updates.Wanted.{wants}
+use Rattle.vbr_list.specs.declared.outcome.Outcome.{Outcome}
+use Rattle.vbr_list.specs.declared.outcome.Outcome.TheVariants.{Changed, Unchanged}
 use Rattle.vbr_list.specs.declared.wanted.Wanted.TheVariants.{Absent, Present, Anything, Value}
 use Rattle.vbr_at_table.specs.declared.refusal.Refusal.{Refusal}
 use Rattle.vbr_set.specs.histories.Answers.{AnswersAll}
@@ -146,6 +149,13 @@ pub given_takes : (who key : ℕ) (answer : Result (Option ℕ) Refusal) →
 given_takes who key (Ok (Some value)) = refl
 given_takes who key (Ok None) = refl
 given_takes who key (Err refusal) = refl
+
+-- a call that expects a value changed the key exactly if what was there was as wanted
+pub changed_wants : (expected : ℕ) (answer : Result Outcome Refusal) → ChangedIfExpected expected answer →
+    one_where is_changed answer ≡ one_where (wants (Value expected)) (there_in answer)
+changed_wants expected (Ok (Changed there)) is = ap (λ wanted. if wanted then pos 1 else pos 0) (sym is)
+changed_wants expected (Ok (Unchanged there)) is = ap (λ wanted. if wanted then pos 1 else pos 0) (sym is)
+changed_wants expected (Err refusal) is = refl
 
 -- so it is of a remove of a key with the value that is expected
 pub removal_takes : (who key expected : ℕ) (answer : Result (Option ℕ) Refusal) →

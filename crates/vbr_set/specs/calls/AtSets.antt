@@ -8,7 +8,7 @@ use Rattle.vbr_set.specs.calls.Members.{CallerView, MemberView, as_caller, as_me
 abbrev pub member_at : {N : Type 0} {kind : Ghosts N} → AtSet N kind → MemberView
 member_at c = as_member c.set.now c.pass.now
 
--- the pass, as who makes a call
+-- the pass, as the maker of a call
 abbrev pub caller_at : {N : Type 0} {kind : Ghosts N} → AtSet N kind → CallerView
 caller_at c = as_caller c.set.now c.pass.now
 
@@ -16,7 +16,7 @@ caller_at c = as_caller c.set.now c.pass.now
 abbrev pub member_after : {N : Type 0} {kind : Ghosts N} → AtSet N kind → AtSet N kind → MemberView
 member_after c d = as_member c.set.now d.pass.now
 
--- the pass as a call left it, as who makes the next call
+-- the pass as a call left it, as the maker of the next call
 abbrev pub caller_after : {N : Type 0} {kind : Ghosts N} → AtSet N kind → AtSet N kind → CallerView
 caller_after c d = as_caller c.set.now d.pass.now
 

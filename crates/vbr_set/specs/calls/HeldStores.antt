@@ -21,7 +21,7 @@ use Rattle.vbr_set.specs.calls.RecordCalls.{aside_left, aside_of}
 use Rattle.vbr_set.specs.declared.record_refusals.HeldRefusal.{HeldRefusal}
 use Rattle.vbr_set.specs.declared.record_refusals.HeldRefusal.TheVariants as held
 
--- a store by a slot in hand is answered as other stores are: where it was, the calls that are told leave what answers leave, and alone they have the replies of a plain set; else no call was made
+-- a store by a slot in hand is answered as other stores are: if it was answered, its calls leave what answers leave, and alone they have the replies of a plain set; otherwise no call was made
 pub record AnswersStored {A : Type 0} (told : ℕ → A → List Call) (p q : Trace) (answer : Result A Refusal) : Type 0 where
   pub same : IsSame p q
   pub answers : IfOk answer (λ reply. MapAnswersAll (told p.who reply) p q)
@@ -31,34 +31,34 @@ pub record AnswersStored {A : Type 0} (told : ℕ → A → List Call) (p q : Tr
 
 -- ---- a put
 
--- what it came to, as the answer of a store
+-- the result, as the answer of a store
 abbrev pub as_put : Result (Option ℕ) (HandView × ℕ) → Result (Option ℕ) Refusal
 as_put (Ok there) = Ok there
 as_put (Err left) = Err (refusing.OutOfSteps left.1)
 
--- the calls that it tells by what was there: a remove of a value that was, and an insert of the new one
+-- its calls, by what was there: a remove of the value, if there was one, and an insert of the new one
 abbrev pub put_told : ℕ → ℕ → ℕ → Option ℕ → List Call
 put_told key value who there = storing_calls who key value there
 
--- a pass puts by the slot in its hand, which is published, or there still
+-- a pass puts by the slot in its hand, which is then published, or still in hand
 pub record PutsByHeld (p q : PassView) (key value budget : ℕ) (hand : HandView) (came : Result (Option ℕ) (HandView × ℕ)) : Type 0 where
   pub puts : PutsHeld p q key value budget hand came
   pub answers : AnswersStored (put_told key value) p.trace q.trace (as_put came)
 
 -- ---- a replacement of one entry
 
--- what it came to, as the answer of a store: this value was there, or the entry wasn't
+-- the result, as the answer of a store: this value was there, or the entry wasn't
 abbrev pub as_replaced : {T : Type 0} → ℕ → Result T (HandView × NotReplaced) → Result (Option ℕ) Refusal
 as_replaced old (Ok done) = Ok (Some old)
 as_replaced old (Err (hand, Other)) = Ok None
 as_replaced old (Err (hand, OutOfSteps used)) = Err (refusing.OutOfSteps used)
 
--- the calls that it tells: a remove of the value that was there, and an insert of the new one; none where the entry wasn't
+-- its calls: a remove of the value that was there, and an insert of the new one; none if the entry wasn't there
 abbrev pub replaced_told : ℕ → ℕ → ℕ → Option ℕ → List Call
 replaced_told key value who None = []
 replaced_told key value who (Some old) = storing_calls who key value (Some old)
 
--- a pass replaces an entry by the slot in its hand, which is published, or there still
+-- a pass replaces an entry by the slot in its hand, which is then published, or still in hand
 pub record ReplacesByHeld {T : Type 0} (p q : PassView) (key value budget : ℕ) (hand : HandView) (entry : Entry) (came : Result T (HandView × NotReplaced)) : Type 0 where
   pub replaces : ReplacesHeldEntry p q key value budget hand entry came
   pub old : ℕ
@@ -66,7 +66,7 @@ pub record ReplacesByHeld {T : Type 0} (p q : PassView) (key value budget : ℕ)
 
 -- ---- by the slot that a member holds
 
--- the pass took the slot up that the member held, and did this with it; then the slot is published, or held still
+-- the pass took up the slot that the member held, and did this with it; then the slot is published, or still held
 pub record TakesUp {T E : Type 0} (Does : PassView → PassView → HandView → Result T E → Type 0) (m n : MemberView) : Type 0 where
   pub hand : HandView
   pub was : m.aside ≡ Some (aside_of hand)
@@ -79,13 +79,13 @@ pub record TakesUp {T E : Type 0} (Does : PassView → PassView → HandView →
   pub ends : EmptiesHand back n.pass
   pub left : n.aside ≡ aside_left came m.aside
 
--- where the member holds no slot, or its own pool is full, nothing was done; else this is so
+-- if the member holds no slot, or its own pool is full, nothing was done; otherwise this is so
 abbrev pub WhereHeld : {A : Type 0} → (Result A HeldRefusal → Type 0) → MemberView → MemberView → Result A HeldRefusal → Type 0
 WhereHeld So m n (Err held.NotHeld) = (n ≡ m) × (m.aside ≡ None)
 WhereHeld So m n (Err held.Full) = (n ≡ m) × (m.aside ≢ None) × (POOL ≤ length m.pass.pool)
 WhereHeld So m n answer = So answer
 
--- what a put came to, as the answer of a member
+-- the result of a put, as the answer of a member
 abbrev pub put_answer : Result (Option ℕ) (HandView × ℕ) → Result (Option ℕ) HeldRefusal
 put_answer (Ok there) = Ok there
 put_answer (Err left) = Err (held.OutOfSteps left.1)
@@ -104,7 +104,7 @@ abbrev pub answer_unreplaced : NotReplaced → Result Bool HeldRefusal
 answer_unreplaced Other = Ok false
 answer_unreplaced (OutOfSteps used) = Err (held.OutOfSteps used)
 
--- what a replacement came to, as the answer of a member
+-- the result of a replacement, as the answer of a member
 abbrev pub replaced_answer : {T : Type 0} → Result T (HandView × NotReplaced) → Result Bool HeldRefusal
 replaced_answer (Ok done) = Ok true
 replaced_answer (Err told) = answer_unreplaced told.1

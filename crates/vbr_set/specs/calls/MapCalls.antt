@@ -1,4 +1,4 @@
--- What the calls of a map tell: as those of a set do, and of each value that it is the one stored; and calls of either kind.
+-- What the calls of a map promise: the same as the calls of a set, and that each value is the one stored; and calls of either kind.
 use Rattle.std.specs.Prelude.{◌≡◌, ℕ, ◌⊎◌, Bool, List, Option, Some, Result, Err, is_some}
 use Rattle.vbr_machine.specs.History.{GiveStored, values_after}
 use Rattle.vbr_machine.specs.Maps.{IsMapLegal, opening_entries}
@@ -22,39 +22,39 @@ use Rattle.vbr_set.specs.histories.Answers.{AnswersAll}
 use Rattle.vbr_set.specs.histories.Histories.{calls_of}
 use Rattle.vbr_set.specs.calls.Members.{Called, CalledBy, MemberView, one}
 
--- on a table with one pass the values are those of a plain map which opened with the entries of its start, perhaps none, and was given the calls of the pass before, and no others
+-- on a table with one pass the values are what a plain map gives which opened with the entries of its start, perhaps none, and was given the calls of the pass before, and no others
 abbrev pub GiveAlone : Trace → List Call → Type 0
 GiveAlone p calls = p.passes ≡ 1 → GiveStored (values_after (opening_payloads p.start) (made_by p)) calls
 
--- what answered calls of a set leave; the calls of the run, of all passes, are a legal history of a map that opened with the entries of its start, each value given being the one stored; and alone the values are those of a plain map
+-- what answered calls leave in a set; the calls of the run, of all passes, are a legal history of a map that opened with the entries of its start, each value given being the one stored; and alone the values are what a plain map gives
 pub record MapAnswersAll (calls : List Call) (p q : Trace) : Type 0 where
   pub answers : AnswersAll calls p q
   pub legal : IsMapLegal (opening_entries q.start) (calls_of q.start q.seen)
   pub gives : GiveAlone p calls
 
--- so it is of an insert of an entry, which stores its value where it is answered yes
+-- the same for an insert of an entry, which stores its value if it is answered yes
 abbrev pub InsertsEntry : MemberView → MemberView → ℕ → ℕ → ℕ → Result Bool Refusal → Type 0
 InsertsEntry m n key value budget answer = CalledBy MapAnswersAll (one (stored_call m.pass.trace.who key value)) (BoundsOfInsert m.pass n.pass key budget) m n budget answer
 
--- of a remove, which gives the value
+-- for a remove, which gives the value
 abbrev pub RemovesEntry : MemberView → MemberView → ℕ → ℕ → Result (Option ℕ) Refusal → Type 0
 RemovesEntry m n key budget answer = CalledBy MapAnswersAll (one (given_call m.pass.trace.who Remove key)) (BoundsOfRemove is_some m.pass n.pass key budget) m n budget answer
 
--- of a get, which gives the value
+-- for a get, which gives the value
 abbrev pub GetsEntry : MemberView → MemberView → ℕ → ℕ → Result (Option ℕ) Refusal → Type 0
 GetsEntry m n key budget answer = CalledBy MapAnswersAll (one (given_call m.pass.trace.who Get key)) (BoundsOfLookUp (given_call m.pass.trace.who Get key) 2 m.pass n.pass key budget) m n budget answer
 
--- of a remove of a key with the value that is expected: a remove that is answered with it, or a get of what was there
+-- for a remove of a key with the expected value: a remove that is answered with it, or a get of what was there
 abbrev pub RemovesIf : MemberView → MemberView → ℕ → ℕ → ℕ → Result (Option ℕ) Refusal → Type 0
 RemovesIf m n key expected budget answer = CalledBy MapAnswersAll (one (removal_call m.pass.trace.who key (Some expected))) (BoundsOfRemove (wants (Value expected)) m.pass n.pass key budget) m n budget answer
 
--- and of a store, which may make two calls: where what was there is as it is wanted, the key is removed with its value, if it has one, and inserted with the new one, next to each other; else it is a get of what was there
+-- and for a store, which may make two calls: if what was there is as wanted, the key is removed with its value, if it has one, and inserted with the new one, next to each other; otherwise it is a get of what was there
 abbrev pub StoresEntry : MemberView → MemberView → ℕ → ℕ → Wanted → ℕ → Result (Option ℕ) Refusal → Type 0
 StoresEntry m n key value wanted budget answer = CalledBy MapAnswersAll (stored_calls m.pass.trace.who key value wanted) (λ so. KeepsSlots m.pass n.pass × BoundsOfStore wanted m.pass n.pass key budget so) m n budget answer
 
 -- ---- stores by their names
 
--- a replacement stores where some value is there
+-- a replacement stores if some value is there
 abbrev pub ReplacesEntry : MemberView → MemberView → ℕ → ℕ → ℕ → Result (Option ℕ) Refusal → Type 0
 ReplacesEntry m n key value budget answer = StoresEntry m n key value Present budget answer
 
@@ -62,11 +62,11 @@ ReplacesEntry m n key value budget answer = StoresEntry m n key value Present bu
 abbrev pub PutsEntry : MemberView → MemberView → ℕ → ℕ → ℕ → Result (Option ℕ) Refusal → Type 0
 PutsEntry m n key value budget answer = StoresEntry m n key value Anything budget answer
 
--- an exchange where the value that is expected is there
+-- an exchange stores if the expected value is there
 abbrev pub ExchangesEntry : MemberView → MemberView → ℕ → ℕ → ℕ → ℕ → Result (Option ℕ) Refusal → Type 0
 ExchangesEntry m n key expected value budget answer = StoresEntry m n key value (Value expected) budget answer
 
--- and a get stores where none is there
+-- and a get that inserts stores if none is there
 abbrev pub GetsOrInsertsEntry : MemberView → MemberView → ℕ → ℕ → ℕ → Result (Option ℕ) Refusal → Type 0
 GetsOrInsertsEntry m n key value budget answer = StoresEntry m n key value Absent budget answer
 
@@ -84,23 +84,23 @@ IsStore m n = (key : ℕ) × (value : ℕ) × (wanted : Wanted) × (budget : ℕ
 abbrev pub IsMapInsert : MemberView → MemberView → Type 0
 IsMapInsert m n = ((key : ℕ) × (value : ℕ) × (budget : ℕ) × (answer : Result Bool Refusal) × InsertsEntry m n key value budget answer) ⊎ IsStore m n
 
--- a remove of a map was made, of any value or of one that is expected
+-- a remove of a map was made, of any value or of an expected one
 abbrev pub IsMapRemove : MemberView → MemberView → Type 0
 IsMapRemove m n = ((key : ℕ) × (budget : ℕ) × (answer : Result (Option ℕ) Refusal) × RemovesEntry m n key budget answer)
     ⊎ ((key : ℕ) × (expected : ℕ) × (budget : ℕ) × (answer : Result (Option ℕ) Refusal) × RemovesIf m n key expected budget answer)
 
--- so was a call of a map; its look-ups are those of a set
+-- a call of a map was made; its look-ups are the look-ups of a set
 abbrev pub IsMapCall : Op → MemberView → MemberView → Type 0
 IsMapCall Insert m n = IsMapInsert m n
 IsMapCall Remove m n = IsMapRemove m n
 IsMapCall Has m n = IsSetCall Has m n
 IsMapCall Get m n = (key : ℕ) × (budget : ℕ) × (answer : Result (Option ℕ) Refusal) × GetsEntry m n key budget answer
 
--- and so was one of either kind: what may insert, what may remove and inserts none, and look-ups
+-- a call of either kind was made: what may insert, what may remove and inserts none, and look-ups
 abbrev pub IsCall : Op → MemberView → MemberView → Type 0
 IsCall op m n = IsSetCall op m n ⊎ IsMapCall op m n
 
--- an insert of a key was refused so, in a set or in a map, or a store
+-- an insert of a key, in a set or in a map, or a store was refused for this reason
 abbrev pub InsertRefused : MemberView → MemberView → ℕ → ℕ → Refusal → Type 0
 InsertRefused m n key budget refusal = Called Insert m n key budget (Err refusal)
     ⊎ (((value : ℕ) × InsertsEntry m n key value budget (Err refusal)) ⊎ ((value : ℕ) × (wanted : Wanted) × StoresEntry m n key value wanted budget (Err refusal)))

@@ -13,7 +13,7 @@ use Rattle.vbr_list.specs.calls.CallBounds.{BoundsOfCall}
 use Rattle.vbr_at_table.specs.declared.refusal.Refusal.{Refusal}
 use Rattle.vbr_set.specs.histories.Answers.{AnswerAlone, AnswersAll}
 
--- a member: its set, its pass, and the slot that it has put aside, if there is one
+-- a member: its set, its pass, and the slot that it has put aside, if any
 pub record MemberView : Type 0 where
   pub set : TableView
   pub pass : PassView
@@ -23,12 +23,12 @@ pub record MemberView : Type 0 where
 abbrev pub as_member : TableView → PassView → MemberView
 as_member set pass = record { set = set; pass = pass; aside = None }
 
--- who makes a call: a pass of a set
+-- the maker of a call: a pass of a set
 pub record CallerView : Type 0 where
   pub set : TableView
   pub pass : PassView
 
--- a pass of a set, as who makes a call
+-- a pass of a set, as the maker of a call
 abbrev pub as_caller : TableView → PassView → CallerView
 as_caller set pass = record { set = set; pass = pass }
 
@@ -47,12 +47,12 @@ pub record AreNew (start : Start) (count : ℕ) (members : List MemberView) : Ty
   pub counted : set.passes ≡ count
   pub are : members ≡ new_members set count
 
--- the one call that an answer tells
+-- the one call that an answer stands for
 abbrev pub one : {A : Type 0} → (A → Call) → A → List Call
 one told reply = told reply ∷ []
 
 -- what a call leaves of its caller, which is the same pass of the same set or map
--- Where the call was answered, what the answer tells leaves what answers leave, and alone it has the replies of a plain set. Where it was refused, it made no call.
+-- If the call was answered, its call of the history leaves what answers leave, and alone it has the replies of a plain set. If it was refused, it made no call.
 -- In each case what its pass has then seen is a safe run. It has no slot in hand, and made no more steps than its budget.
 pub record CallsBy {A : Type 0} (Leave : List Call → Trace → Trace → Type 0) (told : A → List Call) (BoundsSo : Result A Refusal → Type 0) (m n : CallerView) (budget : ℕ) (answer : Result A Refusal) : Type 0 where
   pub set : n.set ≡ m.set
@@ -65,10 +65,10 @@ pub record CallsBy {A : Type 0} (Leave : List Call → Trace → Trace → Type 
   pub steps : TookWithin m.pass.trace n.pass.trace budget
   pub bounds : BoundsSo answer
 
--- so it is of a call of a member
+-- the same for a call of a member
 abbrev pub CalledBy : {A : Type 0} → (List Call → Trace → Trace → Type 0) → (A → List Call) → (Result A Refusal → Type 0) → MemberView → MemberView → ℕ → Result A Refusal → Type 0
 CalledBy Leave told BoundsSo m n budget answer = CallsBy Leave told BoundsSo (caller m) (caller n) budget answer
 
--- so it is of a call of a set: its answer tells one call, which stands in one legal history of what its pass has then seen, once, behind its calls before
+-- a call of a set: its answer stands for one call, which stands in one legal history of what its pass has then seen, exactly once, after all its earlier calls
 abbrev pub Called : Op → MemberView → MemberView → ℕ → ℕ → Result Bool Refusal → Type 0
 Called op m n key budget answer = CalledBy AnswersAll (one (set_call m.pass.trace.who op key)) (BoundsOfCall op m.pass n.pass key budget) m n budget answer

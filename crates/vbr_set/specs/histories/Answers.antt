@@ -30,10 +30,10 @@ pub record AnswersAll (calls : List Call) (p q : Trace) : Type 0 where
   pub reads : ReadsAreRight q.start q.seen
   pub safe : IsSafe q.start q.seen
 
--- so it is of one call
+-- the same for one call
 abbrev pub Answers : Call → Trace → Trace → Type 0
 Answers call = AnswersAll (call ∷ [])
 
--- on a table with one pass the replies are those of a plain set which opened with the keys of its start, perhaps none, and was given the calls of the pass before, and no others
+-- on a table with one pass the replies are what a plain set answers which opened with the keys of its start, perhaps none, and was given the calls of the pass before, and no others
 abbrev pub AnswerAlone : Trace → List Call → Type 0
 AnswerAlone p calls = p.passes ≡ 1 → IsLegal (set_after (opening_keys p.start) (made_by p)) calls

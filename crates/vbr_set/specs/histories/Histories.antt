@@ -16,6 +16,6 @@ calls_of start run = (world_after start run).calls
 abbrev pub ExchangesAreRight : Start → List Event → Type 0
 ExchangesAreRight start run = (before after : List Event) (event : Event) → run ≡ before ++ event ∷ after → IsRightAfter start before event
 
--- at each moment, each checked read of each pass was of the incarnation that the pass holds there, with its link, birth or key: none returned those of an earlier incarnation
+-- at each moment, each checked read of each pass was of the incarnation that the pass holds there, with its link, birth or key: none returned a link, birth or key of an earlier incarnation
 abbrev pub ReadsAreRight : Start → List Event → Type 0
 ReadsAreRight start run = (before after : List Event) (pass : ℕ) → run ≡ before ++ after → AreRightReads (notes_after start before pass).checked

@@ -1,4 +1,4 @@
--- What two passes share that have met.
+-- What two passes share after they have met.
 use Rattle.std.specs.Prelude.{◌≡◌, ℕ}
 use Rattle.vbr_machine.specs.Opened.{opening_keys}
 use Rattle.vbr_machine.specs.History.{IsLegal}
@@ -10,7 +10,7 @@ use Rattle.vbr_slots.specs.views.Views.{Did, KeepsPool, PassView, Trace}
 use Rattle.vbr_at_table.specs.Soundness.{HasSafeRun}
 use Rattle.vbr_set.specs.histories.Histories.{calls_of, ExchangesAreRight, ReadsAreRight}
 
--- the pass made no call; what it has then seen begins with what the other has seen, and has no other event of it; its calls are legal from the opening keys, and those of the other are just those that it has made
+-- the pass made no call; what it has then seen begins with what the other has seen, and has no other event of it; its calls are legal from the opening keys, and the calls of the other are exactly those that it has made
 pub record Shares (p other q : Trace) : Type 0 where
   pub quiet : Quiet p q
   pub begins : BeginsFor other.who other.seen q.seen

@@ -1,4 +1,4 @@
--- What a token of what was seen tells, and what a pass has that caught up with one.
+-- What a token of what was seen holds, and what a pass has that caught up with one.
 use Rattle.std.specs.Prelude.{◌≡◌, List, [], ◌∷◌, ◌++◌}
 use Rattle.vbr_machine.specs.Opened.{opening_keys}
 use Rattle.vbr_machine.specs.Calls.{own_calls}
@@ -18,7 +18,7 @@ use Rattle.vbr_set.specs.histories.Histories.{calls_of, ExchangesAreRight, Reads
 abbrev pub BeginsWith : List Call → List Call → Type 0
 BeginsWith first calls = (more : List Call) × (calls ≡ first ++ more)
 
--- calls of one answer stand in a history before those of another
+-- the calls of one answer stand in a history before the calls of another
 pub record Precedes (ones others history : List Call) : Type 0 where
   pub first : List Call
   pub between : List Call
@@ -27,14 +27,14 @@ pub record Precedes (ones others history : List Call) : Type 0 where
 
 -- ---- tokens
 
--- the token is of the set and tells all that the pass has seen, which is of the same set; so the pass's calls in the history that it tells are just those that it has made
+-- the token is of the set and holds all that the pass has seen, which is of the same set; so the pass's calls in the history that it holds are exactly those that it has made
 pub record IsTokenOf (set : TableView) (p : Trace) (token : SeenView) : Type 0 where
   pub pass : IsOf p set
   pub table : token.table ≡ set.table
   pub seen : token.seen ≡ p.seen
   pub own : own_calls p.start token.seen p.who ≡ made_by p
 
--- what the pass is answered from now on stands behind all of these, in the legal history that it then has
+-- what the pass is answered from now on stands after all of these, in the legal history that it then has
 abbrev pub EachFollows : List Call → Trace → Type 0
 EachFollows first q = (calls : List Call) (r s : Trace) → IsSame q r → Begins q.seen r.seen → AnswersAll calls r s → Follows first calls (calls_of s.start s.seen)
 
@@ -57,7 +57,7 @@ pub record CatchesUp (set : TableView) (p : PassView) (token : SeenView) (q : Pa
 
 -- ---- chains
 
--- each token behind the first was made by a caller that had by then seen all that the one before it tells
+-- each token behind the first was made by a caller that had by then seen all that the one before it holds
 abbrev pub IsChain : SeenView → List SeenView → Type 0
 IsChain first [] = Unit {0}
 IsChain first (next ∷ tokens) = (next.table ≡ first.table) × Begins first.seen next.seen × IsChain next tokens

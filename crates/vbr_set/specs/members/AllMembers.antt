@@ -21,7 +21,7 @@ AreTooFew [] = Unit {0}
 AreTooFew (m ∷ ms) = length (m ∷ ms) < m.set.passes
 
 module _ {R : Type 0} (tells : TableView → List PassView → R → Type 0) where
-  -- the members are all of a set, and the report tells the end of a run that begins with what each of them has seen, and in which the calls of each are just those that it has made
+  -- the members are all of a set, and the report describes the end of a run that begins with what each of them has seen, and in which the calls of each are exactly those that it has made
   pub record ReportsAllBy (members : List MemberView) (report : R) : Type 0 where
     pub set : TableView
     pub of_set : AreOfSet set members

@@ -14,22 +14,22 @@ abbrev pub sum_of_balances : List MemberView → ℤ
 sum_of_balances [] = pos 0
 sum_of_balances (m ∷ ms) = balance_of m +ℤ sum_of_balances ms
 
--- the same as far as 64 bits tell
+-- the same as far as 64 bits go
 abbrev pub added_balances : List MemberView → ℤ
 added_balances members = int_wrap w64 (sum_of_balances members)
 
--- each pass of the set is that of one of the members
+-- each pass of the set belongs to one of the members
 abbrev pub HasEachOnce : TableView → List MemberView → Type 0
 HasEachOnce set members = (who : ℕ) → who < set.passes → count_by (λ m. m.pass.trace.who == who) members ≡ 1
 
--- where all members get a report, each once, their balances add up to how many keys it tells, as far as 64 bits tell; any pass of the set bears out that it is one
+-- if all members get a report, each once, their balances add up to the number of keys in the report, as far as 64 bits go; any pass of the set bears out that it is one
 abbrev pub AddUpBy : {Item R : Type 0} → KindOf Item R → Type 0
 AddUpBy {Item} {R} kind =
     (members : List MemberView) (report : R) (told : ReportsAllBy (ClosesBy kind) members report) (pass : PassView)
     → PassLaw pass → IsOf pass.trace told.set → HasEachOnce told.set members
     → added_balances members ≡ pos (kind.contents report).live
 
--- so it is of sets and of maps
+-- the same for sets and for maps
 pub record BalancesAddUp : Type 0 where
   pub of_sets : AddUpBy as_set
   pub of_maps : AddUpBy as_map

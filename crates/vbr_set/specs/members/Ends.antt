@@ -19,21 +19,21 @@ pub record AreAll (set : TableView) (passes : List PassView) : Type 0 where
   pub numbered : AreNumbered passes
 
 module _ {R : Type 0} (tells : TableView → List PassView → R → Type 0) where
-  -- the report tells the end of the set with all passes that were opened with it, each with just the calls that it has made; this pass is among them
+  -- the report describes the end of the set with all passes that were opened with it, each with exactly the calls that it has made; this pass is among them
   pub record EndsBy (set : TableView) (pass : PassView) (report : R) : Type 0 where
     pub passes : List PassView
     pub all : AreAll set passes
     pub own : (d : PassView) → slice_index_or passes pass.trace.who d ≡ pass
     pub closes : tells set passes report
 
--- where there is no memory, the member comes back as it was
+-- if there is no memory, the member comes back as it was
 abbrev pub IsBack : MemberView → EndError MemberView → Type 0
 IsBack m Lost = Unit {0}
 IsBack m (Memory member) = member ≡ m
 
 module _ {R : Type 0} (tells : TableView → List PassView → R → Type 0) where
-  -- the member let go of the slot that it had put aside, if there was one; its pass gave its slots back, and then the member was closed
-  -- A report tells the end of its set with the pass as it was in between. Where there is no memory, the member comes back with that pass.
+  -- the member let go of the slot that it had put aside, if any; its pass gave its slots back, and then the member was closed
+  -- A report describes the end of its set with the pass as it was in between. If there is no memory, the member comes back with that pass.
   pub record ClosesMember (m : MemberView) (answer : Result (Option R) (EndError MemberView)) : Type 0 where
     pub first : PassView
     pub lets_go : LetsGo m.aside m.pass first

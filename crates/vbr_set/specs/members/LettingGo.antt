@@ -1,4 +1,4 @@
--- What is left where a slot that was held is let go.
+-- What is left after a held slot is let go.
 use Rattle.std.specs.Prelude.{◌≡◌, ◌⊎◌, ◌≤◌, ℕ, [], ◌∷◌, ◌++◌, length, Option, Some, None}
 use Rattle.vbr_machine.specs.declared.event.Step.TheVariants.{Raise}
 use Rattle.vbr_slots.specs.declared.pass.TheConstants.{POOL}
@@ -10,7 +10,7 @@ abbrev pub ComesBack : ℕ → PassView → PassView → Type 0
 ComesBack slot p q = ((q.trace ≡ p.trace) × (q.pool ≡ p.pool ++ slot ∷ []))
     ⊎ ((POOL ≤ length p.pool) × ((found : ℕ) × Did (Raise slot) p.trace q.trace found) × (q.pool ≡ p.pool))
 
--- so it is of the slot that was put aside, and nothing is in hand; where none was, nothing was done
+-- the same for the slot that was put aside, and nothing is in hand; if none was, nothing was done
 abbrev pub LetsGo : Option Aside → PassView → PassView → Type 0
 LetsGo None p q = q ≡ p
 LetsGo (Some aside) p q = ComesBack aside.slot p q × (q.hand ≡ None)

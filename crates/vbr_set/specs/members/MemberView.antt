@@ -10,7 +10,7 @@ use Rattle.vbr_set.specs.declared.member.Member.TheInside.{Inside}
 abbrev pub member_view : {N : Type 0} → Inside N → MemberView
 member_view m = record { set = set_shared m.share; pass = m.pass; aside = m.aside }
 
--- its pass is of its set, has no slot in hand, and can come back; its balance is that of the member; and the slot that is put aside is the pass's
+-- its pass is of its set, has no slot in hand, and can come back; its balance is the member's; and the slot that is put aside is the pass's
 pub record IsMember {N : Type 0} (m : Inside N) : Type 0 where
   pub part : IsPart m.share m.pass
   pub counted : m.balance ≡ balance_of (as_member (set_shared m.share) m.pass)

@@ -56,7 +56,7 @@ module _ {N : Type 0} where
     pub empty_hand : pass.hand ≡ None
     pub comes_back : CanComeBack share pass.trace.who
 
-  -- so it is of what a member has beside the pass; its balance is that of the member, and the slot that is put aside is the pass's
+  -- the same for what a member has beside the pass; its balance is the member's, and the slot that is put aside is the pass's
   pub record IsStake (stake : Stake N) (pass : PassView) : Type 0 where
     pub part : IsPart stake.share pass
     pub counted : stake.balance ≡ balance_of (as_member (set_shared stake.share) pass)

@@ -1,4 +1,4 @@
--- Callers that make one call after another with budget enough: in so many steps of all of them one is answered.
+-- Callers that make one call after another with budget enough: within so many steps of all of them one is answered.
 use Rattle.std.specs.Prelude.{◌≡◌, ◌≢◌, ℕ, ◌+◌, ◌*◌, ◌<◌, ◌≤◌, ◌⊎◌, Bool, List, [], ◌∷◌, ◌++◌, length, Option, Ok, Err, Result}
 use Rattle.vbr_machine.specs.Runs.{Begins}
 use Rattle.vbr_machine.specs.declared.history.Call.{Call}
@@ -32,7 +32,7 @@ HadRoom (Err NoSlot) = ⊥
 HadRoom (Err (EpochSpent epoch)) = ⊥
 
 -- a pass made a call of a set or a map, answered or refused, with a budget that is enough while no update is answered yes
--- An insert or a store may also have one that is known to be enough as it begins, whatever is in the own pool, where the other passes went beyond their need no more than so often meanwhile.
+-- An insert or a store may instead have a budget that is known to be enough as it begins, whatever is in the own pool, if the other passes went beyond their need no more than so often meanwhile.
 pub data MadeAmply (p q : PassView) (budget : ℕ) : Type 0 where
   looked_up : (key : ℕ) → (answer : Result Bool Refusal) → enough_among (listed_for p.trace key) (most_unanswered p.trace) ≤ budget → Calls Has p q key budget answer → MadeAmply p q budget
   removed : (key : ℕ) → (answer : Result Bool Refusal) → enough_to_search_among (listed_for p.trace key) (most_unanswered p.trace) ≤ budget → Calls Remove p q key budget answer → MadeAmply p q budget
@@ -48,13 +48,13 @@ pub data MadeAmply (p q : PassView) (budget : ℕ) : Type 0 where
 
 -- ---- callers
 
--- a pass made no step, and may have seen more, as where it catches up with a token
+-- a pass made no step, and may have seen more, as when it catches up with a token
 pub record Rests (p q : PassView) : Type 0 where
   pub same : IsSame p.trace q.trace
   pub seen : Begins p.trace.seen q.trace.seen
   pub steps : steps_of q.trace ≡ steps_of p.trace
 
--- a pass made such a call, and then went on in the steps that it left of its budget, as where it tops its slots up
+-- a pass made such a call, and then went on in the steps that it left of its budget, as when it tops its slots up
 pub record CallsAndGoesOn (p q : PassView) (budget : ℕ) : Type 0 where
   pub back : PassView
   pub call : MadeAmply p back budget
@@ -84,7 +84,7 @@ ComesByCalls most p q = (views : List PassView) × CallsOn (CallsOrRests most) p
 abbrev pub enough_by_shape : PassView → ℕ
 enough_by_shape p = enough_among p.trace.start.shape.slots (2 * p.trace.start.shape.slots + 1)
 
--- a pass of this number comes so through a stretch: it had seen no more than the beginning of it first, and has seen all of it in the end
+-- a pass of this number comes through a stretch in this way: it had first seen no more than the beginning of it, and has seen all of it in the end
 pub record CallsThrough (Does : PassView → PassView → Type 0) (p q : Trace) (who : ℕ) : Type 0 where
   pub first : PassView
   pub views : List PassView
@@ -111,7 +111,7 @@ pub record SomebodyIsAnswered (p q : Trace) : Type 0 where
 abbrev pub CallsAreAnswered : Type 0
 CallsAreAnswered = (p q : PassView) (budget : ℕ) → SeesRun p.trace → Proceeds p.trace q.trace → MadeAmply p q budget → SomebodyIsAnswered p.trace q.trace
 
--- each pass makes one such call after another, each with what it does in the steps that are left of its budget, or few steps; then somebody is answered in any stretch in which all of them make more steps than twice that budget for each pass
+-- each pass makes one such call after another, each with what it does in the steps left of its budget, or few steps; then somebody is answered in any stretch in which all of them make more steps than twice that budget for each pass
 abbrev pub StepsAreAnswered : Type 0
 StepsAreAnswered =
     (p q : PassView) (most : ℕ) → SeesRun p.trace → Proceeds p.trace q.trace
@@ -132,7 +132,7 @@ pub record MembersCall : Type 0 where
 
 -- ---- look-ups in batches
 
--- each look-up of a batch, and each get, is such a call, where the budget is enough by the shape of the table
+-- each look-up of a batch, and each get, is such a call, if the budget is enough by the shape of the table
 pub record BatchesCall : Type 0 where
   pub has : (m n : MemberView) (keys : List ℕ) (budget : ℕ) (answers : List (Result Bool Refusal)) → SeesRun m.pass.trace
       → enough_by_shape m.pass ≤ budget → HasAll m n keys budget answers → ComesByCalls budget m.pass n.pass

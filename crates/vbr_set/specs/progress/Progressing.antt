@@ -63,7 +63,7 @@ pub record CameBack (q : Trace) (who : ℕ) : Type 0 where
   pub own : BeginsFor who view.trace.seen run
   pub seen : Begins q.seen run
 
--- from what one had seen to what it has seen then each pass of the set stood still, wherever it did, or it came back from the calls in which it made its steps
+-- from what one had seen to what it has then seen, each pass of the set stood still, wherever it did, or came back from the calls in which it made its steps
 pub record Proceeds (p q : Trace) : Type 0 where
   pub sees : SeesMore p q
   pub each : (who : ℕ) → who < q.passes → BeginsFor who p.seen q.seen ⊎ CameBack q who
@@ -76,7 +76,7 @@ most_unanswered p = 1 + marked_after p.start p.seen + unretired_after p.start p.
 abbrev pub updates_in : Trace → Trace → ℕ
 updates_in p q = updates (incarnations_after p.start q.seen).calls - updates (incarnations_after p.start p.seen).calls
 
--- meanwhile another pass was answered yes: its call, an insert or a remove, is one that was made since
+-- meanwhile another pass was answered yes: one of its inserts or removes was made since
 pub record AnotherIsAnswered (p q : Trace) : Type 0 where
   pub since : List Call
   pub adds : calls_of q.start q.seen ≡ calls_of p.start p.seen ++ since
@@ -92,7 +92,7 @@ pub record AnotherIsAnswered (p q : Trace) : Type 0 where
 abbrev pub AnswersDisturb : Type 0
 AnswersDisturb = (p q : PassView) (key : ℕ) → SeesRun p.trace → Proceeds p.trace q.trace → disturbed p.trace q.trace key ≤ most_unanswered p.trace + 3 * updates_in p.trace q.trace
 
--- a call whose budget is enough for that is refused for want of steps only where another pass was answered meanwhile: a look-up, a remove or an insert
+-- a call whose budget is enough for that is refused for want of steps only if another pass was answered meanwhile: a look-up, a remove or an insert
 pub record RefusalsShowAnswers : Type 0 where
   pub look_up : (p q : PassView) (key budget : ℕ) (refusal : Refusal) → SeesRun p.trace → Proceeds p.trace q.trace → Calls Has p q key budget (Err refusal)
       → enough_among (listed_for p.trace key) (most_unanswered p.trace) ≤ budget → AnotherIsAnswered p.trace q.trace
@@ -101,7 +101,7 @@ pub record RefusalsShowAnswers : Type 0 where
   pub insert : (p q : PassView) (key budget used : ℕ) → SeesRun p.trace → Proceeds p.trace q.trace → Calls Insert p q key budget (Err (OutOfSteps used))
       → enough_to_insert_among (listed_for p.trace key) (most_unanswered p.trace) (steps_for_slot p q.trace) ≤ budget → AnotherIsAnswered p.trace q.trace
 
--- so it is of the calls of a map
+-- the same for the calls of a map
 pub record MapRefusalsShowAnswers : Type 0 where
   pub get : (p q : PassView) (key budget : ℕ) (refusal : Refusal) → SeesRun p.trace → Proceeds p.trace q.trace → CallsGet p q key budget (Err refusal)
       → enough_among (listed_for p.trace key) (most_unanswered p.trace) ≤ budget → AnotherIsAnswered p.trace q.trace
@@ -114,19 +114,19 @@ pub record MapRefusalsShowAnswers : Type 0 where
   pub store : (p q : PassView) (key value : ℕ) (wanted : Wanted) (budget used : ℕ) → SeesRun p.trace → Proceeds p.trace q.trace → CallsStore p q key value wanted budget (Err (OutOfSteps used))
       → enough_to_store_among (listed_for p.trace key) (most_unanswered p.trace) (steps_to_prepare wanted p q.trace) ≤ budget → AnotherIsAnswered p.trace q.trace
 
--- the epoch, and the removed nodes that aren't retired, are together at most one more than the removes that were answered yes, where each pass came back
+-- if each pass came back, the epoch, and the removed nodes that aren't retired, are together at most one more than the removes that were answered yes
 abbrev pub EpochsArePaid : Type 0
 EpochsArePaid = (p : PassView) → SeesRun p.trace → ((who : ℕ) → who < p.trace.passes → CameBack p.trace who)
     → (incarnations_after p.trace.start p.trace.seen).epoch + unretired_after p.trace.start p.trace.seen ≤ 1 + removes (calls_of p.trace.start p.trace.seen)
 
 -- ---- what is enough
 
--- with no more than one slot unlinked and not stamped with each pass, as where each unlinks in turn, that is twice the nodes that are marked, one for each pass, and one
+-- if each pass has at most one slot unlinked and not stamped, as when each unlinks in turn, that is twice the nodes that are marked, one for each pass, and one
 abbrev pub FewUnanswered : Type 0
 FewUnanswered = (p : PassView) → SeesRun p.trace → ((who : ℕ) → who < p.trace.passes → number_at p.trace.start p.trace.seen (Unstamped who) ≤ 1)
     → most_unanswered p.trace ≤ 2 * marked_after p.trace.start p.trace.seen + p.trace.passes + 1
 
--- whatever a pass has seen, it is no more than two for each slot, and one; so the shape of the table tells what is enough, of an insert by a pass that has a slot of its own
+-- whatever a pass has seen, it is at most two for each slot, and one; so the shape of the table gives what is enough, for an insert if the pass has a slot of its own
 pub record ShapesTellEnough : Type 0 where
   pub look_up : (p : PassView) (key : ℕ) → enough_among (listed_for p.trace key) (most_unanswered p.trace) ≤ enough_among p.trace.start.shape.slots (2 * p.trace.start.shape.slots + 1)
   pub search : (p : PassView) (key : ℕ) → enough_to_search_among (listed_for p.trace key) (most_unanswered p.trace) ≤ enough_to_search_among p.trace.start.shape.slots (2 * p.trace.start.shape.slots + 1)

@@ -55,8 +55,8 @@ pub record WalksMakeProgress : Type 0 where
 
 -- ---- laws of the whole set
 
--- where a budget is enough while no update is answered yes, a walk goes on, or another pass was answered yes meanwhile
--- Enough in the bucket of its cursor, a call brings the cursor on. Enough for the buckets that it goes over and the one where it then stands, or for all from its cursor's on, a call isn't refused. Enough in each bucket, a list or a count of all keys isn't refused.
+-- if a budget is enough while no update is answered yes, a walk goes on, or another pass was answered yes meanwhile
+-- If it is enough in the bucket of its cursor, a call brings the cursor on. If it is enough for the buckets that it goes over and the one where it then stands, or for all from its cursor's on, a call isn't refused. If it is enough in each bucket, a list or a count of all keys isn't refused.
 pub record WalksShowAnswers : Type 0 where
   pub on : (p q : PassView) (c d : Cursor) (budget : ℕ) (answer : Result (Option ℕ) Refusal) → SeesRun p.trace → Proceeds p.trace q.trace → IteratesKeys p q c d budget answer
       → enough_unanswered p.trace c.bucket ≤ budget → BringsOn c d answer ⊎ AnotherIsAnswered p.trace q.trace
@@ -67,7 +67,7 @@ pub record WalksShowAnswers : Type 0 where
   pub all : (m n : MemberView) (budget : ℕ) (refusal : Refusal) → SeesRun m.pass.trace → Proceeds m.pass.trace n.pass.trace → Quiet m.pass.trace n.pass.trace → StandsShort (caller m) (caller n) budget refusal
       → ((bucket : ℕ) → bucket < m.pass.trace.start.shape.buckets → enough_unanswered m.pass.trace bucket ≤ budget) → AnotherIsAnswered m.pass.trace n.pass.trace
 
--- whatever a pass has seen, the shape of the table tells what is enough in a bucket
+-- whatever a pass has seen, the shape of the table gives what is enough in a bucket
 abbrev pub ShapesTellEnoughToWalk : Type 0
 ShapesTellEnoughToWalk = (p : PassView) (bucket : ℕ) → enough_unanswered p.trace bucket ≤ enough_among p.trace.start.shape.slots (2 * p.trace.start.shape.slots + 1)
 

@@ -1,4 +1,4 @@
--- How many slots other passes take out of the shared pool while no update is answered, and what is enough then for a pass that has none.
+-- How many slots other passes take out of the shared pool while no update is answered, and what is then enough for a pass that has none.
 use Rattle.std.specs.Prelude.{◌≡◌, ◌≢◌, ℕ, ◌+◌, ◌-◌, ◌*◌, ◌≤◌, ◌<◌, ◌==◌, ◌&&◌, not, ◌⊎◌, Bool, true, false, List, [], ◌∷◌, length, Err}
 use Rattle.vbr_machine.specs.Disturbances.{one_if}
 use Rattle.vbr_machine.specs.Runs.{Begins, BeginsFor}
@@ -39,8 +39,8 @@ pub record CameInNeed (beyond : ℕ) (p q : PassView) : Type 0 where
   pub sees : SeesMore p.trace q.trace
   pub few : times_beyond q.trace ≤ times_beyond p.trace + beyond
 
--- so it came by each call of a set or a map, answered or refused, by what goes over keys, by each meeting and each catching up, never beyond its need; by giving back at most once; by each reserve and each top-up at most once for each slot that it took; and by one such way after another
--- A pass that may lack slots, as one that gave them up, wins at most one flag beyond its need by each insert.
+-- it came so by each call of a set or a map, answered or refused, by what goes over keys, by each meeting and each catching up, never beyond its need; by giving back at most once; by each reserve and each top-up at most once for each slot that it took; and by one such way after another
+-- A pass that may lack slots, such as one that gave them up, wins at most one flag beyond its need by each insert.
 pub record PassesWinInNeed : Type 0 where
   pub stays : (p : PassView) → PassLaw p → CameInNeed 0 p p
   pub called : (op : Op) (m n : MemberView) → PassLaw m.pass → HasAllSlots m.pass → IsCall op m n → CameInNeed 0 m.pass n.pass
@@ -77,7 +77,7 @@ abbrev pub is_insertion : Op → Bool
 is_insertion Insert = true
 is_insertion _ = false
 
--- how many of these calls are inserts of other callers than one that were answered yes
+-- how many of these calls are inserts of callers other than one that were answered yes
 abbrev pub inserts_of_others : ℕ → List Call → ℕ
 inserts_of_others who [] = 0
 inserts_of_others who (call ∷ calls) = one_if (not (call.who == who) && (is_insertion call.op && call.reply)) + inserts_of_others who calls
@@ -92,7 +92,7 @@ others_inserted p q = inserts_of_others p.who (calls_of p.start q.seen) - insert
 abbrev pub most_gained : Trace → ℕ → ℕ
 most_gained p beyond = (p.passes - 1) + beyond
 
--- where each of them never went beyond its need, together they never did
+-- if each of them never went beyond its need, together they never did
 abbrev pub NobodyGoesBeyond : Type 0
 NobodyGoesBeyond = (p q : Trace) → ((who : ℕ) → who < p.passes → who ≢ p.who → BeginsFor who p.seen q.seen ⊎ WentBeyond p q who 0) → OthersComeInNeed p q 0
 
@@ -101,14 +101,14 @@ abbrev pub InsertsPayForGains : Type 0
 InsertsPayForGains = (p q : PassView) (beyond : ℕ) → SeesRun p.trace → SeesMore p.trace q.trace → OthersComeInNeed p.trace q.trace beyond
     → gained p.trace q.trace ≤ most_gained p.trace beyond + others_inserted p.trace q.trace
 
--- the most steps in which a call takes a slot while none is, and those of a store, which may read the value before: by what is known as the call begins
+-- the most steps in which a call takes a slot while no insert of others is answered, and in which a store does, which may read the value before: by what is known as the call begins
 abbrev pub known_steps_for_slot : PassView → ℕ → ℕ
 known_steps_for_slot p beyond = most_to_take_among p.trace.start p.pool (most_gained p.trace beyond)
 
 abbrev pub known_steps_to_prepare : Wanted → PassView → ℕ → ℕ
 known_steps_to_prepare wanted p beyond = known_steps_for_slot p beyond + steps_to_compare wanted
 
--- an insert or a store with a budget that is enough with that many steps, whatever is in its own pool, is refused for want of steps only where another pass was answered meanwhile
+-- an insert or a store with a budget that is enough with that many steps, whatever is in its own pool, is refused for want of steps only if another pass was answered meanwhile
 pub record KnownBudgetsShowAnswers : Type 0 where
   pub insert : (p q : PassView) (beyond key budget used : ℕ) → SeesRun p.trace → Proceeds p.trace q.trace → OthersComeInNeed p.trace q.trace beyond
       → Calls Insert p q key budget (Err (OutOfSteps used))
@@ -120,7 +120,7 @@ pub record KnownBudgetsShowAnswers : Type 0 where
       → CallsStore p q key value wanted budget (Err (OutOfSteps used))
       → enough_to_store_among (listed_for p.trace key) (most_unanswered p.trace) (known_steps_to_prepare wanted p beyond) ≤ budget → AnotherIsAnswered p.trace q.trace
 
--- whatever a pass has seen, and whatever is in its own pool, the shape of the table and the number of passes tell what is enough
+-- whatever a pass has seen, and whatever is in its own pool, the shape of the table and the number of passes give what is enough
 pub record ShapesTellWithoutSlots : Type 0 where
   pub insert : (p : PassView) (beyond key : ℕ)
       → enough_to_insert_among (listed_for p.trace key) (most_unanswered p.trace) (known_steps_for_slot p beyond)

@@ -1,4 +1,4 @@
--- Whether there is room for a renewal is what each report of all members tells.
+-- Each report of all members shows whether there is room for a renewal.
 use Rattle.std.specs.Prelude.{ℕ, ◌<◌, ◌≤◌, List, length}
 use Rattle.vbr_slots.specs.steps.PassLaw.{PassLaw}
 use Rattle.vbr_slots.specs.views.Views.{IsOf, PassView}
@@ -9,7 +9,7 @@ use Rattle.vbr_set.specs.reports.Kinds.{KindOf, as_map, as_set}
 use Rattle.vbr_set.specs.calls.Members.{MemberView}
 use Rattle.vbr_set.specs.renewals.RenewingAll.{HasNoRoom, HasRoom}
 
--- where all members get a report, each once, it lists more than so many slots if there is no room in them, and no more if there is; any pass of the set bears out that it is one
+-- if all members get a report, each once, it lists more than so many slots if there is no room in them, and no more if there is; any pass of the set bears out that it is one
 abbrev pub RoomToldBy : {Item R : Type 0} → KindOf Item R → Type 0
 RoomToldBy {Item} {R} kind =
     (members : List MemberView) (report : R) (told : ReportsAllBy (ClosesBy kind) members report) (pass : PassView)
@@ -17,7 +17,7 @@ RoomToldBy {Item} {R} kind =
     → (HasNoRoom kind members slots → slots < length (kind.contents report).listed.items)
     × (HasRoom kind members slots → length (kind.contents report).listed.items ≤ slots)
 
--- so it is of sets and of maps
+-- the same for sets and for maps
 pub record RoomIsTold : Type 0 where
   pub of_sets : RoomToldBy as_set
   pub of_maps : RoomToldBy as_map

@@ -7,14 +7,14 @@ use Rattle.vbr_set.specs.declared.renew_error.RenewError.{RenewError}
 use Rattle.vbr_set.specs.declared.renew_error.RenewError.TheVariants.{Missing, Memory, Closed}
 
 module _ {Item R : Type 0} (kind : KindOf Item R) where
-  -- it is closed, with the report that its close gives, and the new one opens with what this report lists, which is what the calls of all passes leave in the old one; its shape is else the same, and so is its number of passes
+  -- it is closed, with the report that its close gives, and the new one opens with what this report lists, which is what the calls of all passes leave in the old one; otherwise its shape is the same, and so is its number of passes
   pub record RenewsBy (t : TableView) (passes : List PassView) (new : TableView) : Type 0 where
     pub report : R
     pub closes : ClosesBy kind t passes report
     pub start : new.start ≡ kind.with_items t.start (kind.contents report).listed.items
     pub count : new.passes ≡ t.passes
 
-  -- where a renewal is refused, the table and the passes come back as they were; or it is closed, and the report is that of its close
+  -- if a renewal is refused, the table and the passes come back as they were; or it is closed, and the report is the report of its close
   abbrev pub IsUnrenewedBy : RenewError TableView R → TableView → List PassView → Type 0
   IsUnrenewedBy (Missing t ps) table passes = (t ≡ table) × (ps.items ≡ passes)
   IsUnrenewedBy (Memory t ps) table passes = (t ≡ table) × (ps.items ≡ passes)

@@ -15,29 +15,29 @@ AreNotAll [] = Unit {0}
 AreNotAll (m ∷ ms) = length (m ∷ ms) ≢ m.set.passes
 
 module _ {Item R : Type 0} (kind : KindOf Item R) where
-  -- what a report tells of all members, a fresh set of this shape opens with, and these are its members, as many as there were
+  -- a fresh set of this shape opens with what a report of all members lists, and these are its members, as many as there were
   pub record RenewsAllBy (members : List MemberView) (shape : Dimensions) (fresh : List MemberView) : Type 0 where
     pub report : R
     pub reports : ReportsAllBy (ClosesBy kind) members report
     pub new : AreNew (kind.start shape (kind.contents report).listed.items) (length members) fresh
 
-  -- a report tells more of all members than there would be slots
+  -- a report of all members lists more than there would be slots
   pub record TellsMore (members : List MemberView) (slots : ℕ) : Type 0 where
     pub report : R
     pub reports : ReportsAllBy (ClosesBy kind) members report
     pub more : slots < length (kind.contents report).listed.items
 
-  -- a report tells of them no more than there would be slots
+  -- a report of all members lists no more than there would be slots
   pub record TellsFew (members : List MemberView) (slots : ℕ) : Type 0 where
     pub report : R
     pub reports : ReportsAllBy (ClosesBy kind) members report
     pub few : length (kind.contents report).listed.items ≤ slots
 
-  -- there is no room in so many slots: a report tells more of all members, or their balances add up to more
+  -- there is no room in so many slots: a report of all members lists more, or their balances add up to more
   abbrev pub HasNoRoom : List MemberView → ℕ → Type 0
   HasNoRoom members slots = TellsMore members slots ⊎ (pos slots <ℤ added_balances members)
 
-  -- there is room: a report tells no more, or the balances add up to no more
+  -- there is room: a report lists no more, or the balances add up to no more
   abbrev pub HasRoom : List MemberView → ℕ → Type 0
   HasRoom members slots = TellsFew members slots ⊎ (added_balances members ≤ℤ pos slots)
 

@@ -1,4 +1,4 @@
--- What a report says of a run of a table: what is listed of the linked nodes after it, and the counts of a report.
+-- What a report says of a run of a table: the items of the linked nodes after it, and the counts of a report.
 use Rattle.std.specs.Prelude.{◌≡◌, ℕ, ◌+◌, List, length}
 use Rattle.vbr_machine.specs.Start.{Start}
 use Rattle.vbr_machine.specs.Accounts.{incarnations_after}
@@ -12,7 +12,7 @@ use Rattle.vbr_slots.specs.views.Views.{PassView, TableView}
 use Rattle.vbr_set.specs.reports.Walking.{AreAfter, linked_of}
 use Rattle.vbr_set.specs.declared.contents.Contents.{Contents}
 
--- of a run are reported: what is listed; the epoch; how many nodes are linked, one for each that is listed; how many are marked and still in a list; and how many slots have neither
+-- a report of a run has: its items; the epoch; the number of linked nodes, one for each item; the number that are marked and still in a list; and the number of slots that have neither
 pub record TellsRun {T : Type 0} (Lists : List T → Type 0) (start : Start) (run : List Event) (told : Contents T) : Type 0 where
   pub listed : Lists told.listed.items
   pub epoch : told.epoch ≡ (world_after start run).epoch
@@ -32,7 +32,7 @@ module _ {T : Type 0} (shown : Incarnations → ℕ → T) where
   abbrev pub ShowsLinked : Start → List Event → List T → Type 0
   ShowsLinked start run items = items ≡ linked_of (shown (incarnations_after start run)) (incarnations_after start run) start.shape.slots
 
-  -- so it is reported of a run
+  -- so a run is reported
   abbrev pub Holds : Start → List Event → Contents T → Type 0
   Holds start run told = TellsRun (ShowsLinked start run) start run told
 

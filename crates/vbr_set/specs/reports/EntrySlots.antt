@@ -28,7 +28,7 @@ pub record HasEntry (start : Start) (run : List Event) (s key : ℕ) : Type 0 wh
 abbrev pub HaveEntries : Start → List Event → List ℕ → List ℕ → Type 0
 HaveEntries start run = AllZip (HasEntry start run)
 
--- the report tells the end of a run, as one without slots, and the slots have the entries that it lists, after that run
+-- the report describes the end of a run, as one without slots does, and the slots have the entries that it lists, after that run
 pub record ClosesWithSlots {Item R : Type 0} (kind : KindOf Item R) (t : TableView) (passes : List PassView) (told : ReportWithSlots R) : Type 0 where
   pub closes : ClosesBy kind t passes told.report
   pub slots : HaveEntries t.start closes.run told.slots.items (kind.keys (kind.contents told.report).listed.items)

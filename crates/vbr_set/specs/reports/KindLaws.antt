@@ -1,4 +1,4 @@
--- What is true of each kind: it opens with a key for each item, the items of a report ascend, and what opens with items starts as it was with them; and the keys of what the calls of a history leave are those that they leave in a set. A set keeps no values, so none stand beside its keys.
+-- What is true of each kind: it opens with a key for each item, the items of a report ascend, and what opens with items starts as it was with them; and the keys of what the calls of a history leave are the keys that they leave in a set. A set keeps no values, so none stand beside its keys.
 use Rattle.std.proofs.Common.{◌≡◌, ℕ, Bool, true, false, List, [], ◌∷◌, length, Option, Some, None, refl, sym, ap, ◌∙◌}
 use Rattle.std.proofs.lemmas.List.{length-map}
 use Rattle.std.specs.Prelude.{◌||◌, if◌then◌else◌, is_some, nat_eq}

@@ -12,7 +12,7 @@ use Rattle.vbr_set.specs.declared.contents.Contents.{Contents}
 use Rattle.vbr_set.specs.declared.report.MapReport.{MapReport}
 use Rattle.vbr_set.specs.declared.report.Report.{Report}
 
--- the keys of items; what it starts with, of a shape and with items; the same start with other items; which histories are legal from a start; which items the calls of a history leave; and what a report tells
+-- the keys of items; what it starts with, of a shape and with items; the same start with other items; which histories are legal from a start; which items the calls of a history leave; and what a report says
 pub record KindOf (Item R : Type 0) : Type 1 where
   pub keys : List Item → List ℕ
   pub start : Dimensions → List Item → Start
@@ -21,7 +21,7 @@ pub record KindOf (Item R : Type 0) : Type 1 where
   pub lists : Start → List Call → List Item → Type 0
   pub contents : R → Contents Item
 
--- a set lists the keys that the calls of a history leave in a set that opened with those of its start
+-- a set lists the keys that the calls of a history leave in a set that opened with the keys of its start
 abbrev pub as_set : KindOf ℕ Report
 as_set = record {
   keys = λ keys. keys;
@@ -32,12 +32,12 @@ as_set = record {
   contents = λ report. record { listed = report.keys; epoch = report.epoch; live = report.live; marked = report.marked; free = report.free };
 }
 
--- the list has just the entries of the map, its keys ascending
+-- the list has exactly the entries of the map, its keys ascending
 pub record AreEntriesOf (listed : List (ℕ × ℕ)) (entries : Entries) : Type 0 where
   pub ascending : IsStrictlyIncreasing (keys_listed listed)
   pub same : (key : ℕ) → entries_in listed key ≡ entries key
 
--- a map lists the entries that they leave in a map that opened with those of its start, and in a legal history of one each value that is given is the one stored
+-- a map lists the entries that they leave in a map that opened with the entries of its start, and in a legal history of one each value that is given is the one stored
 abbrev pub as_map : KindOf (ℕ × ℕ) MapReport
 as_map = record {
   keys = keys_listed;

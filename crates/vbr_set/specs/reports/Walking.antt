@@ -13,7 +13,7 @@ use Rattle.vbr_machine.specs.declared.event.Event.{Event}
 use Rattle.vbr_slots.specs.words.Words.{AreWordsOf}
 use Rattle.vbr_machine.specs.Nodes.{state_in, is_linked, is_listed, is_in_list}
 
--- the words are those of the world after a run from a start
+-- the words are the words of the world after a run from a start
 pub record AreAfter (start : Start) (words : List ℕ) (run : List Event) : Type 0 where
   pub passes : ℕ
   pub is_start : IsStart start

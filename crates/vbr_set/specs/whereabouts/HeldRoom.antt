@@ -1,4 +1,4 @@
--- Where the slots of a member are that holds one.
+-- Where the slots of a member are if it holds one.
 use Rattle.std.specs.Prelude.{◌≡◌, ℕ, Option, None, Ok}
 use Rattle.vbr_slots.specs.views.Views.{PassView}
 use Rattle.vbr_at_table.specs.hands.KeptSlots.{KeepsSlots}

@@ -32,7 +32,7 @@ had_by_others p = sum_of p.passes (λ pass. if pass == p.who then 0 else number_
 abbrev pub AreTakenUp : Trace → Type 0
 AreTakenUp p = (keys : List ℕ) → AreKeysOf keys (set_after (opening_keys p.start) (calls_of p.start p.seen)) → p.start.shape.slots ≡ length keys + marked_after p.start p.seen + had_by_others p
 
--- a pass stands between two calls, after what another has seen, which is all that it did: it has all its slots, with the one that it holds, if it holds one, and none in its hand
+-- a pass stands between two calls, after what another has seen, which is all that it did: it has all its slots, with the one that it holds, if any, and none in its hand
 pub record IsBetweenCalls (aside : Option Aside) (p : PassView) (q : Trace) : Type 0 where
   pub law : PassLaw p
   pub start : p.trace.start ≡ q.start
@@ -44,7 +44,7 @@ pub record IsBetweenCalls (aside : Option Aside) (p : PassView) (q : Trace) : Ty
 abbrev pub OthersAreBetweenCalls : (ℕ → Option Aside) → Trace → Type 0
 OthersAreBetweenCalls aside q = (who : ℕ) → who < q.passes → who ≢ q.who → (p : PassView) × (p.trace.who ≡ who) × IsBetweenCalls (aside who) p q
 
--- how many slots the other passes hold: one each at most
+-- how many slots the other passes hold: at most one each
 abbrev pub number_aside : Option Aside → ℕ
 number_aside None = 0
 number_aside (Some aside) = 1

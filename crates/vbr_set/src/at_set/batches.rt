@@ -37,12 +37,13 @@ impl LooksUp<Result<Option<u64>, Refusal>> for AtSet<'_, Entries> {
 }
 
 impl<N: Nodes> AtSet<'_, N> {
-    /// Looks keys up in their order, each in at most `budget` steps, and writes the answer of each at its
-    /// place: each is the call [`AtSet::has`] of its key, refused or not by itself, so a refusal says nothing
-    /// of the keys after it. There are as many answers as keys.
+    /// Looks keys up in their order, each in at most `budget` steps, and writes each answer at the
+    /// place of its key. Each is a call [`AtSet::has`] of its own, so a refusal of one says nothing of
+    /// the keys after it. There are as many answers as keys.
     ///
-    /// It is for many keys of a large set: before it looks up a batch of them it loads where these look-ups
-    /// begin, so that they wait for memory side by side. These loads are no steps.
+    /// It is meant for many keys of a large set. Before it looks up a batch of them, it loads the words
+    /// where these look-ups begin, so that they wait for memory side by side. These loads don't count
+    /// as steps.
     ///
     /// # Example
     ///
@@ -61,8 +62,8 @@ impl<N: Nodes> AtSet<'_, N> {
 }
 
 impl AtSet<'_, Entries> {
-    /// As [`AtSet::has_all`], with the value of each key that is there: each answer is that of a `get` of its
-    /// key.
+    /// Like [`AtSet::has_all`], with the value of each key that is there: each answer is what a `get`
+    /// of the key returns.
     #[inline(always)]
     pub fn get_all(
         &mut self,

@@ -16,7 +16,7 @@ use vbr_words::{Entries, Nodes};
 pub(crate) trait Item: Copy {
     ghost item: { ℕ → ℕ → Self };
 
-    // That of this key with this value.
+    // The item of this key with this value.
     fn of(key: u64, value: u64) -> Self
         ensures { result ≡ item key value };
 }
@@ -39,13 +39,13 @@ impl Item for (u64, u64) {
     }
 }
 
-// What going over all keys gathers of them: a list of items, or how many they are.
+// What going over all keys collects: a list of items, or their number.
 pub(crate) trait Gathered: Drop {
     ghost of: { List (ℕ × ℕ) → Self → Type 0 };
 
     ghost MayLack: { Type 0 };
 
-    // Takes in one more, and says whether there was memory for it.
+    // Takes in one more item, and returns whether there was memory for it.
     fn add(&mut self, key: u64, value: u64) -> bool
         ensures added { (entries : List (ℕ × ℕ)) → of entries self.old →
             result ≡ true → of (entries ++ (key, value) ∷ []) self.new }
@@ -76,26 +76,27 @@ impl Gathered for u64 {
 }
 
 impl<N: Nodes> AtSet<'_, N> {
-    /// The next key at a cursor, in at most `budget` steps, and none after the last one. The cursor is then
-    /// right after that key, or before the next bucket where its node was the last of its list. It begins at
-    /// [`Cursor::first`].
+    /// The next key at a cursor, in at most `budget` steps, and none after the last one. The cursor is
+    /// then right after that key, or before the next bucket if its node was the last of its list. A
+    /// walk begins at [`Cursor::first`].
     ///
-    /// The key was there at a moment of the call, and each other key that the cursor has passed by was
-    /// absent at a moment of it. So over the calls from the first cursor to the last, whatever other callers
-    /// do meanwhile, each key that is there all the while is given, and none is given twice or without
-    /// having been there. Keys come bucket by bucket, and those of a bucket ascend.
+    /// The key was there at a moment of the call, and each other key that the cursor passed was absent
+    /// at a moment of it. So a walk from the first cursor to the last, whatever other callers do
+    /// meanwhile, gives each key that is there all the while. It gives no key twice, and none that
+    /// wasn't there. Keys come bucket by bucket, and the keys of a bucket ascend.
     ///
-    /// It makes no call of the set, and only loads words. While the other passes stand still it makes at most
-    /// 5n + 3 steps for each bucket that it goes through, with n nodes there, and at most 5n + 5 in a map.
-    /// Where others disturb it m times at a bucket, it makes at most (m + 1)(5(n + m) + 3) there, and at most
-    /// (m + 1)(5(n + m) + 5) in a map.
+    /// It makes no call of the set, and all its steps are loads. While the other passes stand still it
+    /// makes at most 5n + 3 steps for each bucket that it goes through, with n nodes there, and at most
+    /// 5n + 5 in a map. If others disturb it m times at a bucket, it makes at most
+    /// (m + 1)(5(n + m) + 3) there, and at most (m + 1)(5(n + m) + 5) in a map.
     ///
     /// # Errors
     ///
-    /// - OutOfSteps: the steps that were made leave less than eight of the budget. The cursor keeps how far
-    ///   it has come: they were made in the buckets that it has gone over and the one where it stands. While
-    ///   the other passes stand still, a budget of 5n + 11, with n nodes in its bucket, is enough to give a
-    ///   key or to come to the next bucket; where they disturb it m times there, (m + 1)(5(n + m) + 11) is.
+    /// - OutOfSteps: the steps made leave fewer than eight of the budget. The cursor keeps how far it
+    ///   has come: they were made in the buckets that it has gone over and in the one where it stands.
+    ///   While the other passes stand still, a budget of 5n + 11, with n nodes in its bucket, is enough
+    ///   to give a key or to come to the next bucket. If they disturb it m times there,
+    ///   (m + 1)(5(n + m) + 11) is.
     #[inline]
     pub fn next_key(&mut self, cursor: &mut Cursor, budget: u32) -> Result<Option<u64>, Refusal>
         ensures same { IsSameSet self.old self.new }
@@ -109,7 +110,7 @@ impl<N: Nodes> AtSet<'_, N> {
         next
     }
 
-    // As `next_key`, with the value where nodes have values.
+    // Like `next_key`, with the value if nodes have values.
     #[inline]
     fn next_where(
         &mut self,
@@ -127,16 +128,18 @@ impl<N: Nodes> AtSet<'_, N> {
         next
     }
 
-    /// All keys, by calls of at most `budget` steps each: each key that was there all the while, once, and
-    /// none that wasn't there at a moment of it. Keys come bucket by bucket, and those of a bucket ascend.
+    /// Lists all keys, by calls of at most `budget` steps each: each key that was there all the while,
+    /// once, and none that wasn't there at some moment meanwhile. Keys come bucket by bucket, and the
+    /// keys of a bucket ascend.
     ///
     /// It makes at most one call for each key, one for each bucket, and one for the end.
     ///
     /// # Errors
     ///
-    /// - Refused: a whole call was refused for want of steps, and brought the cursor no further. While the
-    ///   other passes stand still, that comes only where `budget` is below 5n + 11, with n nodes in the
-    ///   bucket where it stood; where they disturb the pass m times there, below (m + 1)(5(n + m) + 11).
+    /// - Refused: a whole call was refused for want of steps, and brought the cursor no further. While
+    ///   the other passes stand still, that happens only if `budget` is below 5n + 11, with n nodes in
+    ///   the bucket where it stood. If they disturb the pass m times there, it happens only below
+    ///   (m + 1)(5(n + m) + 11).
     /// - Memory: there is no memory for the keys.
     pub fn keys_now(&mut self, alloc: Global, budget: u32) -> Result<Vec<u64>, ListError>
         ensures same { IsSameSet self.old self.new }
@@ -146,8 +149,9 @@ impl<N: Nodes> AtSet<'_, N> {
         self.go_over(budget, Vec::new(alloc))
     }
 
-    /// How many keys [`AtSet::keys_now`] would have listed in its place. It takes no memory. The count is of
-    /// keys that were there at moments of their own, so it needn't be how many were there at one moment.
+    /// Counts the keys that [`AtSet::keys_now`] would have listed in its place, without memory. Each
+    /// key counted was there at a moment of its own, so the count needn't be the number of keys at any
+    /// one moment.
     ///
     /// # Errors
     ///
@@ -196,8 +200,8 @@ impl<N: Nodes> AtSet<'_, N> {
 }
 
 impl AtSet<'_> {
-    /// The next key at a cursor with its entry, which has the value 0, as [`AtSet::next_key`] gives the key:
-    /// the entry was in the set at a moment of the call.
+    /// The next key at a cursor, as [`AtSet::next_key`] gives it, with its entry, whose value is 0: the
+    /// entry was in the set at a moment of the call.
     #[inline]
     pub fn next_named(
         &mut self,
@@ -217,7 +221,7 @@ impl AtSet<'_> {
 }
 
 impl AtSet<'_, Entries> {
-    /// The next key at a cursor with its value, as [`AtSet::next_key`] gives the key: the two stood in the
+    /// The next key at a cursor, as [`AtSet::next_key`] gives it, with its value: the two were in the
     /// map together at a moment of the call.
     #[inline]
     pub fn next_entry(
@@ -236,7 +240,7 @@ impl AtSet<'_, Entries> {
         next
     }
 
-    /// The next key at a cursor with its entry, as [`AtSet::next_key`] gives the key: the entry was in the
+    /// The next key at a cursor, as [`AtSet::next_key`] gives it, with its entry: the entry was in the
     /// map at a moment of the call, and the key had its value then.
     #[inline]
     pub fn next_named(
@@ -255,8 +259,8 @@ impl AtSet<'_, Entries> {
         next
     }
 
-    /// All keys, each with its value at a moment at which it was there, as [`AtSet::keys_now`] lists the
-    /// keys, which has the errors.
+    /// Lists all keys as [`AtSet::keys_now`] does, each with a value that it had at a moment when it
+    /// was there. The errors are the same.
     pub fn entries_now(&mut self, alloc: Global, budget: u32) -> Result<Vec<(u64, u64)>, ListError>
         ensures same { IsSameSet self.old self.new }
         ensures told { ListsEntries (λ entries. entries.items)

@@ -1,22 +1,23 @@
 //! The calls of a caller at its map: inserts, removes, gets and stores.
+ghost use Rattle.vbr_list.specs.updates.Outcomes.{ChangedIfExpected, there_in};
 ghost use Rattle.vbr_set.specs.calls.AtSets.{IsSameSet, member_after, member_at};
 ghost use Rattle.vbr_set.specs.calls.MapCalls.{ExchangesEntry, GetsEntry, GetsOrInsertsEntry, InsertsEntry, PutsEntry, RemovesEntry, RemovesIf, ReplacesEntry, StoresEntry};
 
 use crate::at_set::AtSet;
 use vbr_list::{
-    Refusal, Wanted, compare_exchange, get, get_or_insert, insert_entry, put, remove_entry,
-    remove_if, replace, store,
+    Outcome, Refusal, Wanted, compare_exchange, get, get_or_insert, insert_entry, put,
+    remove_entry, remove_if, replace, store,
 };
 use vbr_machine::laws::a_run_is_a_map;
 use vbr_words::Entries;
 
 impl AtSet<'_, Entries> {
-    /// Adds a key with its value, in at most `budget` steps, and says whether the key was absent. Where it
-    /// was present, its value stays: [`AtSet::store`] is the call that changes it.
+    /// Adds a key with its value, in at most `budget` steps, and returns whether the key was absent. If
+    /// it was present, its value stays: [`AtSet::store`] is the call that changes it.
     ///
-    /// It is the insert of a set, [`AtSet::insert`], with a step more to store the value, so that an answer
-    /// takes at most one more; budgets and refusals are those. After each the pass has made no call and has no
-    /// slot in hand, and no history has the call.
+    /// It is the insert of a set, [`AtSet::insert`], with the same budgets and refusals. Storing the
+    /// value takes one step more, so an answer takes at most one more. After a refusal the pass has
+    /// made no call and has no slot in hand, and no history has the call.
     #[inline]
     pub fn insert(&mut self, key: u64, value: u64, budget: u32) -> Result<bool, Refusal>
         ensures same { IsSameSet self.old self.new }
@@ -31,11 +32,12 @@ impl AtSet<'_, Entries> {
         answer
     }
 
-    /// Takes a key out, in at most `budget` steps, and gives the value that was stored with it, if it was
-    /// there. The value is read before the node is marked, and is that of the node since it was published.
+    /// Takes a key out, in at most `budget` steps, and returns the value that was stored with it, if it
+    /// was there. The value is read before the node is marked; a node keeps its value from when it is
+    /// published.
     ///
-    /// It is the remove of a set, [`AtSet::remove`]; budgets and refusals are those.
-    /// An answer takes two steps more: while the other passes stand still, at most 9n + 12.
+    /// It is the remove of a set, [`AtSet::remove`], with the same budgets and refusals. An answer
+    /// takes two steps more: while the other passes stand still, at most 9n + 12.
     #[inline]
     pub fn remove(&mut self, key: u64, budget: u32) -> Result<Option<u64>, Refusal>
         ensures same { IsSameSet self.old self.new }
@@ -50,9 +52,9 @@ impl AtSet<'_, Entries> {
         answer
     }
 
-    /// The value that is stored with a key, if the key is there, in at most `budget` steps. It goes the way
-    /// of a look-up of a set, and only loads words, two more of them than [`AtSet::has`];
-    /// budgets and refusals are those. While the other passes stand still, an answer takes at most
+    /// Returns the value that is stored with a key, if the key is there, in at most `budget` steps. It
+    /// works like a look-up of a set, [`AtSet::has`], with two loads more and the same budgets and
+    /// refusals. All its steps are loads. While the other passes stand still, an answer takes at most
     /// 5n + 6.
     #[inline]
     pub fn get(&mut self, key: u64, budget: u32) -> Result<Option<u64>, Refusal>
@@ -68,22 +70,18 @@ impl AtSet<'_, Entries> {
         answer
     }
 
-    /// Takes a key out where its value is the one that is expected, in at most `budget` steps, and gives
-    /// what was there: the value that the key had, or none where it was absent. So the key was taken out
-    /// exactly where the value that is expected is given. Else the call is a get of what was there.
+    /// Takes a key out if it has the expected value, in at most `budget` steps. Returns whether it did, and
+    /// what was there: the value that the key had, or none if it was absent. If that isn't the expected
+    /// value, the call is a get of what was there.
     ///
-    /// It goes the way of [`AtSet::remove`], which compares the value once it has read it; budgets,
-    /// refusals and what an answer takes are those.
+    /// It works like [`AtSet::remove`] of a map, and compares the value once it has read it. Budgets,
+    /// refusals and the steps of an answer are the same.
     #[inline]
-    pub fn remove_if(
-        &mut self,
-        key: u64,
-        expected: u64,
-        budget: u32,
-    ) -> Result<Option<u64>, Refusal>
+    pub fn remove_if(&mut self, key: u64, expected: u64, budget: u32) -> Result<Outcome, Refusal>
         ensures same { IsSameSet self.old self.new }
         ensures told { RemovesIf (member_at self.old) (member_after self.old self.new)
-            key expected budget result }
+            key expected budget (there_in result) }
+        ensures changed { ChangedIfExpected expected result }
     {
         let set = self.set;
         a_run_is_a_map();
@@ -93,35 +91,35 @@ impl AtSet<'_, Entries> {
         answer
     }
 
-    /// Gives a key a value where what is there is as it is wanted, in at most `budget` steps, and gives
-    /// what was there: the value that the key had, or none where it was absent. So the value was stored
-    /// exactly where [`Wanted::wants`] what is given.
+    /// Conditional store: gives a key a value if the key's state matches `wanted`, in at most `budget`
+    /// steps. Returns what was there: the value that the key had, or none if it was absent. So the
+    /// value was stored exactly when [`Wanted::wants`] what is returned.
     ///
-    /// The answer's point is one step, and where the key was there that is two calls of the history, next to
-    /// each other: the key is removed with its value, and inserted with the new one, and no call of
-    /// another pass stands between. Where what was there isn't as it is wanted, nothing changes, and the
+    /// The call takes effect at one step. If the key was there, that step is two calls of the history,
+    /// next to each other: the key is removed with its value, and inserted with the new one. No call of
+    /// another pass stands between them. If the key's state doesn't match, nothing changes, and the
     /// call is a get.
     ///
-    /// A new value has a new node, so a replacement needs one slot more than the map has keys. The node
-    /// that it replaced has left its list when the call returns, unless less than eight steps are left of
-    /// the budget, and its slot is back, in the pass's own pool while that has room.
+    /// A new value has a new node, so a replacement needs one slot more than the map has keys. When the
+    /// call returns, the replaced node has left its list, unless fewer than eight steps of the budget
+    /// are left. Its slot is then back, in the pass's own pool while that has room.
     ///
-    /// The budgets that are enough are those of [`AtSet::insert`], and two steps more for
+    /// Budgets are as for [`AtSet::insert`], with two steps more for
     /// [`Wanted::Value`]: while the other passes stand still, 18n + 82, or 18n + w + 20 if that is more, with
-    /// n nodes in the key's bucket and w = slots / 64, rounded up; and 18n + 82 with a slot in the pass's own
-    /// pool, unless the epoch is spent. What is answered took at most six steps more than is enough, and with eight more a node that was replaced has left
-    /// its list.
+    /// n nodes in the key's bucket and w = slots / 64, rounded up; and 18n + 82 with a slot in the
+    /// pass's own pool, unless the epoch is spent. An answered call took at most six steps more than is
+    /// enough, and with eight more a replaced node has left its list.
     ///
     /// # Errors
     ///
-    /// After each the pass has made no call and has no slot in hand, no history has the call, and what was
-    /// there stays.
+    /// After any of these the pass has made no call and has no slot in hand, no history has the call,
+    /// and what was there stays.
     ///
-    /// - OutOfSteps: the steps that were made leave less than eight of the budget.
-    /// - NoSlot: what was there was as it is wanted, the own pool was empty, and each slot was outside the
-    ///   shared pool at a moment of the call.
-    /// - EpochSpent: what was there was as it is wanted, the epoch is the last, and each slot of the own
-    ///   pool is stamped with it. The budget had room to advance it.
+    /// - OutOfSteps: the steps made leave fewer than eight of the budget.
+    /// - NoSlot: the key's state matched, the own pool was empty, and each slot was outside the shared
+    ///   pool at a moment of the call.
+    /// - EpochSpent: the key's state matched, the epoch is the last, and each slot of the own pool is
+    ///   stamped with it. The budget had room to advance it.
     #[inline]
     pub fn store(
         &mut self,
@@ -142,7 +140,7 @@ impl AtSet<'_, Entries> {
         answer
     }
 
-    /// As [`AtSet::store`] where [`Wanted::Present`] is wanted, compiled for that.
+    /// [`AtSet::store`] with [`Wanted::Present`], compiled for that case.
     #[inline]
     pub fn replace(&mut self, key: u64, value: u64, budget: u32) -> Result<Option<u64>, Refusal>
         ensures same { IsSameSet self.old self.new }
@@ -157,7 +155,7 @@ impl AtSet<'_, Entries> {
         answer
     }
 
-    /// As [`AtSet::store`] where [`Wanted::Anything`] is wanted, compiled for that.
+    /// [`AtSet::store`] with [`Wanted::Anything`], compiled for that case.
     #[inline]
     pub fn put(&mut self, key: u64, value: u64, budget: u32) -> Result<Option<u64>, Refusal>
         ensures same { IsSameSet self.old self.new }
@@ -172,7 +170,7 @@ impl AtSet<'_, Entries> {
         answer
     }
 
-    /// As [`AtSet::store`] where [`Wanted::Absent`] is wanted, compiled for that.
+    /// [`AtSet::store`] with [`Wanted::Absent`], compiled for that case.
     #[inline]
     pub fn get_or_insert(
         &mut self,
@@ -192,7 +190,8 @@ impl AtSet<'_, Entries> {
         answer
     }
 
-    /// As [`AtSet::store`] where [`Wanted::Value`] is wanted, compiled for that.
+    /// [`AtSet::store`] with [`Wanted::Value`], compiled for that case. Also returns whether it stored the
+    /// value.
     #[inline]
     pub fn compare_exchange(
         &mut self,
@@ -200,10 +199,11 @@ impl AtSet<'_, Entries> {
         expected: u64,
         value: u64,
         budget: u32,
-    ) -> Result<Option<u64>, Refusal>
+    ) -> Result<Outcome, Refusal>
         ensures same { IsSameSet self.old self.new }
         ensures told { ExchangesEntry (member_at self.old) (member_after self.old self.new)
-            key expected value budget result }
+            key expected value budget (there_in result) }
+        ensures changed { ChangedIfExpected expected result }
     {
         let set = self.set;
         a_run_is_a_map();

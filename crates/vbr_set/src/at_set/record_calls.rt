@@ -9,7 +9,7 @@ use vbr_machine::laws::a_run_is_a_map;
 use vbr_words::Entries;
 
 impl AtSet<'_> {
-    /// As [`AtSet::has`]: gives the entry of the key, with the value 0.
+    /// Like [`AtSet::has`], but returns the entry of the key, with the value 0.
     #[inline]
     pub fn get_entry(&mut self, key: u64, budget: u32) -> Result<Option<Entry>, Refusal>
         ensures same { IsSameSet self.old self.new }
@@ -23,11 +23,11 @@ impl AtSet<'_> {
         answer
     }
 
-    /// Takes a key out where its node is that of this entry, by its slot and its birth, in at most `budget`
-    /// steps, and says whether it did: [`remove_key_exactly`]. Else it makes no call: at a moment of it the set
-    /// lacked the entry.
+    /// Takes a key out if its node has the slot and the birth of this entry, in at most `budget` steps,
+    /// and returns whether it did: [`remove_key_exactly`]. Otherwise it makes no call: at some moment
+    /// meanwhile the set lacked the entry.
     ///
-    /// Budgets, the refusal and what an answer takes are those of [`AtSet::remove`].
+    /// Budgets, the refusal and the steps of an answer are as for [`AtSet::remove`].
     #[inline]
     pub fn remove_exactly(&mut self, key: u64, entry: &Entry, budget: u32) -> Result<bool, Refusal>
         ensures same { IsSameSet self.old self.new }
@@ -43,7 +43,7 @@ impl AtSet<'_> {
 }
 
 impl AtSet<'_, Entries> {
-    /// As [`AtSet::get`]: gives the entry of the key, with its value.
+    /// Like [`AtSet::get`], but returns the entry of the key, with its value.
     #[inline]
     pub fn get_entry(&mut self, key: u64, budget: u32) -> Result<Option<Entry>, Refusal>
         ensures same { IsSameSet self.old self.new }
@@ -58,11 +58,11 @@ impl AtSet<'_, Entries> {
         answer
     }
 
-    /// Takes a key out where its node is that of this entry, by its slot and its birth, in at most `budget`
-    /// steps, and gives the value that was there: [`remove_exactly`]. Else it makes no call and gives none: at
-    /// a moment of it the map lacked the entry.
+    /// Takes a key out if its node has the slot and the birth of this entry, in at most `budget` steps,
+    /// and returns the value that was there: [`remove_exactly`]. Otherwise it makes no call and returns
+    /// none: at some moment meanwhile the map lacked the entry.
     ///
-    /// Budgets, the refusal and what an answer takes are those of [`AtSet::remove`].
+    /// Budgets, the refusal and the steps of an answer are as for [`AtSet::remove`].
     #[inline]
     pub fn remove_exactly(
         &mut self,

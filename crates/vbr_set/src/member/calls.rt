@@ -53,7 +53,7 @@ impl<N: Nodes> Member<N> {
         self.share.set().shape()
     }
 
-    /// How many passes its set was opened with.
+    /// The number of passes that its set was opened with.
     #[inline]
     pub fn passes(&self) -> u32
         ensures { result ≡ self.now.set.passes }
@@ -61,7 +61,7 @@ impl<N: Nodes> Member<N> {
         self.share.set().count
     }
 
-    /// Its pass, which tells its number, its steps and its own pool.
+    /// Its pass, which has its number, its steps and its own pool.
     #[inline]
     pub fn pass(&self) -> &Pass
         ensures pass { result.now ≡ self.now.pass }

@@ -27,11 +27,10 @@ use vbr_slots::Pass;
 use vbr_words::Nodes;
 
 impl<N: Kind> Member<N> {
-    /// Lets go of the slot that it holds, if there is one ([`Member::let_go`]), gives its slots back, as
-    /// [`Member::give_slots_back`] does, so that the others have them, and then its pass. While others have a
+    /// Closes the member: lets go of the slot that it holds, if any ([`Member::let_go`]), gives its
+    /// slots back to the others ([`Member::give_slots_back`]), and then its pass. While others have a
     /// share of the set, the answer is None. The last member ends the set, and gets what is in it, as
-    /// [`VbrSet::close`] returns it with all passes. The member of a set that was opened for one is always the
-    /// last.
+    /// [`VbrSet::close`] returns it. If the set was opened for one member, that one is always the last.
     ///
     /// Only the last member needs memory: 9 bytes for each slot of a set and 17 of a map, for the report,
     /// and the words once more while it runs. A close has no budget, and makes no call of the set. Its
@@ -41,8 +40,8 @@ impl<N: Kind> Member<N> {
     ///
     /// Only the last member gets one.
     ///
-    /// - Lost: a pass isn't there. The set is gone. A member that is dropped gives its pass back, so no
-    ///   program is known to get it; a proof can't tell that all passes came.
+    /// - Lost: a pass isn't there. The set is gone. A dropped member gives its pass back, so no program
+    ///   is known to get this; no proof shows that all passes came.
     /// - Memory: there is no room for the report. The member comes back with an empty pool, as its slots
     ///   are in the shared one: it can make calls, and be closed again.
     ///
@@ -72,15 +71,15 @@ impl<N: Kind> Member<N> {
         }
     }
 
-    /// Gives its pass back as [`Member::close`] does, and the last member gets the same report, but
-    /// the set doesn't end: the member comes back with the report, as it was. So who can't take the
-    /// report, for want of room, say, loses nothing; the member can make calls, and be closed again. The
-    /// set ends with it, also where it is dropped.
+    /// Gives its pass back as [`Member::close`] does, and the last member gets the same report, but the
+    /// set doesn't end: the member comes back with the report, as it was. So a caller that can't take
+    /// the report, for want of room, say, loses nothing: the member can make calls, and be closed
+    /// again. The set ends with that member, even if it is dropped.
     ///
-    /// It gives no slots back. A member that isn't the last keeps its own from the others, unless
-    /// [`Member::give_slots_back`] comes before.
+    /// It gives no slots back. A member that isn't the last withholds its slots from the others, unless
+    /// [`Member::give_slots_back`] is called first.
     ///
-    /// Memory is that of a close, and so are the errors, but that the member comes back as it was.
+    /// It takes the memory of a close and has the same errors, but the member comes back as it was.
     pub fn report_last(
         self,
         alloc: Global,
@@ -137,7 +136,7 @@ pub(crate) fn leave<N: Nodes>(
     Some((set, mailboxes, own))
 }
 
-// Tells what is in a set whose other passes lie in their mailboxes.
+// Reports what is in a set whose other passes lie in their mailboxes.
 fn end_alone<N: Kind>(
     alloc: Global,
     set: VbrSet<N>,
@@ -169,7 +168,7 @@ fn end_alone<N: Kind>(
     }
 }
 
-// Takes the passes out of their mailboxes, in the order of the mailboxes, or none where one is missing.
+// Takes the passes out of their mailboxes, in the order of the mailboxes, or none if one is missing.
 fn gather<N: Nodes>(
     set: &VbrSet<N>,
     mailboxes: Vec<Mailbox<N>>,
@@ -188,7 +187,7 @@ fn gather<N: Nodes>(
     Some(passes)
 }
 
-// Tells what is in a set, with the other passes.
+// Reports what is in a set, with the other passes.
 fn end_gathered<N: Kind>(
     alloc: Global,
     set: VbrSet<N>,
@@ -236,7 +235,7 @@ fn end_gathered<N: Kind>(
     }
 }
 
-// Tells what is in a set, with all its passes, which stay as they were.
+// Reports what is in a set, with all its passes, which stay as they were.
 fn tell<N: Kind>(
     set: &VbrSet<N>,
     alloc: Global,

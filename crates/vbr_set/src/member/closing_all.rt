@@ -16,17 +16,18 @@ use vbr_slots::Pass;
 use vbr_words::Nodes;
 
 impl<N: Kind> Member<N> {
-    /// Ends a set or a map by all its members at once, in any order, and tells what is in it: the keys, or
-    /// the entries, that the calls of all of them leave of what it opened with, in one legal history, which
-    /// begins with what each member has seen and has of each just the calls that it has made.
+    /// Ends a set or a map by all its members at once, in any order, and reports what is in it: the
+    /// keys, or the entries, that all their calls leave of what it opened with. These calls form one
+    /// legal history, which begins with what each member has seen and has exactly the calls that each
+    /// has made.
     ///
-    /// It makes no call of the set. It takes 9 bytes for each slot of a set and 17 of a map, and the words
-    /// once more while it runs. A member that was given back by [`Member::close`] before doesn't come, so
-    /// the others are closed so too.
+    /// It makes no call of the set. It takes 9 bytes for each slot of a set and 17 of a map, and the
+    /// words once more while it runs. A member that was given back by [`Member::close`] is missing, so
+    /// the others must be closed in that way too.
     ///
     /// # Errors
     ///
-    /// They are tested in this order, and the members come back as they were.
+    /// Tested in this order; the members come back as they were.
     ///
     /// - Missing: there are fewer members than were opened with the set, or none.
     /// - Memory: there is no room for the report.
@@ -51,10 +52,10 @@ impl<N: Kind> Member<N> {
         Ok(report)
     }
 
-    /// Tells what is in a set or a map by all its members, as [`Member::close_all`] does, and it stays open:
-    /// the members come back beside the report as they were, and can make calls.
+    /// Reports what is in a set or a map by all its members, as [`Member::close_all`] does, but it
+    /// stays open: the members come back with the report, as they were, and can make calls.
     ///
-    /// Memory and errors are those of [`Member::close_all`].
+    /// Memory and errors are as for [`Member::close_all`].
     pub fn report_all(
         alloc: Global,
         members: Vec<Member<N>>,
@@ -90,10 +91,10 @@ impl<N: Kind> Member<N> {
 }
 
 impl<N: Nodes> Member<N> {
-    /// Whether the other member has its share of the same set in memory. It is a probe, for who can't know
-    /// it otherwise: it looks whether one more owner of the one is one more of the other. No contract says
-    /// what it answers; where neither set has a member that comes or goes meanwhile, it is right. It says
-    /// no of a member that is the last of its set.
+    /// Whether the other member has its share of the same set in memory. It is a probe, for callers
+    /// that can't know otherwise: it checks whether one more owner of the one is one more of the other.
+    /// No contract says what it returns; if no member of either set comes or goes meanwhile, it is
+    /// right. It returns no for a member that is the last of its set.
     pub fn is_beside(&self, other: &Member<N>) -> bool {
         match (&self.share, &other.share) {
             (Share::Among(common, _), Share::Among(theirs, _)) => {
@@ -120,7 +121,7 @@ pub(crate) fn are_too_few<N: Nodes>(members: &[Member<N>]) -> bool
     members.len() < set.count as usize
 }
 
-// Tells what is in the set of these parts.
+// Reports what is in the set of these parts.
 fn report_apart<N: Kind>(
     alloc: Global,
     stakes: &[Stake<N>],

@@ -7,10 +7,11 @@ use crate::member::Member;
 use vbr_words::Nodes;
 
 impl<N: Nodes> Member<N> {
-    /// Puts all slots that the member keeps to itself into the shared pool, one step for each, and returns how
-    /// many they were: [`VbrSet::give_slots_back`] by its pass. Between two calls a member keeps up to 64 slots, for
-    /// its inserts to come; one that makes none for a time has them taken by others so. It makes no call, and
-    /// can't fail. A slot that the member holds isn't among them, and stays ([`Member::let_go`]).
+    /// Puts all slots that the member keeps to itself into the shared pool, one step for each, and
+    /// returns their number: [`VbrSet::give_slots_back`] by its pass. Between two calls a member keeps
+    /// up to 64 slots for its next inserts. If it won't insert for a while, this lets others have them.
+    /// It makes no call, and can't fail. A slot that the member holds isn't among them, and stays
+    /// ([`Member::let_go`]).
     ///
     /// # Example
     ///
@@ -27,9 +28,10 @@ impl<N: Nodes> Member<N> {
         self.share.set().give_slots_back(&mut self.pass)
     }
 
-    /// Gives up the slots that the member keeps to itself and the one that it holds, for good: nobody has them
-    /// any more until its set is closed or renewed. It makes no step. It is for a member whose caller ended in
-    /// the middle of a call, and so may not have written what it has ([`Pass::forsake_slots`]).
+    /// Gives up the slots that the member keeps to itself, and the one that it holds, for good: nobody
+    /// has them until its set is closed or renewed. It makes no step. It is for a member whose caller
+    /// ended in the middle of a call, and so may not have written what it has
+    /// ([`Pass::forsake_slots`]).
     pub fn forsake_slots(&mut self)
         ensures set { self.new.set ≡ self.old.set }
         ensures forsakes { Forsakes self.old.pass self.new.pass }

@@ -1,11 +1,12 @@
 //! The calls of a member of a map: inserts, removes, gets and stores.
 ghost use Rattle.std.specs.Prelude.{◌≡◌};
+ghost use Rattle.vbr_list.specs.updates.Outcomes.{ChangedIfExpected, there_in};
 ghost use Rattle.vbr_set.specs.calls.MapCalls.{ExchangesEntry, GetsEntry, GetsOrInsertsEntry, InsertsEntry, PutsEntry, RemovesEntry, RemovesIf, ReplacesEntry};
 
 use crate::at_set::at_set;
 use crate::member::Member;
-use crate::member::counting::{one_if_wanted, one_if_yes};
-use vbr_list::{Refusal, Wanted};
+use crate::member::counting::{one_if_changed, one_if_wanted, one_if_yes};
+use vbr_list::{Outcome, Refusal, Wanted};
 use vbr_words::Entries;
 
 impl Member<Entries> {
@@ -44,19 +45,13 @@ impl Member<Entries> {
 
     /// [`AtSet::remove_if`] by its pass.
     #[inline]
-    pub fn remove_if(
-        &mut self,
-        key: u64,
-        expected: u64,
-        budget: u32,
-    ) -> Result<Option<u64>, Refusal>
-        ensures told { RemovesIf self.old self.new key expected budget result }
+    pub fn remove_if(&mut self, key: u64, expected: u64, budget: u32) -> Result<Outcome, Refusal>
+        ensures told { RemovesIf self.old self.new key expected budget (there_in result) }
         ensures aside { self.new.aside ≡ self.old.aside }
+        ensures changed { ChangedIfExpected expected result }
     {
         let answer = at_set!(self.share.set(), self.pass).remove_if(key, expected, budget);
-        self.balance = self
-            .balance
-            .wrapping_sub(one_if_wanted(&answer, Wanted::Value(expected)));
+        self.balance = self.balance.wrapping_sub(one_if_changed(&answer));
         answer
     }
 
@@ -90,9 +85,11 @@ impl Member<Entries> {
         expected: u64,
         value: u64,
         budget: u32,
-    ) -> Result<Option<u64>, Refusal>
-        ensures told { ExchangesEntry self.old self.new key expected value budget result }
+    ) -> Result<Outcome, Refusal>
+        ensures told { ExchangesEntry self.old self.new key expected value budget
+            (there_in result) }
         ensures aside { self.new.aside ≡ self.old.aside }
+        ensures changed { ChangedIfExpected expected result }
     {
         at_set!(self.share.set(), self.pass).compare_exchange(key, expected, value, budget)
     }

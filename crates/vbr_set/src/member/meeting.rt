@@ -6,7 +6,7 @@ use crate::member::Member;
 use vbr_words::Nodes;
 
 impl<N: Nodes> Member<N> {
-    /// [`VbrSet::meet`] by its pass and that of the other.
+    /// [`VbrSet::meet`] by its pass and the other's.
     #[inline]
     pub fn meet(&mut self, other: &mut Member<N>)
         requires { other.old.set ≡ self.old.set }

@@ -23,16 +23,16 @@ use vbr_slots::{MAX_PASSES, OpenError, OpenManyError, Pass};
 use vbr_words::{Nodes, Shape};
 
 impl<N: Kind> Member<N> {
-    /// Opens an empty set or map and gives its members, from 1 to 64 of them, in the order of their
-    /// numbers, which begin with 0. They have seen nothing. No call takes memory later, but for the close
-    /// of the last member.
+    /// Opens an empty set or map and returns its members, from 1 to 64 of them, in the order of their
+    /// numbers, which begin with 0. They have seen nothing. Later only the close of the last member
+    /// takes memory.
     ///
     /// Besides what [`VbrSet::open`] takes, each member takes about 1,200 bytes. No pass has made a step
     /// then.
     ///
     /// # Errors
     ///
-    /// They are tested in this order, and nothing is kept then.
+    /// Tested in this order; nothing is kept then.
     ///
     /// - Passes: the number of passes is 0 or above 64.
     /// - Memory: there is no room for the words or the members.
@@ -51,16 +51,16 @@ impl<N: Kind> Member<N> {
         Member::<N>::open_with(alloc, shape, passes, &[])
     }
 
-    /// Opens a set that has these keys, or a map that has these entries, and gives its members, as
-    /// [`Member::open`] does for an empty one. They come ascending by key, each key once, and there are no
-    /// more of them than slots. The report of the last member's [`Member::close`] lists such keys or
-    /// entries, so with them a set or a map goes on with a fresh epoch.
+    /// Opens a set with these keys, or a map with these entries, and returns its members, as
+    /// [`Member::open`] does for an empty one. The keys ascend, each comes once, and there are no more
+    /// of them than slots. The report of the last member's [`Member::close`] lists such keys or
+    /// entries, so a set or a map can go on with them and a fresh epoch.
     ///
-    /// Time and memory are those of [`VbrSet::open_with`], and about 1,200 bytes for each member.
+    /// Time and memory are as for [`VbrSet::open_with`], with about 1,200 bytes more for each member.
     ///
     /// # Errors
     ///
-    /// They are tested in this order, and nothing is kept then.
+    /// Tested in this order; nothing is kept then.
     ///
     /// - Passes: the number of passes is 0 or above 64.
     /// - Memory: there is no room for the words, the copies or the members.
@@ -92,13 +92,12 @@ impl<N: Kind> Member<N> {
         }
     }
 
-    /// Opens a set that has these keys, or a map that has these entries, and gives its members, as
-    /// [`Member::open_with`] does, for more of them: from 1 to [`MAX_MANY_PASSES`]. Time and memory are as
-    /// there.
+    /// Opens a set with these keys, or a map with these entries, as [`Member::open_with`] does, for
+    /// more members: from 1 to [`MAX_MANY_PASSES`]. Time and memory are the same.
     ///
     /// # Errors
     ///
-    /// They are tested in this order, and nothing is kept then.
+    /// Tested in this order; nothing is kept then.
     ///
     /// - Passes: the number of passes is 0 or above [`MAX_MANY_PASSES`].
     /// - Memory: there is no room for the words, the copies or the members.
@@ -174,8 +173,8 @@ fn make_mailboxes<N: Nodes>(
     Ok((mailboxes, seats))
 }
 
-// The balance that a pass begins with, which has made no call: the first one is given the keys that its set
-// opened with.
+// The balance that a pass begins with: the number of keys that its set opened with for the first pass,
+// else 0.
 fn first_balance(pass: &Pass, opened: u32) -> i64
     requires { made_by pass.now.trace ≡ [] }
     ensures { (set : TableView) → opened ≡ length set.start.keys →
@@ -188,8 +187,8 @@ fn first_balance(pass: &Pass, opened: u32) -> i64
     }
 }
 
-// Makes a member with each of the passes of a set, which opened with so many keys. One that is alone has
-// the set.
+// Makes a member with each of the passes of a set, which opened with so many keys. If there is only
+// one, it has the set.
 pub(crate) fn hand_out<N: Nodes>(
     alloc: Global,
     set: VbrSet<N>,

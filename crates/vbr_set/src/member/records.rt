@@ -1,6 +1,6 @@
-//! The calls of a member for a program that keeps a record of its own beside each slot. A member holds one
-//! slot at most: then it is in the hand of its pass alone, until it is published or let go, whatever calls
-//! the member makes meanwhile, and the program may write its record.
+//! The calls of a member for a program that keeps a record of its own beside each slot. A member holds
+//! at most one slot. Until that slot is published or let go, it is in the hand of its pass alone,
+//! whatever calls the member makes meanwhile, and the program may write its record.
 ghost use Rattle.std.specs.Prelude.{◌≡◌, None, is_some};
 ghost use Rattle.vbr_set.specs.histories.Answers.{AnswersAll};
 ghost use Rattle.vbr_set.specs.calls.HeldStores.{PutsHeldBy, ReplacesHeldBy, answer_unreplaced};
@@ -19,13 +19,14 @@ use vbr_slots::pass::POOL;
 use vbr_words::{Entries, Nodes};
 
 impl<N: Nodes> Member<N> {
-    /// Takes a slot and holds it, in at most `budget` steps, and tells which it is. A slot is taken as an
-    /// insert takes one, [`VbrSet::hold`] by its pass.
+    /// Takes a slot, holds it, and returns which it is, in at most `budget` steps. It takes the slot as
+    /// an insert does: [`VbrSet::hold`] by its pass.
     ///
     /// # Errors
     ///
     /// - Held: the member holds a slot already, and has done nothing.
-    /// - Refused: none was taken, as an insert is refused. The member holds none, and can go on at once.
+    /// - Refused: no slot was taken, for a reason for which an insert is refused. The member holds
+    ///   none, and can go on at once.
     ///
     /// [`VbrSet::hold`]: crate::VbrSet::hold
     pub fn hold(&mut self, budget: u32) -> Result<u32, HoldRefusal>
@@ -56,9 +57,9 @@ impl<N: Nodes> Member<N> {
         }
     }
 
-    /// Lets go of the slot that the member holds, and says whether it held one. The slot goes into the own
-    /// pool, which is no step, or where that is full into the shared one, in one step. It makes no call, and
-    /// can't fail.
+    /// Lets go of the slot that the member holds, and returns whether it held one. The slot goes into
+    /// the own pool, without a step, or, if that is full, into the shared one, in one step. It makes no
+    /// call, and can't fail.
     pub fn let_go(&mut self) -> bool
         ensures set { self.new.set ≡ self.old.set }
         ensures lets_go { LetsGo self.old.aside self.old.pass self.new.pass }
@@ -105,14 +106,14 @@ impl Member {
         answer
     }
 
-    /// Adds a key by the slot that the member holds, in at most `budget` steps, and says whether the key was
-    /// absent: [`VbrSet::insert_held`] by its pass. Where it was, this very slot is the key's node then, and
-    /// the member holds none. Else it holds the slot still.
+    /// Adds a key by the slot that the member holds, in at most `budget` steps, and returns whether the
+    /// key was absent: [`VbrSet::insert_held`] by its pass. If it was, this very slot is now the key's
+    /// node, and the member holds none. Otherwise it still holds the slot.
     ///
     /// # Errors
     ///
-    /// NotHeld and Full, where nothing was done, and OutOfSteps. After each the member has made no call, and
-    /// can go on at once.
+    /// NotHeld and Full, after which nothing was done, and OutOfSteps. After any of them the member has
+    /// made no call, and can go on at once.
     ///
     /// [`VbrSet::insert_held`]: crate::VbrSet::insert_held
     pub fn insert_held(&mut self, key: u64, budget: u32) -> Result<bool, HeldRefusal>
@@ -173,8 +174,8 @@ impl Member<Entries> {
         answer
     }
 
-    /// Adds a key with its value by the slot that the member holds, as [`crate::Member`]'s `insert_held` adds
-    /// a key, which has the errors: [`VbrMap::insert_held`] by its pass.
+    /// Adds a key with its value by the slot that the member holds, as `insert_held` of a
+    /// [`crate::Member`] adds a key, with the same errors: [`VbrMap::insert_held`] by its pass.
     ///
     /// [`VbrMap::insert_held`]: crate::VbrMap::insert_held
     pub fn insert_held(&mut self, key: u64, value: u64, budget: u32) -> Result<bool, HeldRefusal>
@@ -206,14 +207,14 @@ impl Member<Entries> {
         }
     }
 
-    /// Gives a key a value by the slot that the member holds, whether the key is there or not, in at most
-    /// `budget` steps, and gives the value that it had: [`VbrMap::put_held`] by its pass. This very slot is the
-    /// key's node then, and the member holds none.
+    /// Gives a key a value by the slot that the member holds, whether the key is there or not, in at
+    /// most `budget` steps, and returns the value that it had: [`VbrMap::put_held`] by its pass. This
+    /// very slot is then the key's node, and the member holds none.
     ///
     /// # Errors
     ///
-    /// NotHeld and Full, where nothing was done, and OutOfSteps. After each the member has made no call, and
-    /// can go on at once.
+    /// NotHeld and Full, after which nothing was done, and OutOfSteps. After any of them the member has
+    /// made no call, and can go on at once.
     ///
     /// [`VbrMap::put_held`]: crate::VbrMap::put_held
     pub fn put_held(
@@ -251,15 +252,16 @@ impl Member<Entries> {
         }
     }
 
-    /// Puts the slot that the member holds in the place of this entry's node, by its slot and its birth, with
-    /// a value, in at most `budget` steps, and says whether it did: [`VbrMap::replace_held`] by its pass. Where
-    /// it did, the member holds none. Else the key was absent at a moment of the call, or had another node; no
-    /// call was made, and the member holds the slot still.
+    /// Puts the slot that the member holds, with a value, in the place of this entry's node, which has
+    /// the entry's slot and birth. It takes at most `budget` steps, and returns whether it did:
+    /// [`VbrMap::replace_held`] by its pass. If it did, the member holds none. Otherwise the key was
+    /// absent at some moment meanwhile, or had another node; no call was made, and the member still
+    /// holds the slot.
     ///
     /// # Errors
     ///
-    /// NotHeld and Full, where nothing was done, and OutOfSteps. After each the member has made no call, and
-    /// can go on at once.
+    /// NotHeld and Full, after which nothing was done, and OutOfSteps. After any of them the member has
+    /// made no call, and can go on at once.
     ///
     /// [`VbrMap::replace_held`]: crate::VbrMap::replace_held
     pub fn replace_held(
@@ -296,7 +298,7 @@ impl Member<Entries> {
     }
 }
 
-// The answer where the slot that a member holds didn't take an entry's place.
+// The answer if the slot that a member holds didn't take an entry's place.
 fn answer_unreplaced(why: NotReplaced) -> Result<bool, HeldRefusal>
     ensures { result ≡ answer_unreplaced why }
 {
@@ -306,7 +308,7 @@ fn answer_unreplaced(why: NotReplaced) -> Result<bool, HeldRefusal>
     }
 }
 
-// The answer where the slot that a member holds wasn't published.
+// The answer if the slot that a member holds wasn't published.
 fn answer_held(why: StillInHand) -> Result<bool, HeldRefusal>
     ensures { result ≡ answer_held why }
 {

@@ -12,22 +12,22 @@ use std::alloc::Global;
 use vbr_words::{Nodes, Shape};
 
 impl<N: Kind> Member<N> {
-    /// Lets all members of a set or a map, in any order, go on over a fresh one of this shape, with the keys
-    /// or the entries that were in it: members that have seen nothing, in the order of their numbers, as many
-    /// as came. The epoch is 1 again, and the first member's balance is the number of keys. It is for one
-    /// whose epoch comes near its last one, or which has become too small.
+    /// Moves all members of a set or a map, given in any order, to a fresh one of this shape with the
+    /// keys or the entries that were in it. Returns as many fresh members, which have seen nothing, in
+    /// the order of their numbers. The epoch is 1 again, and the first member's balance is the number
+    /// of keys. It is for a set or a map whose epoch nears its last one, or which has become too small.
     ///
-    /// It makes no call of the set, and tells what is in it as [`Member::report_all`] does. The fresh set is
-    /// opened while the other is there, so it takes the memory of a report and that of
-    /// [`Member::open_many`]; then the memory of the other is freed.
+    /// It makes no call of the set, and finds what is in it as [`Member::report_all`] does. The fresh
+    /// set is opened while the old one is there, so it takes the memory of a report and of
+    /// [`Member::open_many`]; then the memory of the old set is freed.
     ///
     /// # Errors
     ///
-    /// They are tested in this order, and the members come back as they were.
+    /// Tested in this order; the members come back as they were.
     ///
     /// - Missing: there are not as many members as were opened with the set.
-    /// - Room: there are more keys than slots of this shape. The report tells how many there are, and where there
-    ///   is no memory for one, the members' balances, added up.
+    /// - Room: there are more keys than slots of this shape. The keys are counted by the report or, if
+    ///   there is no memory for one, by the sum of the members' balances.
     /// - Memory: there are no more keys than slots, and no memory for the report or for the fresh set.
     ///
     /// # Example
@@ -65,7 +65,7 @@ impl<N: Kind> Member<N> {
     }
 }
 
-// What is answered where there is no memory for a report: whether there is room is then what the balances tell.
+// The error if there is no memory for a report: the balances then decide whether there is room.
 pub(crate) fn without_report<N: Kind>(
     members: Vec<Member<N>>,
     shape: Shape,
@@ -91,7 +91,7 @@ fn added_balances<N: Nodes>(members: &[Member<N>]) -> i64
     sum
 }
 
-// How many members there are, where they are as many as were opened with their set.
+// The number of members, if they are as many as were opened with their set.
 pub(crate) fn count_if_all<N: Nodes>(members: &[Member<N>]) -> Option<u32>
     ensures all { IfSome result (λ count. (count ≡ length members.now)
         × ¬ (AreNotAll members.now)) }

@@ -1,4 +1,4 @@
-//! Renewing a set or a map by all its members, and telling the slots that its entries had.
+//! Renewing a set or a map by all its members, with the slots that its entries had.
 ghost use Rattle.std.specs.Prelude.{IfErr, IfOk, OnOk};
 ghost use Rattle.vbr_set.specs.members.AllMembers.{AreOfOneSet};
 ghost use Rattle.vbr_set.specs.renewals.RenewingAll.{AreNotAll, IsWhyUnrenewed};
@@ -14,14 +14,14 @@ use std::alloc::Global;
 use vbr_words::Shape;
 
 impl<N: Kind> Member<N> {
-    /// Lets all members of a set or a map go on over a fresh one of this shape, as [`Member::renew_all`] does, and
-    /// tells the slots that the keys or the entries had in the old one, in the order of the keys. In the fresh one
-    /// key number i stands in slot i ([`slots_carry_over`]). So a program that keeps a record beside each slot
-    /// carries them over by `fresh_records[i] = records[slots[i]]`.
+    /// Moves all members of a set or a map to a fresh one of this shape, as [`Member::renew_all`] does.
+    /// It also returns the slots that the keys or the entries had in the old one, in the order of the
+    /// keys. In the fresh one key number i stands in slot i ([`slots_carry_over`]). So a program that
+    /// keeps a record beside each slot carries them over by `fresh_records[i] = records[slots[i]]`.
     ///
-    /// It takes the memory of [`Member::renew_all`], and 20 bytes more for each slot of the old one while it runs,
-    /// of which 4 are the slots that it tells. Errors are those of [`Member::renew_all`], and the members come back
-    /// as they were.
+    /// It takes the memory of [`Member::renew_all`], and while it runs 20 bytes more for each slot of
+    /// the old one, 4 of them for the slots that it returns. Errors are as for [`Member::renew_all`];
+    /// the members then come back as they were.
     ///
     /// [`slots_carry_over`]: crate::slot_laws::slots_carry_over
     pub fn renew_all_with_slots(

@@ -14,12 +14,12 @@ use std::alloc::{AllocError, Global};
 use vbr_slots::Pass;
 
 impl<N: Kind> Member<N> {
-    /// Tells what is in a set or a map by all its members, as [`Member::report_all`] does, and the slot of each
-    /// key, or of each entry of a map: number i is the slot of what the report lists at i. The members come back
-    /// as they were.
+    /// Reports what is in a set or a map by all its members, as [`Member::report_all`] does, with the
+    /// slot of each key or entry: slot number i belongs to item number i of the report. The members
+    /// come back as they were.
     ///
-    /// It takes the memory of [`Member::report_all`], and 20 bytes more for each slot while it runs, of which 4 are
-    /// the slots that it tells. Errors are those of [`Member::report_all`].
+    /// It takes the memory of [`Member::report_all`], and while it runs 20 bytes more for each slot, 4
+    /// of them for the slots that it returns. Errors are as for [`Member::report_all`].
     pub fn report_all_with_slots(
         alloc: Global,
         members: Vec<Member<N>>,
@@ -55,7 +55,7 @@ impl<N: Kind> Member<N> {
     }
 }
 
-// Tells what is in the set of these parts, and in which slots.
+// Reports what is in the set of these parts, and in which slots.
 fn report_apart_with_slots<N: Kind>(
     alloc: Global,
     stakes: &[Stake<N>],

@@ -15,7 +15,7 @@ pub enum Share<N: Nodes> {
     Among(Arc<Common<N>, Global>, Seat<Option<Pass>, SeatKnows>),
     /// All of it, with the mailboxes of the other passes, after a close that found no memory.
     Alone(VbrSet<N>, Vec<Mailbox<N>>),
-    /// All of it, with the other passes, after a close that found no memory later on; or with none,
-    /// where it was opened for one pass.
+    /// All of it, with the other passes, after a close that found no memory later on; or with no
+    /// others, if it was opened for one pass.
     Gathered(VbrSet<N>, Vec<Pass>),
 }

@@ -8,8 +8,8 @@ use vbr_words::Nodes;
 pub struct Stake<N: Nodes> {
     /// What it has of its set.
     pub(crate) share: Share<N>,
-    /// How many keys its calls have added, less those that they took out.
+    /// The number of keys that its calls have added, less the number that they took out.
     pub(crate) balance: i64,
-    /// The slot that it has put aside, if there is one.
+    /// The slot that it has put aside, if any.
     pub(crate) aside: Option<Aside>,
 }

@@ -11,17 +11,17 @@ use std::alloc::Global;
 use vbr_slots::{CloseError, Pass};
 
 impl<N: Kind> VbrSet<N> {
-    /// Ends the set or the map and tells what is in it: the keys, or the entries, that the calls of all
-    /// passes leave of what it opened with, in one legal history, which begins with what each pass has
-    /// seen and has just the calls that it has made.
+    /// Ends the set or the map and reports what is in it: the keys, or the entries, that the calls of
+    /// all passes leave of what it opened with. These calls form one legal history, which begins with
+    /// what each pass has seen and has exactly the calls that each has made.
     ///
-    /// It goes once over the buckets and once over the slots. It takes 9 bytes for each slot of a set and
-    /// 17 of a map, and the words once more while it runs. It has all passes, so no other call runs, and it
-    /// has no budget. That the marked nodes which it meets aren't in the set is Michael's (Michael 2002).
+    /// It goes once over the buckets and once over the slots. It takes 9 bytes for each slot of a set
+    /// and 17 of a map, and the words once more while it runs. It has all passes, so no other call
+    /// runs, and it has no budget. The marked nodes that it meets aren't in the set (Michael 2002).
     ///
     /// # Errors
     ///
-    /// Both hand the set and the passes back, unchanged.
+    /// After either, the set and the passes come back, unchanged.
     ///
     /// - Missing: fewer passes came than were opened. It is tested first.
     /// - Memory: there is no room, for an item and a note for each slot and then for the words. All of it
@@ -45,7 +45,7 @@ impl<N: Kind> VbrSet<N> {
         Ok(N::report(told))
     }
 
-    // Ends it, and tells what its words tell. The errors are those of [`VbrSet::close`].
+    // Ends it, and reports what its words say. The errors are as for [`VbrSet::close`].
     fn end(
         self,
         alloc: Global,

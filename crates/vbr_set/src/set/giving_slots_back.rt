@@ -8,8 +8,9 @@ use vbr_slots::{AtTable, Pass, Slots, Stepper};
 use vbr_words::Nodes;
 
 impl<N: Nodes> VbrSet<N> {
-    /// Puts all slots of the pass's own pool into the shared pool, one step for each, and returns how many they
-    /// were. From there each pass may take them for its inserts. It makes no call, changes no list and can't fail.
+    /// Puts all slots of the pass's own pool into the shared pool, one step for each, and returns their
+    /// number. From there any pass may take them for its inserts. It makes no call, changes no list and
+    /// can't fail.
     ///
     /// # Example
     ///
@@ -29,7 +30,7 @@ impl<N: Nodes> VbrSet<N> {
     }
 }
 
-// How many were given back, and how many steps that took, which are as many.
+// The number of slots given back, and the number of steps, which is the same.
 fn give_back_by<N: Nodes>(slots: &Slots<N>, stepper: &mut Stepper) -> (u32, u32)
     requires own { IsOf stepper.old.trace slots.now }
     ensures took { Took stepper.old.trace stepper.new.trace result.1 }

@@ -1,12 +1,13 @@
 //! The calls of a map by a pass beside it.
 ghost use Rattle.std.specs.Prelude.{◌≡◌, None};
 ghost use Rattle.vbr_slots.specs.views.Views.{IsOf};
+ghost use Rattle.vbr_list.specs.updates.Outcomes.{ChangedIfExpected, there_in};
 ghost use Rattle.vbr_set.specs.calls.MapCalls.{ExchangesEntry, GetsEntry, GetsOrInsertsEntry, InsertsEntry, PutsEntry, RemovesEntry, RemovesIf, ReplacesEntry, StoresEntry};
 ghost use Rattle.vbr_set.specs.calls.Members.{as_member};
 
 use crate::at_set::AtSet;
 use crate::set::VbrSet;
-use vbr_list::{Refusal, Wanted};
+use vbr_list::{Outcome, Refusal, Wanted};
 use vbr_slots::Pass;
 use vbr_words::Entries;
 
@@ -58,11 +59,12 @@ impl VbrSet<Entries> {
         key: u64,
         expected: u64,
         budget: u32,
-    ) -> Result<Option<u64>, Refusal>
+    ) -> Result<Outcome, Refusal>
         requires own { IsOf pass.old.trace self.now }
         requires empty_hand { pass.old.hand ≡ None }
-        ensures { RemovesIf (as_member self.now pass.old) (as_member self.now pass.new)
-            key expected budget result }
+        ensures told { RemovesIf (as_member self.now pass.old) (as_member self.now pass.new)
+            key expected budget (there_in result) }
+        ensures changed { ChangedIfExpected expected result }
     {
         AtSet { set: self, pass }.remove_if(key, expected, budget)
     }
@@ -145,11 +147,12 @@ impl VbrSet<Entries> {
         expected: u64,
         value: u64,
         budget: u32,
-    ) -> Result<Option<u64>, Refusal>
+    ) -> Result<Outcome, Refusal>
         requires own { IsOf pass.old.trace self.now }
         requires empty_hand { pass.old.hand ≡ None }
-        ensures { ExchangesEntry (as_member self.now pass.old) (as_member self.now pass.new)
-            key expected value budget result }
+        ensures told { ExchangesEntry (as_member self.now pass.old) (as_member self.now pass.new)
+            key expected value budget (there_in result) }
+        ensures changed { ChangedIfExpected expected result }
     {
         AtSet { set: self, pass }.compare_exchange(key, expected, value, budget)
     }

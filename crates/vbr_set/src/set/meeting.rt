@@ -9,9 +9,10 @@ use vbr_words::Nodes;
 
 impl<N: Nodes> VbrSet<N> {
     /// Lets the pass see all that the other has seen: the two then share one legal history, in which
-    /// the other has just the calls that it has made. It is one step, a load of the epoch, counted for
-    /// the pass; the other stays as it was. It can't fail. It alone says that the other has made no call
-    /// that isn't in that history; a token ([`VbrSet::seen`]) can't. The papers have no such call.
+    /// the other has exactly the calls that it has made. It makes one step, a load of the epoch,
+    /// counted for the pass; the other stays as it was. It can't fail. Only a meeting says that the
+    /// other has made no call outside that history; a token ([`VbrSet::seen`]) can't. Michael 2002 and
+    /// Sheffi, Herlihy and Petrank 2021 have no such call.
     ///
     /// [`VbrSet::seen`]: crate::VbrSet::seen
     ///

@@ -12,15 +12,15 @@ use vbr_words::Shape;
 
 impl<N: Kind> VbrSet<N> {
     /// Opens an empty set or map, with so many passes, from 1 to 64. They stand in the order of their
-    /// numbers, which begin with 0, and have seen nothing. No call takes memory later, but for
-    /// [`VbrSet::close`]. It takes 8 * (2 + buckets + 4 * slots + slots / 64) bytes, the last part
-    /// rounded up, in a map 8 more for each slot, 616 for each pass, and the words once more while it runs.
-    /// No pass has made a step then. Each slot is in the shared pool, which the passes take from and put
-    /// back into (Sheffi, Herlihy and Petrank 2021).
+    /// numbers, which begin with 0, and have seen nothing. Later only [`VbrSet::close`] takes memory.
+    /// It takes 8 * (2 + buckets + 4 * slots + slots / 64) bytes, the last part rounded up, and in a
+    /// map 8 more for each slot. Each pass takes 616 more, and the words are taken once more while it
+    /// runs. No pass has made a step then. Each slot is in the shared pool, which the passes take from
+    /// and put back into (Sheffi, Herlihy and Petrank 2021).
     ///
     /// # Errors
     ///
-    /// They are tested in this order, and nothing is kept then.
+    /// Tested in this order; nothing is kept then.
     ///
     /// - Passes: the number of passes is 0 or above 64.
     /// - Memory: there is no room for the words or the passes.
@@ -44,10 +44,10 @@ impl<N: Kind> VbrSet<N> {
         VbrSet::<N>::open_with(alloc, shape, passes, &[])
     }
 
-    /// Opens a set that has these keys, or a map that has these entries, with so many passes, as
-    /// [`VbrSet::open`] opens an empty one: they are there before any call. They come ascending by key, each
-    /// key once, and there are no more of them than slots. The one with number i, from 0, stands in slot i,
-    /// and the other slots are in the shared pool.
+    /// Opens a set with these keys, or a map with these entries, and so many passes, as
+    /// [`VbrSet::open`] opens an empty one: they are there before any call. The keys ascend, each comes
+    /// once, and there are no more of them than slots. Key number i, from 0, stands in slot i, and the
+    /// other slots are in the shared pool.
     ///
     /// It takes time in proportion to the number of words and of keys: for each key it reads three words
     /// and writes five, in a map six, in no order of memory. Besides what [`VbrSet::open`] takes it takes a
@@ -55,7 +55,7 @@ impl<N: Kind> VbrSet<N> {
     ///
     /// # Errors
     ///
-    /// They are tested in this order, and nothing is kept then.
+    /// Tested in this order; nothing is kept then.
     ///
     /// - Passes: the number of passes is 0 or above 64.
     /// - Memory: there is no room for the words, the copies or the passes.
@@ -88,13 +88,14 @@ impl<N: Kind> VbrSet<N> {
         }
     }
 
-    /// Opens a set that has these keys, or a map that has these entries, as [`VbrSet::open_with`] does, with
-    /// more passes: from 1 to [`MAX_MANY_PASSES`]. Time and memory are as there, 616 bytes for each pass. No
-    /// call takes a step more for more passes; what closes, reports or renews the set goes over them.
+    /// Opens a set with these keys, or a map with these entries, as [`VbrSet::open_with`] does, with
+    /// more passes: from 1 to [`MAX_MANY_PASSES`]. Time and memory are the same, 616 bytes for each
+    /// pass. More passes cost no call a step; closing, reporting and renewing the set go over all of
+    /// them.
     ///
     /// # Errors
     ///
-    /// They are tested in this order, and nothing is kept then.
+    /// Tested in this order; nothing is kept then.
     ///
     /// - Passes: the number of passes is 0 or above [`MAX_MANY_PASSES`].
     /// - Memory: there is no room for the words, the copies or the passes.

@@ -28,7 +28,7 @@ use vbr_slots::pass::POOL;
 use vbr_words::{Entries, Nodes};
 
 impl<N: Nodes> VbrSet<N> {
-    /// Whether the slot of an entry shows its birth still, in one step, a load: [`is_still`].
+    /// Whether the slot of an entry still shows its birth, in one step, a load: [`is_still`].
     #[inline]
     pub fn is_still(&self, pass: &mut Pass, entry: &Entry) -> bool
         requires own { IsOf pass.old.trace self.now }
@@ -53,8 +53,8 @@ impl<N: Nodes> VbrSet<N> {
         hold(&self.slots, pass, budget)
     }
 
-    /// Lets the slot in hand go: into the own pool, which is no step, or where that is full into the shared
-    /// one, in one step.
+    /// Lets the slot in hand go: into the own pool, without a step, or, if that is full, into the
+    /// shared one, in one step.
     pub fn let_go(&self, pass: &mut Pass, hand: Hand)
         requires own { IsOf pass.old.trace self.now }
         requires hand { IsHandOf pass.old hand }
@@ -185,8 +185,8 @@ impl VbrSet<Entries> {
         answer
     }
 
-    /// Gives a key a value by the slot in hand, whether the key is there or not, in at most `budget` steps, and
-    /// gives the value that it had: [`put_held`].
+    /// Gives a key a value by the slot in hand, whether the key is there or not, in at most `budget`
+    /// steps, and returns the value that it had: [`put_held`].
     #[inline]
     pub fn put_held(
         &self,
@@ -207,8 +207,8 @@ impl VbrSet<Entries> {
         answer
     }
 
-    /// Puts the slot in hand in the place of this entry's node, with a value, in at most `budget` steps:
-    /// [`replace_held`].
+    /// Puts the slot in hand, with a value, in the place of this entry's node, in at most `budget`
+    /// steps: [`replace_held`].
     #[inline]
     pub fn replace_held(
         &self,

@@ -11,13 +11,13 @@ use std::alloc::Global;
 use vbr_slots::{CloseError, OpenManyError, Pass};
 
 impl<N: Kind> VbrSet<N> {
-    /// Ends the set or the map and opens a fresh one of the same shape, with the keys, or the entries, that
-    /// were in it and with as many passes: the epoch is 1 again, each slot without a key is in the shared
-    /// pool, and the passes have made no step. It is for one whose epoch comes near its last one, which
-    /// refuses inserts with [`Refusal::EpochSpent`] once it is spent.
+    /// Ends the set or the map and opens a fresh one of the same shape, with the keys, or the entries,
+    /// that were in it and with as many passes. The epoch is 1 again, each slot without a key is in the
+    /// shared pool, and the passes have made no step. It is for a set or a map whose epoch nears its
+    /// last one: once that is spent, inserts are refused with [`Refusal::EpochSpent`].
     ///
-    /// It takes the time and the memory of [`VbrSet::close`] and then those of [`VbrSet::open_with`],
-    /// while the report is kept. It has all passes, so no other call runs, and it has no budget.
+    /// It takes the time and the memory of [`VbrSet::close`], and then of [`VbrSet::open_with`] while
+    /// the report is kept. It has all passes, so no other call runs, and it has no budget.
     ///
     /// # Errors
     ///

@@ -1,4 +1,4 @@
-//! Telling what is in a set or a map that stays open.
+//! Reporting what is in a set or a map that stays open.
 ghost use Rattle.std.specs.Prelude.{◌≡◌, ◌≤◌, length, IfOk};
 ghost use Rattle.vbr_slots.specs.runs.Closing.{AllOf};
 ghost use Rattle.vbr_set.specs.reports.Closing.{ClosesBy};
@@ -11,14 +11,15 @@ use std::alloc::{AllocError, Global};
 use vbr_slots::Pass;
 
 impl<N: Kind> VbrSet<N> {
-    /// Tells what is in the set or the map, as [`VbrSet::close`] does, and it stays open: the keys, or the
-    /// entries, that the calls of all passes leave of what it opened with, in one legal history, which
-    /// begins with what each pass has seen and has just the calls that it has made. The passes stay as
-    /// they were, whatever it answers: it makes no step.
+    /// Reports what is in the set or the map, as [`VbrSet::close`] does, but it stays open. The report
+    /// has the keys, or the entries, that the calls of all passes leave of what it opened with. These
+    /// calls form one legal history, which begins with what each pass has seen and has exactly the
+    /// calls that each has made. The passes stay as they were in any case: it makes no step.
     ///
     /// It has all passes, so no other call runs. It goes once over the words, once over the buckets and
-    /// once over the slots, and twice over the passes. It takes 9 bytes for each slot of a set and 17 of a map,
-    /// 8 for each word and 616 for each pass, all of it before it looks at any. It refuses only where there is no room for these.
+    /// once over the slots, and twice over the passes. It takes 9 bytes for each slot of a set and 17
+    /// of a map, 8 for each word and 616 for each pass, all of it before it looks at any. It fails only
+    /// if there is no memory for these.
     ///
     /// # Example
     ///
@@ -37,7 +38,7 @@ impl<N: Kind> VbrSet<N> {
         Ok(N::report(told))
     }
 
-    // Tells what its words tell, and it stays open, as [`VbrSet::report`].
+    // Reports what its words say; it stays open, as with [`VbrSet::report`].
     fn look(&self, alloc: Global, passes: &mut Vec<Pass>) -> Result<Contents<N::Item>, AllocError>
         requires of_set { AllOf self.now passes.old.items }
         requires all { self.now.passes ≤ length passes.old.items }

@@ -1,4 +1,4 @@
-//! Telling what is in a set or a map that stays open, and in which slots.
+//! Reporting what is in a set or a map that stays open, and in which slots.
 ghost use Rattle.std.specs.Prelude.{◌≡◌, ◌≤◌, length, IfOk};
 ghost use Rattle.vbr_slots.specs.runs.Closing.{AllOf};
 ghost use Rattle.vbr_set.specs.reports.EntrySlots.{ClosesWithSlots, TellsEndWithSlots};
@@ -12,14 +12,14 @@ use std::alloc::{AllocError, Global};
 use vbr_slots::Pass;
 
 impl<N: Kind> VbrSet<N> {
-    /// Tells what is in the set or the map, as [`VbrSet::report`] does, and the slot of each key, or of each
-    /// entry of a map: number i is the slot of what the report lists at i. It is for a program that keeps a
-    /// record beside each slot, and carries these over where it opens a set or a map with what is listed:
-    /// there key number i stands in slot i ([`keys_open_in_slots_of_their_numbers`]).
+    /// Reports what is in the set or the map, as [`VbrSet::report`] does, with the slot of each key or
+    /// entry: slot number i belongs to item number i of the report. It is for a program that keeps a
+    /// record beside each slot, and carries the records over when it opens a set or a map with what is
+    /// listed: there key number i stands in slot i ([`keys_open_in_slots_of_their_numbers`]).
     ///
-    /// It takes 20 bytes for each slot more than [`VbrSet::report`] while it runs, of which 4 are the slots
-    /// that it tells, and goes over the slots once more and sorts them. It refuses as that does, and has
-    /// changed nothing then.
+    /// While it runs it takes 20 bytes for each slot more than [`VbrSet::report`], 4 of them for the
+    /// slots that it returns. It also goes over the slots once more and sorts them. It fails as that
+    /// does, and then has changed nothing.
     ///
     /// [`keys_open_in_slots_of_their_numbers`]: vbr_machine::record_laws::keys_open_in_slots_of_their_numbers
     pub fn report_with_slots(
@@ -38,7 +38,7 @@ impl<N: Kind> VbrSet<N> {
         Ok(ReportWithSlots { report, slots })
     }
 
-    // Tells what its words tell, with the slots, and it stays open, as [`VbrSet::report_with_slots`].
+    // Reports what its words say, with the slots; it stays open, as with [`VbrSet::report_with_slots`].
     fn look_with_slots(
         &self,
         alloc: Global,

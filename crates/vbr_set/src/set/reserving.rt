@@ -9,15 +9,16 @@ use vbr_slots::{AtTable, Pass, Slots, Stepper};
 use vbr_words::Nodes;
 
 impl<N: Nodes> VbrSet<N> {
-    /// Takes slots out of the shared pool until the pass's own pool has `wanted`, or 63 if that is less, and
-    /// returns how many it took: fewer only where it finds no more on a way once round the slots. It makes at most
-    /// one step for each slot that it took, one for each 64 slots of the set, and one for each slot that others
-    /// took out of the shared pool meanwhile. It makes no call, changes no list and can't fail.
+    /// Takes slots out of the shared pool until the pass's own pool has `wanted`, or 63 if that is
+    /// less, and returns how many it took: fewer only if one round over all slots finds no more. It
+    /// makes at most one step for each slot that it took, one for each 64 slots of the set, and one for
+    /// each slot that others took out of the shared pool meanwhile. It makes no call, changes no list
+    /// and can't fail.
     ///
-    /// An insert advances the epoch where each slot of the own pool was retired at the epoch that is. So a pass
-    /// with r slots in reserve that takes a key out before each that it puts in advances it once in about
-    /// r + 1 such inserts, and not in each. The slots are the pass's until it gives them back
-    /// ([`VbrSet::give_slots_back`]); of those that each pass may keep to itself, 64, they are a part.
+    /// An insert advances the epoch if each slot of the own pool was retired at the current epoch. So a
+    /// pass with r slots in reserve that takes a key out before each insert advances it in about one of
+    /// r + 1 inserts, and not in each. The slots belong to the pass until it gives them back
+    /// ([`VbrSet::give_slots_back`]). They count among the 64 slots that each pass may keep to itself.
     ///
     /// [`VbrSet::give_slots_back`]: crate::VbrSet::give_slots_back
     ///
@@ -38,9 +39,10 @@ impl<N: Nodes> VbrSet<N> {
         )
     }
 
-    /// Takes slots as [`VbrSet::reserve`] does, but tries no more than `probes` times, a step for each, and returns
-    /// how many it took. It takes fewer than are wanted where all tries were made, or once round the slots. The
-    /// next top-up goes on after the slot that the pass tried last. A pass that has what is wanted makes no step.
+    /// Takes slots as [`VbrSet::reserve`] does, but tries no more than `probes` times, a step for each,
+    /// and returns how many it took. It takes fewer than wanted if all tries were made, or after one
+    /// pass over all slots. The next top-up goes on after the slot that the pass tried last. A pass
+    /// that has what is wanted makes no step.
     ///
     /// After each insert two tries are enough: the reserve grows while flags are set one after the other.
     ///
@@ -63,7 +65,7 @@ impl<N: Nodes> VbrSet<N> {
     }
 }
 
-// How many were taken, and how many steps that took.
+// The number of slots taken, and of steps.
 fn reserve_by<N: Nodes>(slots: &Slots<N>, stepper: &mut Stepper, wanted: u32) -> (u32, u32)
     requires own { IsOf stepper.old.trace slots.now }
     ensures took { Took stepper.old.trace stepper.new.trace result.1 }
@@ -72,7 +74,7 @@ fn reserve_by<N: Nodes>(slots: &Slots<N>, stepper: &mut Stepper, wanted: u32) ->
     vbr_at_table::reserve(&mut AtTable { slots, stepper }, wanted)
 }
 
-// How many a top-up took, and how many steps that took.
+// The number of slots that a top-up took, and of steps.
 fn top_up_by<N: Nodes>(
     slots: &Slots<N>,
     stepper: &mut Stepper,

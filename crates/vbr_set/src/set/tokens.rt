@@ -8,9 +8,9 @@ use vbr_slots::{Pass, Seen};
 use vbr_words::Nodes;
 
 impl<N: Nodes> VbrSet<N> {
-    /// A token of what the pass has seen, its answered calls among it. It is no step, and the pass stays
-    /// as it was; it costs one load, whose value is dropped. It can't fail. A token has no bytes, and may be
-    /// sent, kept in a lock, or dropped; the set can be closed without it.
+    /// Returns a token of what the pass has seen, including its answered calls. It makes no step, and
+    /// the pass stays as it was; it costs one load, whose value is dropped. It can't fail. A token has
+    /// no bytes, and may be sent, kept in a lock, or dropped; the set can be closed without it.
     ///
     /// # Example
     ///
@@ -29,8 +29,8 @@ impl<N: Nodes> VbrSet<N> {
         self.slots.seen(pass)
     }
 
-    /// Another token that tells the same, for one more taker. It is no step; it costs one load, whose
-    /// value is dropped. It can't fail.
+    /// Returns another token of the same, for one more taker. It makes no step; it costs one load,
+    /// whose value is dropped. It can't fail.
     #[inline]
     pub fn seen_again(&self, token: &mut Seen) -> Seen
         requires own { token.old.table ≡ self.now.table }
@@ -40,10 +40,10 @@ impl<N: Nodes> VbrSet<N> {
         self.slots.seen_again(token)
     }
 
-    /// Lets the pass see all that was done before, and so all that the token tells, which is spent: each
-    /// call that the pass is answered from now on stands after all calls that the token tells, in one
-    /// legal history. It is no step, and the pass knows what it knew; it costs two loads, whose values
-    /// are dropped. It can't fail. It asks that the token is of this set: a renewed set is another one.
+    /// Lets the pass see all that was done before, and so all that the token holds; the token is spent.
+    /// From now on each answered call of the pass stands after all calls that the token holds, in one
+    /// legal history. It makes no step, and the pass knows what it knew; it costs two loads, whose
+    /// values are dropped. It can't fail. The token must be of this set: a renewed set is another one.
     #[inline]
     pub fn catch_up(&self, pass: &mut Pass, token: Seen)
         requires own { IsOf pass.old.trace self.now }

@@ -14,8 +14,8 @@ use vbr_slots::{Pass, Seen};
 use vbr_words::{Nodes, Shape};
 
 impl<N: Nodes> VbrSet<N> {
-    /// Puts a pass beside a reference to its set. From here on its calls ask nothing of their caller. It
-    /// makes no step, and can't fail.
+    /// Puts a pass beside a reference to its set. From then on its calls ask nothing of their caller.
+    /// It makes no step, and can't fail.
     ///
     /// # Example
     ///
@@ -59,7 +59,7 @@ impl<'s, N: Nodes> VbrSetRef<'s, N> {
         at_set!(self.set, self.pass).has(key, budget)
     }
 
-    /// [`VbrSet::meet`] by its pass and that of the other.
+    /// [`VbrSet::meet`] by its pass and the other's.
     #[inline]
     pub fn meet(&mut self, other: &mut VbrSetRef<N>)
         requires { other.old.set ≡ self.old.set }
@@ -107,7 +107,7 @@ impl<'s, N: Nodes> VbrSetRef<'s, N> {
         self.set.shape()
     }
 
-    /// Its pass, which tells its number, its steps and its own pool.
+    /// Its pass, which has its number, its steps and its own pool.
     #[inline]
     pub fn pass(&self) -> &Pass
         ensures pass { result.now ≡ self.now.pass }

@@ -1,9 +1,10 @@
 //! The calls of a pass with a reference to its map: inserts, removes, gets and stores.
+ghost use Rattle.vbr_list.specs.updates.Outcomes.{ChangedIfExpected, there_in};
 ghost use Rattle.vbr_set.specs.calls.MapCalls.{ExchangesEntry, GetsEntry, GetsOrInsertsEntry, InsertsEntry, PutsEntry, RemovesEntry, RemovesIf, ReplacesEntry};
 
 use crate::at_set::at_set;
 use crate::set_ref::VbrSetRef;
-use vbr_list::Refusal;
+use vbr_list::{Outcome, Refusal};
 use vbr_words::Entries;
 
 impl<'s> VbrSetRef<'s, Entries> {
@@ -33,13 +34,9 @@ impl<'s> VbrSetRef<'s, Entries> {
 
     /// [`AtSet::remove_if`] by its pass.
     #[inline]
-    pub fn remove_if(
-        &mut self,
-        key: u64,
-        expected: u64,
-        budget: u32,
-    ) -> Result<Option<u64>, Refusal>
-        ensures { RemovesIf self.old self.new key expected budget result }
+    pub fn remove_if(&mut self, key: u64, expected: u64, budget: u32) -> Result<Outcome, Refusal>
+        ensures told { RemovesIf self.old self.new key expected budget (there_in result) }
+        ensures changed { ChangedIfExpected expected result }
     {
         at_set!(self.set, self.pass).remove_if(key, expected, budget)
     }
@@ -68,8 +65,10 @@ impl<'s> VbrSetRef<'s, Entries> {
         expected: u64,
         value: u64,
         budget: u32,
-    ) -> Result<Option<u64>, Refusal>
-        ensures { ExchangesEntry self.old self.new key expected value budget result }
+    ) -> Result<Outcome, Refusal>
+        ensures told { ExchangesEntry self.old self.new key expected value budget
+            (there_in result) }
+        ensures changed { ChangedIfExpected expected result }
     {
         at_set!(self.set, self.pass).compare_exchange(key, expected, value, budget)
     }

@@ -1,8 +1,9 @@
-use Rattle.vbr_list.proofs.Names.{ap, rules, sym, ◌∙◌, Bool, Result, subst, is_some}
-use Rattle.vbr_list.proofs.Names.{Refusal, Remove, Start}
+use Rattle.vbr_list.proofs.Names.{ap, rules, ◌∙◌, is_some}
+use Rattle.vbr_list.proofs.Names.{Remove, Start}
 use Rattle.vbr_list.specs.traversals.Leaving.{BoundsOfRemove}
-use Rattle.vbr_list.specs.calls.CallBounds.{Calls, CallsAs}
+use Rattle.vbr_list.specs.calls.CallBounds.{CallsAs}
 use Rattle.vbr_list.specs.calls.Told.{given_in}
+use Rattle.vbr_list.specs.updates.Outcomes.{there_in}
 use Rattle.vbr_list.proofs.pieces.Told.{calls_yes, given_bare, remove_yes}
 use Rattle.vbr_list.proofs.removing.remove.Goals as goal
 
@@ -10,11 +11,10 @@ pub returns : goal.returns
 returns c =
     let p = c.args.pass.now in
     let q = c.during-answer.new.self in
-    let answer = c.during-answer.result in
+    let answer = there_in c.during-answer.result in
     let told : CallsAs (given_in p.trace Remove c.args.key) (BoundsOfRemove is_some p q c.args.key c.args.budget) p q
     c.args.budget answer = search rules in
-    let P : Result Bool Refusal → Type 0 = Calls Remove p q c.args.key c.args.budget in
-    subst P (sym c.is_yes.ensures)
+    rw (c.is_yes.ensures, c.there_in.ensures)
     (calls_yes answer told
     (given_bare p.trace Remove c.args.key (ap (λ (d : Start). d.shape.values) c.requires.own.1 ∙ c.kind.ensures))
     (remove_yes answer))

@@ -74,6 +74,6 @@ returns-in-Ok-clause-calls g c =
     c.settle_remove.ensures.settles.call in
     rw same (removed c.law.ensures c.args.key c.args.budget (c.loop-found.invariant.0.key ∙ c.loop-found.invariant.1)
     (c.loop-found.invariant.0.budget ∙ c.loop-found.invariant.2) c.loop-found.invariant.3 c.loop-found.invariant.4
-    c.reach.ensures.goes c.in-Some.ensures.found c.args.expected c.in-Ok.answer c.settle_remove.ensures.settles
+    c.reach.ensures.goes c.in-Some.ensures.found c.args.expected c.in-Ok.outcome c.settle_remove.ensures.settles
     (simp c.reach.ensures.goes.call.at.slots at c.in-Ok.ensures.answers) (search rules)
     (rw c.loop-found.invariant.2 at (within_call call)))

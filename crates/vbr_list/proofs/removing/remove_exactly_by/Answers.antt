@@ -9,6 +9,7 @@ use Rattle.vbr_list.proofs.traversals.Searching.{search_round_on}
 use Rattle.vbr_list.proofs.pieces.Tiring.{remove_tires}
 use Rattle.vbr_list.proofs.pieces.WideWords.{node_bare, node_wide}
 use Rattle.vbr_list.specs.calls.Words.{wide_found}
+use Rattle.vbr_list.specs.updates.Outcomes.{there_of}
 use Rattle.vbr_list.proofs.removing.remove_exactly_by.Goals as goal
 
 pub loop-found-preserved : goal.loop-found-preserved
@@ -107,8 +108,8 @@ returns-in-Ok-clause-removes g c =
     (rw (c.reach.ensures.goes.call.key ∙ key) at
     ((simp c.reach.ensures.goes.call.at.slots at c.in-Ok.ensures.answers).marks c.in-Ok.ensures.some))
     (node_wide c.loop-found.call (c.is_node_of.ensures.is c.if-not-is_node_of.false)) in
-    rw same (takes_exactly c.args.entry.now c.in-Ok.answer
+    rw (same, c.there.ensures) (takes_exactly c.args.entry.now (there_of c.in-Ok.outcome)
     (removed c.law.ensures c.args.key c.args.budget key budget c.loop-found.invariant.3 c.loop-found.invariant.4
-    c.reach.ensures.goes c.in-Some.ensures.found None c.in-Ok.answer c.mark_and_unlink.ensures.settles
+    c.reach.ensures.goes c.in-Some.ensures.found None c.in-Ok.outcome c.mark_and_unlink.ensures.settles
     (simp c.reach.ensures.goes.call.at.slots at c.in-Ok.ensures.answers) (search rules) within)
     c.in-Ok.ensures.some marked)

@@ -159,6 +159,7 @@ returns-then-not-takes_out-clause-answers g c =
           ((λ i. given_call (reads.quiet.same.who i) Get key there)
           ∙ sym (given_kept p Get key (c.requires.expects some) there)
           ∙ told_op p key there (sym (kept_gets c.args.expected there some kept))) c.in_ok-tell_found.ensures.told;
+      changed = kept;
       marks = λ yes. absurd (let no : true ≡ false = sym yes ∙ kept in cc);
       unlists = λ yes room. absurd (let no : true ≡ false = sym yes ∙ kept in cc);
       paid = inl (record {
@@ -227,6 +228,7 @@ returns-then-affords-clause-answers g c =
       made = told_as
           (told_op c.args.self.now.at.stepper.now.trace c.args.self.now.key (Some c.in_ok-value.value) (sym taken))
           (made_then told then);
+      changed = sym c.takes_out.ensures ∙ c.if-not-takes_out.false;
       marks = λ yes. marked_found c.requires.locates (wide_is c.args.self.now c.in-Some.is) c.requires.present reads
           read removed
           (simp c.value_if_any-read.ensures.table.slots at c.in_ok-marked.ensures.there) then.seen;
@@ -278,6 +280,7 @@ returns-else-affords-clause-answers g c =
       made = told_as
           (told_op c.args.self.now.at.stepper.now.trace c.args.self.now.key (Some c.in_ok-value.value) (sym taken))
           told;
+      changed = sym c.takes_out.ensures ∙ c.if-not-takes_out.false;
       marks = λ yes. marked_found c.requires.locates (wide_is c.args.self.now c.in-Some.is) c.requires.present reads
           c.in_ok-value.ensures.value
           (simp c.value_if_any-read.ensures.table.slots at c.in_ok-marked.ensures.removed)

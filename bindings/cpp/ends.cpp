@@ -1,0 +1,139 @@
+// What is so of the handles of sets and of those of maps: whatever ends them nothing is lost, and the handle that is closed last gets
+// all; by the end of a thread, by an exception, and where they are lent.
+#include "vbr.hpp"
+
+#include <atomic>
+#include <cstdio>
+#include <stdexcept>
+#include <thread>
+
+#define CHECK(x) do { if (!(x)) { std::fprintf(stderr, "ends.cpp:%d: %s\n", __LINE__, #x); return 1; } } while (0)
+
+// The calls of both: in a map each key has a value that follows from it.
+static bool added(vbr::pass &mine, std::uint64_t key) { return mine.insert(key).value(); }
+static bool added(vbr::map_pass &mine, std::uint64_t key) { return mine.insert(key, ~key).value(); }
+static bool taken(vbr::pass &mine, std::uint64_t key) { return mine.remove(key).value(); }
+static bool taken(vbr::map_pass &mine, std::uint64_t key) { return mine.remove(key) == ~key; }
+static bool there(vbr::pass &mine, std::uint64_t key) { return mine.has(key).value(); }
+static bool there(vbr::map_pass &mine, std::uint64_t key) { return mine.get(key) == ~key; }
+static auto walk(vbr::pass &mine) { return mine.keys(); }
+static auto walk(vbr::map_pass &mine) { return mine.entries(); }
+static std::uint64_t key_of(std::uint64_t key) { return key; }
+static std::uint64_t key_of(vbr::entry each) { return each.value == ~each.key ? each.key : UINT64_MAX; }
+static const std::vector<std::uint64_t> &items(const vbr::report &told) { return told.keys; }
+static const std::vector<vbr::entry> &items(const vbr::map_report &told) { return told.entries; }
+
+// The keys of the last report; in a map each with its value.
+template <class Report>
+static std::vector<std::uint64_t> told(const vbr::result<std::optional<Report>> &last) {
+    std::vector<std::uint64_t> keys;
+    for (auto each : items(last.value().value())) keys.push_back(key_of(each));
+    return keys;
+}
+
+// Handles whose life ends in threads: the last one gets all, whichever it is.
+template <class Of>
+static int ends() {
+    using handle = typename Of::handle;
+    for (std::size_t last = 0; last < 3; last++) {
+        std::vector<handle> handles = Of::open(vbr::shape::for_keys(64, 3), 3).value();
+        handle kept = std::move(handles[last]);
+        std::vector<std::thread> threads;
+        for (std::size_t i = 0; i < 3; i++)
+            if (i != last)
+                threads.emplace_back([mine = std::move(handles[i]), i]() mutable {
+                    for (std::uint64_t key = i; key < 60; key += 3)
+                        if (!added(mine, key)) return;
+                    if (i == 1) mine = handle();
+                });
+        for (std::thread &thread : threads) thread.join();
+        threads.clear();
+        auto report = kept.close();
+        CHECK(told(report).size() == 40 && report.value()->free == 64 + 3 * 64 - 40);
+        for (std::uint64_t key : told(report)) CHECK(key < 60 && key % 3 != last);
+    }
+    return 0;
+}
+
+// Inserts a key by each of the handles that are open, and throws: it owns the handles, so they end.
+template <class Handle>
+static void inserts_and_throws(std::vector<Handle> owned) {
+    for (std::size_t i = 0; i < owned.size(); i++)
+        if (owned[i].is_open() && !added(owned[i], i)) return;
+    throw std::runtime_error("given up");
+}
+
+// An exception that ends handles: the last close gets all, whichever handle is kept; and a loan is given back.
+template <class Of>
+static int exceptions() {
+    for (std::size_t last = 0; last < 3; last++) {
+        auto handles = Of::open(vbr::shape::for_keys(64, 3), 3).value();
+        auto kept = std::move(handles[last]);
+        bool caught = false;
+        try {
+            inserts_and_throws(std::move(handles));
+        } catch (const std::runtime_error &) {
+            caught = true;
+        }
+        CHECK(caught && added(kept, last) && told(kept.close()) == (std::vector<std::uint64_t>{0, 1, 2}));
+    }
+    typename Of::lender lender(Of::open(vbr::shape::for_keys(64, 1), 1).value());
+    try {
+        auto mine = lender.lend();
+        CHECK(mine && added(*mine, 5) && !lender.lend());
+        throw std::runtime_error("given up");
+    } catch (const std::runtime_error &) {
+        CHECK(lender.lend());
+    }
+    CHECK(told(lender.close()) == std::vector<std::uint64_t>{5});
+    return 0;
+}
+
+// Threads that borrow two handles: each stores keys of its own, and takes back every other one.
+template <class Of>
+static int loans() {
+    constexpr vbr::shape shape = vbr::shape::for_keys(1000, 2);
+    typename Of::lender lender(Of::open(shape, 2).value());
+    {
+        auto one = lender.lend(), two = lender.lend(), none = lender.lend();
+        CHECK(one && two && !none && added(*one, 1000));
+    }
+    std::atomic<int> wrong{0};
+    std::vector<std::thread> threads;
+    for (std::uint64_t i = 0; i < 6; i++)
+        threads.emplace_back([&lender, &wrong, i] {
+            for (std::uint64_t key = i; key < 600;) {
+                auto mine = lender.lend();
+                if (!mine) { // all are lent at the moment
+                    std::this_thread::yield();
+                    continue;
+                }
+                if (!added(*mine, key) || !there(*mine, key)) wrong++;
+                if (key % 2 && !taken(*mine, key)) wrong++;
+                key += 6;
+            }
+        });
+    for (std::thread &thread : threads) thread.join();
+    if (!lender.renew(shape)) return 1; // it was refused
+    {
+        auto mine = lender.lend();
+        std::vector<bool> walked(1001);
+        for (auto each : walk(*mine)) {
+            CHECK(key_of(each) <= 1000 && key_of(each) % 2 == 0 && !walked[key_of(each)]);
+            walked[key_of(each)] = true;
+        }
+    }
+    CHECK(wrong == 0 && told(lender.close()).size() == 301);
+    return 0;
+}
+
+template <class Of>
+static int of_a_kind() {
+    return ends<Of>() || exceptions<Of>() || loans<Of>();
+}
+
+int main() {
+    if (of_a_kind<vbr::set<>>() || of_a_kind<vbr::map<>>()) return 1;
+    std::puts("ends of handles of sets and of maps in C++: passed");
+    return 0;
+}

@@ -1,0 +1,133 @@
+"""The crate for Rust, as far as it is made of bindings/interface: its files of calls, which have a form with a budget beside one without it,
+and in library.rs the declarations of the library, and which of its calls are those of sets, and which those of maps."""
+import glob
+import re
+
+from crates import ROOT, text_of
+from interface import name_of, text_of_kind, type_of
+
+MOST = 126  # columns of bindings/rust/rustfmt.toml
+TYPES = {"uint64_t": "u64", "size_t": "usize", "uint32_t": "u32", "int64_t": "i64", "int": "c_int", "vbr_answer": "i32", "vbr_entry": "Pair", "vbr_found": "Found"}
+TYPES.update({"vbr_handle": "Raw", "vbr_map_handle": "Raw", "vbr_shared_handle": "SharedRaw", "vbr_cursor": "Cursor", "vbr_incarnation": "Stands", "vbr_report": "ReportNumbers"})
+# The files, each with its source in bindings/interface, whose calls it has, and of which kind it is, if its source is for both.
+FILES = {"pass": ("pass", "PassOf"), "changing": ("changing", "PassOf"), "holding": ("holding", "PassOf"), "set": ("kinds", "Pass", "set"), "map": ("kinds", "MapPass", "map")}
+# What the comment of the form with a budget says of it, and where it has what the other form says.
+WITHIN = {"within": "with a budget of its own", "within_keys": "each key with this budget", "within_calls": "each of whose calls has this budget"}
+SECTIONS = {"Errors": "The same as for {}.", "Panics": "As {} does."}
+CALL = re.compile(r"((?: +///.*\n)+)( +)%(within\w*) ?(.*)\n((?: +%       .*\n)*)((?: +#\[.*\n)*) +pub fn (\w+)_within\(([^;{]*?),?\s*steps: Steps,?\s*\)([^{]*) \{\n")
+LIBRARY = f"{ROOT}/bindings/rust/src/library.rs"
+MADE = "    // tools/interface makes these of the headers.\n"
+
+
+def example(opening, lines):
+    """The lines of an example, which opens so, unless it does by itself."""
+    if not any(" handle = " in it for it in lines):
+        lines = [opening, *lines]
+    used = set(re.findall(r"(?<![:\w'])(?!Ok\b|Err\b|Some\b|None\b)[A-Z][a-z]\w*", " ".join(lines)))
+    why = "Box<dyn std::error::Error>" if re.search(r"\?[;.](?!remove\(0\);)", " ".join(lines)) else "vbr::OpenError"
+    return [f"# use vbr::{{{', '.join(sorted(used))}}};", *lines, f"# Ok::<(), {why}>(())"]
+
+
+def both_forms(it, owner):
+    """The form of a call without a budget, and the comment and the head of the one with it."""
+    comment, indent, mark, wanted, more, marks, name, given, returns = it.groups()
+    link, given, refusal = f"[`{owner}::{name}`]", " ".join(given.split()), "Refusal::" * ("Refusal>" in returns)
+    opening = (re.search(r"/// (let (?:mut )?handle = .*)", comment) or [""] * 2)[1]
+    lines = [f"assert_eq!(handle.{name}_within({wanted}, Steps::new(1)), Err({refusal}OutOfSteps));"] if wanted else re.findall(" %       (.*)", more)
+    said = [f"As {link}, {WITHIN[mark]}.", "", "```", *example(opening.replace("let mut ", "let ") if given.startswith("&self") else opening, lines), "```"]
+    for section, text in SECTIONS.items():
+        said += ["", f"# {section}", "", text.format(link)] if f"/// # {section}\n" in comment else []
+    passed, marks = re.findall(r"(?:^|, )(?:mut )?(\w+): ", given), f"{indent}#[inline]\n{marks}"
+    body = f"{indent}    self.{name}_within({', '.join([*passed, 'self.steps()'])}){'' if returns else ';'}\n{indent}}}\n\n"
+    within = "".join(f"{indent}/// {line}".rstrip() + "\n" for line in said) + marks + head(indent, f"{name}_within", f"{given}, steps: Steps", returns)
+    return comment + marks + head(indent, name, re.sub(r"mut (?=\w+: )", "", given), returns) + body + within
+
+
+def head(indent, name, given, returns):
+    """The head of a function, as cargo fmt lays it out."""
+    line = f"{indent}pub fn {name}({given}){returns} {{\n"
+    if len(line) <= MOST + 1:
+        return line
+    lines = "".join(f"{indent}    {it},\n" for it in re.split(r", (?=(?:mut )?\w+: )", given))
+    return f"{indent}pub fn {name}(\n{lines}{indent}){returns} {{\n"
+
+
+def number(prototype):
+    """A call that returns a number of a set or a map, as a method."""
+    name, returns, (handle, *given) = prototype
+    this = "&self" if handle.startswith("const ") else "&mut self"
+    given_here, passed = "".join(f", {name_of(it)}: {in_rust(type_of(it))}" for it in given), "".join(f", {name_of(it)}" for it in given)
+    call = f"        // SAFETY: as for `has_within`.\n        unsafe {{ T::{constant_name(name)}(self.raw(){passed}) }}\n    }}"
+    return f"    #[inline]\n    pub fn {name[4:]}({this}{given_here}){result(returns)} {{\n{call}"
+
+
+def source(prototypes, name, owner, kind=None):
+    """A file of the crate: of its source, for a kind if that is for both."""
+    of = {it[0]: it for it in prototypes}
+    text = re.sub(r"^    %number (\w+)", lambda it: number(of[f"vbr_{it[1]}"]), text_of_kind(text_of(f"{ROOT}/bindings/interface/{name}.rs.in"), kind), flags=re.M)
+    first, rest = CALL.sub(lambda it: both_forms(it, owner), text).split("\n", 1)
+    return f"{first}\n// tools/interface makes this file of bindings/interface/{name}.rs.in.\n{rest}"
+
+
+def in_rust(kind):
+    """A type of C in the crate for Rust."""
+    const, name, stars = re.match(r"(const )?(\w+) ?(\**)", kind).groups()
+    return "*mut " * (len(stars) - 1) + ("" if not stars else "*const " if const else "*mut ") + TYPES[name]
+
+
+def result(returns):
+    return f" -> {in_rust(returns)}" if returns != "void" else ""
+
+
+def declaration(prototype, visible):
+    name, returns, given = prototype
+    begin, end = f"    {visible}fn {name}(", f"){result(returns)};"
+    given = [f"{name_of(it)}: {in_rust(type_of(it))}" for it in given]
+    line = f"{begin}{', '.join(given)}{end}"
+    if len(line) <= MOST:  # of a line that is full, cargo fmt has the result alone on the next one
+        return line if len(line) < MOST else line.replace(") -> ", ")\n        -> ")
+    return "\n".join([begin, *[f"        {it}," for it in given], f"    {end}"])
+
+
+def constant(call, other, value):
+    """The call of a kind as a constant of its type, without a value where that is none: what differs from the other kind's is an item."""
+    (name, returns, given), (_, _, theirs) = call, other
+    types = [[in_rust(type_of(it)) for it in each] for each in (given, theirs)]
+    types = [one if one == its_like else re.sub("u64|Pair", "Self::Plain", one) for one, its_like in zip(*types)]
+    begin, end = f'    const {constant_name(name)}: unsafe extern "C" fn(', f"){result(returns)}"
+    line = f"{begin}{', '.join(types)}{end}"
+    if len(line) + 2 > MOST:
+        line = "\n".join([begin, *[f"        {it}," for it in types], f"    {end}"])
+    if not value:
+        return f"{line};\n"
+    return f"{line} = {name};\n" if len(line.split("\n")[-1]) + len(name) + 4 <= MOST else f"{line} =\n        {name};\n"
+
+
+def constant_name(name):
+    return re.sub("^vbr_(map_)?|_within$", "", name).upper()
+
+
+def constants(prototypes, others):
+    """The calls that sets and maps have alike, as far as the crate uses them: of no kind, of sets, and of maps."""
+    of, used = {it[0]: it for it in prototypes}, set(re.findall(r"\bT::([A-Z_]+)\b", others))
+    both = [(it, of[of_map]) for name, it in of.items() if (of_map := name.replace("vbr_", "vbr_map_", 1)) in of and constant_name(name) in used]
+    yield "".join(constant(it, other, False) for it, other in both)
+    yield "".join(constant(it, other, True) for it, other in both)
+    yield "".join(constant(other, it, True) for it, other in both)
+
+
+def library_rs(prototypes, others):
+    """The declarations of the calls that the other files name, visible where they do; and the constants of the trait that has both kinds."""
+    text, parts = text_of(LIBRARY), constants(prototypes, others)
+    block = re.compile(r'^extern "C" \{\n.*?^\}\n', re.M | re.S)
+    text = re.sub(rf"({MADE})(?: {{4}}.*\n)*(?=\n)", lambda it: it[1] + next(parts), text)
+    named, seen = set(re.findall(r"\bvbr_\w+", block.sub("", text))), set(re.findall(r"\bvbr_\w+", re.sub("//.*", "", others)))
+    lines = "".join(declaration(it, "pub(crate) " if it[0] in seen else "") + "\n" for it in prototypes if it[0] in named | seen)
+    return block.sub(lambda _: f'extern "C" {{\n{MADE}{lines}}}\n', text, count=1)
+
+
+def files(prototypes):
+    """What is made of the crate, by its path."""
+    made = {f"{ROOT}/bindings/rust/src/{name}.rs": source(prototypes, *of) for name, of in FILES.items()}
+    others = "\n".join(made[it] if it in made else text_of(it) for it in glob.glob(f"{ROOT}/bindings/rust/src/*.rs") if it != LIBRARY)
+    return {path[len(ROOT) + 1 :]: text for path, text in {**made, LIBRARY: library_rs(prototypes, others)}.items()}
