@@ -1,8 +1,8 @@
 -- A call and the top-up after it stay within the budget, and are what a full handle tells.
-use Rattle.std.proofs.Common.{◌≡◌, ℕ, ◌+◌, ◌-◌, ◌^◌, ◌<◌, ◌≤◌, min, Bool, true, false, sym, ap, ◌∙◌, subst, ⊎_elim}
+use Rattle.std.proofs.Common.{◌≡◌, ℕ, ◌+◌, ◌^◌, ◌<◌, ◌≤◌, min, Bool, true, false, sym, ap, ◌∙◌, subst}
 use Rattle.std.proofs.Common.{arith, ◌/◌, ◌&&◌}
-use Rattle.std.specs.Prelude.{if◌then◌else◌, ℤ, is_some, Option, None, Some, Result}
-use Rattle.std.proofs.lemmas.Bool.{cases_lt, false≢true, le-ltb, lt-ltb}
+use Rattle.std.specs.Prelude.{ℤ, is_some, Option, None, Some, Result}
+use Rattle.std.proofs.lemmas.Bool.{false≢true}
 use Rattle.vbr_slots.specs.steps.PassLaw.{PassLaw}
 use Rattle.vbr_slots.specs.views.Views.{PassView, Trace, counted_steps, steps_of}
 use Rattle.vbr_slots.proofs.Lemmas.{took_on}
@@ -20,37 +20,23 @@ use Rattle.vbr_handles.specs.ToppingUp.{reserve_of}
 use Rattle.vbr_handles.specs.ValueCalls.{GivesUnlessHeld, StoresBy, WritesGiven}
 use Rattle.vbr_handles.specs.declared.owner.Owner.{Owner}
 
--- what is left, where the count isn't at its end
-left_is : (budget before since : ℕ) → since < 2 ^ 64 - 1 → left_of budget before since ≡ budget - (since - before)
-left_is budget before since low =
-    ap (λ (b : Bool). if b then budget - (since - before) else 0) (lt-ltb since (2 ^ 64 - 1) low)
-
-left_none : (budget before since : ℕ) → 2 ^ 64 - 1 ≤ since → left_of budget before since ≡ 0
-left_none budget before since high =
-    ap (λ (b : Bool). if b then budget - (since - before) else 0) (le-ltb since (2 ^ 64 - 1) high)
-
 -- after a call of so many steps no more are left than those
-few_left : (budget before steps since more : ℕ) → since ≡ before + steps → steps ≤ budget →
+few_left : (budget before steps since more : ℕ) → since ≡ before + steps → steps ≤ budget → budget < 2 ^ 32 →
     more ≤ left_of budget (counted_steps before) (counted_steps since) → steps + more ≤ budget
-few_left budget before steps since more is within few = ⊎_elim
-    (λ (low : counted_steps since < 2 ^ 64 - 1).
-    (let left = left_is budget (counted_steps before) (counted_steps since) low in
-    omega (arith, left, low, few, is, within)))
-    (λ (high : 2 ^ 64 - 1 ≤ counted_steps since).
-    (let none = left_none budget (counted_steps before) (counted_steps since) high in omega (arith, none, few, within)))
-    (cases_lt (counted_steps since) (2 ^ 64 - 1))
+few_left budget before steps since more is within small few = omega (arith, few, is, within, small)
 
 -- a member that was topped up with these tries
 pub topped : {m n : Member} {budget before left wanted tries taken steps : ℕ} {p : Trace} → n.set ≡ m.set →
-    n.aside ≡ m.aside → PassLaw n.pass → before ≡ counted_steps (steps_of p) →
+    n.aside ≡ m.aside → PassLaw n.pass → budget < 2 ^ 32 → before ≡ counted_steps (steps_of p) →
     left ≡ left_of budget before (counted_steps (steps_of m.pass.trace)) → wanted ≡ reserve_of m.set →
     tries ≡ min left (wanted / 8 + 1) → TopsUp m.pass n.pass wanted tries taken steps → TopsUpReserve budget p m n
-topped {m} {n} {budget} {before} {left} {wanted} {tries} {taken} {steps} {p} set aside law counted left_is wanted_is
-    tries_is tops = record {
+topped {m} {n} {budget} {before} {left} {wanted} {tries} {taken} {steps} {p} set aside law small counted left_is
+    wanted_is tries_is tops = record {
       set = set;
       aside = aside;
       taken = taken;
       steps = steps;
+      small = small;
       tops_up = subst (λ (x : ℕ × ℕ). TopsUp m.pass n.pass x.0 x.1 taken steps)
           (λ i. (
             wanted_is i,
@@ -69,7 +55,7 @@ within_budget false budget p m n steps same =
 within_budget true budget p m n steps t =
     let few = t.tops_up.tries in
     let sum = few_left budget (steps_of p) steps.steps (steps_of m.pass.trace) t.steps steps.took.made steps.within
-    (omega (arith, few)) in
+    t.small (omega (arith, few)) in
     record {
       steps = steps.steps + t.steps;
       within = sum;

@@ -1,5 +1,5 @@
 -- What handles keep in reserve by themselves: a call that adds a key takes slots up to that, if some are lacking and its budget has room.
-use Rattle.std.specs.Prelude.{◌≡◌, ℕ, ◌+◌, ◌-◌, ◌/◌, ◌^◌, ◌&&◌, length, nat_lt, if◌then◌else◌, min, Bool, true, false, Option, None, Some, Result, Ok, Err}
+use Rattle.std.specs.Prelude.{◌≡◌, ℕ, ◌+◌, ◌-◌, ◌/◌, ◌%◌, ◌^◌, ◌<◌, ◌&&◌, length, nat_lt, min, Bool, true, false, Option, None, Some, Result, Ok, Err}
 use Rattle.vbr_slots.specs.steps.PassLaw.{PassLaw}
 use Rattle.vbr_slots.specs.views.Views.{TableView, Trace, counted_steps, steps_of}
 use Rattle.vbr_at_table.specs.pools.Reserving.{TopsUp}
@@ -21,20 +21,21 @@ lacks_slots m = nat_lt (length m.pass.pool + reserve_of m.set / PARTS) (reserve_
 abbrev pub tries_of : TableView → ℕ
 tries_of set = reserve_of set / PARTS + 1
 
--- how many steps are left of a budget, if a pass counted so many before and so many since; none once its count is at the greatest number
+-- how many steps are left of a budget, if a pass counted so many before and so many since; a count begins anew after 2 ^ 64
 abbrev pub left_of : ℕ → ℕ → ℕ → ℕ
-left_of budget before since = if nat_lt since (2 ^ 64 - 1) then budget - (since - before) else 0
+left_of budget before since = budget - (since + (2 ^ 64 - before)) % 2 ^ 64
 
 -- the same for a call of a pass
 abbrev pub steps_left : ℕ → Trace → Trace → ℕ
 steps_left budget p q = left_of budget (counted_steps (steps_of p)) (counted_steps (steps_of q))
 
--- since a call that began at p the member topped its own pool up to its reserve: in so many tries, or as many as the call left steps for, if these are fewer
+-- since a call that began at p, with a budget of 32 bits, the member topped its own pool up to its reserve: in so many tries, or as many as the call left steps for, if these are fewer
 pub record TopsUpReserve (budget : ℕ) (p : Trace) (m n : Member) : Type 0 where
   pub set : n.set ≡ m.set
   pub aside : n.aside ≡ m.aside
   pub taken : ℕ
   pub steps : ℕ
+  pub small : budget < 2 ^ 32
   pub tops_up : TopsUp m.pass n.pass (reserve_of m.set) (min (steps_left budget p m.pass.trace) (tries_of m.set)) taken steps
   pub law : PassLaw n.pass
 

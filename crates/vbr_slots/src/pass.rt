@@ -64,8 +64,8 @@ impl Pass {
         self.stepper.runner.opening.shape.slots()
     }
 
-    /// How many steps it has made since the opening, counted up to the greatest number: its own events
-    /// in what it has seen.
+    /// How many steps it has made since the opening: its own events in what it has seen. After 2^64
+    /// steps the count begins anew, so the difference of two counts is right all the same.
     #[inline]
     pub fn steps(&self) -> u64
         ensures { result ≡ counted_steps (steps_of self.now.trace) }
@@ -179,10 +179,10 @@ impl Pass {
     }
 }
 
-// A count after so many more steps; it stays at the greatest number.
+// A count after so many more steps.
 #[inline]
 pub(crate) fn steps_after(steps: u64, more: u32) -> u64
     ensures { result ≡ counted_steps (steps + more) }
 {
-    steps.saturating_add(u64::from(more))
+    steps.wrapping_add(u64::from(more))
 }

@@ -73,11 +73,7 @@ fn lacks_slots<N: Nodes>(member: &Member<N>) -> bool
 fn left_of(budget: u32, before: u64, since: u64) -> u32
     ensures { result ≡ left_of budget before since }
 {
-    if since < u64::MAX {
-        u64::from(budget).saturating_sub(since.saturating_sub(before)) as u32
-    } else {
-        0
-    }
+    u64::from(budget).saturating_sub(since.wrapping_sub(before)) as u32
 }
 
 /// How many slots a member keeps in reserve.

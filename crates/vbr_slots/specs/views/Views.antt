@@ -1,5 +1,5 @@
 -- What contracts see of a pass and of a table, and what a step does.
-use Rattle.std.specs.Prelude.{◌≡◌, ℕ, zero, suc, ◌+◌, ◌-◌, ◌^◌, ◌==◌, min, count_by, List, [], ◌∷◌, ◌++◌, Option, None}
+use Rattle.std.specs.Prelude.{◌≡◌, ℕ, zero, suc, ◌+◌, ◌^◌, ◌%◌, ◌==◌, count_by, List, [], ◌∷◌, ◌++◌, Option, None}
 use Rattle.atomic_table.specs.Seated.{TableId}
 use Rattle.vbr_machine.specs.Start.{Start}
 use Rattle.vbr_machine.specs.Knowledge.{Know}
@@ -73,9 +73,9 @@ steps_in who events = count_by (λ (e : Event). e.pass == who) events
 abbrev pub steps_of : Trace → ℕ
 steps_of p = steps_in p.who p.seen
 
--- a number of steps, up to the greatest number that a count holds
+-- a number of steps as a count of 64 bits has it, which begins anew after 2 ^ 64
 abbrev pub counted_steps : ℕ → ℕ
-counted_steps steps = min steps (2 ^ 64 - 1)
+counted_steps steps = steps % 2 ^ 64
 
 -- the pass made the step: after all that it had seen and what others did since, which the machine accepted as a run; it was shown r; and it knows what the machine has it learn from that
 pub record Did (step : Step) (p q : Trace) (r : ℕ) : Type 0 where

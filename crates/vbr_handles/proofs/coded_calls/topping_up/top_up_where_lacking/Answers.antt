@@ -1,5 +1,5 @@
 -- The tries are as many as lack and are left; the wanted slots are the reserve.
-use Rattle.std.proofs.Common.{◌≡◌, ◌∙◌, Bool, true, ap, subst, sym}
+use Rattle.std.proofs.Common.{◌≡◌, ◌∙◌, Bool, true, ap, arith, subst, sym}
 use Rattle.vbr_slots.specs.steps.PassLaw.{PassLaw}
 use Rattle.vbr_slots.specs.views.Views.{PassView, counted_steps, steps_of}
 use Rattle.vbr_handles.specs.ToppingUp.{TopsUpWhere, lacks_slots, left_of}
@@ -15,5 +15,5 @@ returns-then-lacks_slots g c = λ p counted.
     let law : PassLaw n.pass = subst PassLaw c.pass-then-lacks_slots.ensures.pass c.law.ensures in
     let lacking : lacks_slots m ≡ true = sym c.lacks_slots.ensures ∙ c.if-lacks_slots.true in
     subst (λ (b : Bool). TopsUpWhere b c.args.budget p m n) (sym lacking)
-    (topped c.top_up.ensures.set c.top_up.ensures.aside law counted left c.reserve_of-wanted.ensures c.min.ensures
-    c.top_up.ensures.tops_up.1)
+    (topped c.top_up.ensures.set c.top_up.ensures.aside law (omega arith) counted left c.reserve_of-wanted.ensures
+    c.min.ensures c.top_up.ensures.tops_up.1)
