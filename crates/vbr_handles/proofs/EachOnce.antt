@@ -4,7 +4,7 @@ use Rattle.std.proofs.Common.{refl, sym, ap, ◌∙◌, subst, arith, ◌⊎◌,
 use Rattle.std.specs.Prelude.{◌==◌, count_by, IsSome, Option, None, Some, slice_index_or, slice_set}
 use Rattle.std.proofs.lemmas.Bool.{cases_Bool, eq-eqb, eqb-true, false≢true, ltb-false, ltb-true}
 use Rattle.std.proofs.Math.Dec.{ltb}
-use Rattle.std.proofs.lemmas.List.{get_or-set_other, get_or-set_same, set-get_or}
+use Rattle.std.proofs.lemmas.List.{set-get_or}
 use Rattle.std.proofs.lemmas.List.Elements.{All-head, All-tail}
 use Rattle.std.proofs.lemmas.List.Sums.{count_by_more_no, count_by_more_yes, sum_by-cons, sum_by-take-le}
 use Rattle.vbr_set.specs.calls.Members.{MemberView as Member}
@@ -97,35 +97,6 @@ module _ {H : Type 0} (member : H → Option Member) where
           sum_by-take-le (λ (h : H). cond (number_shown (member h) == n) 1 0) handles (i + 1) in
           let same = same_times handles n full in
           (n, omega (arith, before, after, all, same))
-
-      -- one that isn't is marked
-      pub one_marked : (part : ℕ) (seen : List Bool) → length seen ≡ 4096 → Marks part seen i → n / 4096 ≡ part →
-          slice_index_or seen (n % 4096) false ≡ false → Marks part (slice_set seen (n % 4096) true) (i + 1)
-      one_marked part seen wide marks here unmarked who there = go (cases_Bool (n == who))
-        where
-          there_is_room : n % 4096 < length seen
-          there_is_room = omega (arith, wide)
-
-          go : ((n == who) ≡ true) ⊎ ((n == who) ≡ false) →
-              borne member (take (i + 1) handles) who
-              ≡ cond (slice_index_or (slice_set seen (n % 4096) true) (who % 4096) false) 1 0
-          go (inl same) =
-              let is_n : n ≡ who = eqb-true n who same in
-              subst (λ (w : ℕ). borne member (take (i + 1) handles) w
-              ≡ cond (slice_index_or (slice_set seen (n % 4096) true) (w % 4096) false) 1 0) is_n
-              (more
-              ∙ ap (λ (k : ℕ). k + 1) (marks n here ∙ ap (λ (b : Bool). cond b 1 0) unmarked)
-              ∙ sym (ap (λ (b : Bool). cond b 1 0) (get_or-set_same seen (n % 4096) true false there_is_room)))
-          go (inr differs) =
-              let other : n ≢ who = λ same. false≢true (sym differs ∙ eq-eqb n who same) in
-              let apart : who % 4096 ≢ n % 4096 = λ same. other (omega (arith, same, here, there)) in
-              no_more who other ∙ marks who there
-              ∙ sym (ap (λ (b : Bool). cond b 1 0) (get_or-set_other seen (n % 4096) (who % 4096) true false apart))
-
-      -- and one of another part changes nothing
-      pub none_marked : (part : ℕ) (seen : List Bool) → Marks part seen i → n / 4096 ≢ part → Marks part seen (i + 1)
-      none_marked part seen marks elsewhere who there =
-          no_more who (λ same. elsewhere (ap (λ (k : ℕ). k / 4096) same ∙ there)) ∙ marks who there
 
     -- no pass comes twice, where none of a part does that comes at all
     pub none_twice : (greatest : ℕ) → AreFull member handles →
