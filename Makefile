@@ -20,10 +20,10 @@ FUZZ ?= 9000000 1000000
 COMPARE ?=
 PREBUILT ?=
 ANEW ?=
-export RT ANEW
+export RT ANEW PREBUILT
 
 .DEFAULT_GOAL := help
-.PHONY: help run build lib both install install-lib copy-lib uninstall man docs prebuilt prebuilt-check check test gate docs-check clients faults soak fuzz bench plot compare clean
+.PHONY: help run build lib both lib-here both-here install install-lib copy-lib uninstall man docs prebuilt prebuilt-check check test gate docs-check clients faults soak fuzz bench plot compare clean
 
 help:
 	@echo 'make run                 play a script with three workers (before its proof; about a minute)'
@@ -32,7 +32,7 @@ help:
 	@echo 'make install-lib         the library with headers, pages, and what pkg-config and CMake need, below PREFIX=DIR (default: $(PREFIX))'
 	@echo 'make install             the same, and the program'
 	@echo '    LIBDIR=DIR           with either: the libraries go there (default: $(LIBDIR))'
-	@echo '    PREBUILT=1           with either: take the files of prebuilt/, and prove nothing'
+	@echo '    PREBUILT=1           with either, and with clients, soak, fuzz and compare: take the files of prebuilt/, and prove nothing'
 	@echo 'make uninstall           take away what these put below PREFIX and LIBDIR'
 	@echo 'make test                prove what library and program stand on, run all tests, clients, refused memory, kept inputs'
 	@echo 'make check               for daily work: what has changed, the tests, the programs, edits of changed crates'
@@ -94,13 +94,18 @@ prebuilt-check:
 	@tools/needs prebuilt-check
 	@tools/prebuilt --check
 
-# What is installed is in target/, or in prebuilt/.
+# What is installed is in target/, or in prebuilt/; what clients link is in target/, put there from prebuilt/ or proved and built.
 ifeq ($(PREBUILT),1)
 FROM := prebuilt
 PROVED := prebuilt-check
+lib-here both-here: prebuilt-check
+	@mkdir -p target && cp prebuilt/libvbr.a $(LIBRARY) && cp prebuilt/vbr_run $(PROGRAM)
+	@tools/package
 else
 FROM := target
 PROVED := $(if $(filter install,$(MAKECMDGOALS)),both,lib)
+lib-here: lib
+both-here: both
 endif
 
 install-lib: $(PROVED)
@@ -177,8 +182,9 @@ gate:
 	@tools/prebuilt --gate
 	@echo 'make gate: ok'
 
-clients: lib
+clients:
 	@tools/needs clients
+	@$(MAKE) --no-print-directory lib-here
 	@bindings/headers
 	@bindings/test
 
@@ -189,8 +195,8 @@ faults: build
 
 soak:
 	@tools/needs soak
-	@echo 'make soak: proves the library first, unless it is; then the calls begin'
-	@$(MAKE) --no-print-directory lib
+	@echo 'make soak: proves the library first, unless it is or PREBUILT=1; then the calls begin'
+	@$(MAKE) --no-print-directory lib-here
 	@mkdir -p target/clients
 	@cc -std=c11 -O2 -Wall -Wextra -Ibindings/include -pthread -o target/clients/soak bindings/c/soak.c -Ltarget -lvbr
 	@target/clients/soak $(SOAK)
@@ -205,8 +211,8 @@ soak:
 
 fuzz:
 	@tools/needs fuzz
-	@echo 'make fuzz: proves the library and the program first, unless they are; then the inputs begin'
-	@$(MAKE) --no-print-directory both
+	@echo 'make fuzz: proves the library and the program first, unless they are or PREBUILT=1; then the inputs begin'
+	@$(MAKE) --no-print-directory both-here
 	@tests/fuzz/run $(FUZZ)
 
 bench:
@@ -223,8 +229,8 @@ plot:
 
 compare:
 	@tools/needs compare
-	@echo 'make compare: proves the library first, unless it is; then it measures'
-	@$(MAKE) --no-print-directory lib
+	@echo 'make compare: proves the library first, unless it is or PREBUILT=1; then it measures'
+	@$(MAKE) --no-print-directory lib-here
 	@bench/compare/run $(COMPARE)
 
 clean:
