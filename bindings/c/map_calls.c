@@ -96,14 +96,16 @@ static int many_handles(void) {
 }
 
 static int looked_up_in_turn(void) {
-    uint64_t sum = 0;
+    int there = 0;
     vbr_map_handle map[2] = {{0}};
     vbr_answer answers[3];
     static const uint64_t wanted[3] = {5, 7, 2};
     static const vbr_entry some[3] = {{2, 20}, {5, 50}, {9, 90}};
     if (vbr_map_open_with(map, 2, 1024 + 2 * 64, 1024, VBR_MAX_EPOCH, some, 3) != VBR_OK) return 1;
-    vbr_map_has_all(&map[0], wanted, 3, answers); // answers[i] is that of wanted[i]
-    CHECK(answers[0] == VBR_YES && answers[1] == VBR_NO && answers[2] == VBR_YES);
+    vbr_map_has_all(&map[0], wanted, 3, answers);
+    for (int i = 0; i < 3; i++) there += answers[i] == VBR_YES; // wanted[i] was there during its call
+    CHECK(answers[0] == VBR_YES && answers[1] == VBR_NO && answers[2] == VBR_YES && there == 2);
+    uint64_t sum = 0;
     vbr_found given[3];
     vbr_map_get_all(&map[0], wanted, 3, given);
     for (int i = 0; i < 3; i++) sum += given[i].value; // 0 if wanted[i] isn't there

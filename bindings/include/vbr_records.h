@@ -19,8 +19,11 @@
    which entry is proved for the calls of vbr.h; that copies are whole is argued, and this header is tested.
 
    The words of records are atomic: a writer stores each with release, and a reader loads each with acquire. That costs nothing on x86-64.
-   Fences would do too, but ThreadSanitizer doesn't know them. No pointer that a call is given may be null, unless its comment says so. It
-   is written for GCC and Clang, in C99 to C23 and C++11 to C++23. */
+   Fences would do too, but ThreadSanitizer doesn't know them. What the first comment of vbr.h says of calls holds of these. It is written
+   for GCC and Clang, in C99 to C23 and C++11 to C++23.
+
+   Parameters:
+   - records: open ones, of the set or the map whose slots or handles are given. */
 #ifndef VBR_RECORDS_H
 #define VBR_RECORDS_H
 
@@ -47,8 +50,11 @@ typedef struct vbr_records {
     uint32_t is_given;
 } vbr_records;
 
-/* Returns how many bytes the records of so many slots take, if each has `bytes` bytes: whole words of 8 bytes. SIZE_MAX if no block is so
-   large.
+/* Returns how many bytes the records of so many slots take.
+   Parameters: slots.
+   - bytes: how many each record has.
+   Returns: that number, in whole words of 8 bytes for each record; SIZE_MAX if no block is so large.
+   Leaves: all as it was.
 
        size_t size = vbr_records_size(vbr_map_slots(&map[0]), sizeof(struct account)); */
 VBR_NODISCARD static inline size_t vbr_records_size(uint32_t slots, size_t bytes) VBR_NOEXCEPT {
@@ -56,10 +62,18 @@ VBR_NODISCARD static inline size_t vbr_records_size(uint32_t slots, size_t bytes
     return slots && each > SIZE_MAX / 8 / slots ? SIZE_MAX : 8 * each * slots;
 }
 
-/* Opens records of so many bytes each, one for each slot of the set or the map: VBR_OK. They are all zero. If `block` is null the memory
-   is taken by calloc. Otherwise it is that block of vbr_records_size bytes, which are zero, and aligned as words of 64 bits are; it stays
-   the program's. So records may lie in memory that processes share. Else VBR_IN_USE, if they are open; VBR_BAD_SHAPE, if slots or bytes
-   is 0; or VBR_NO_MEMORY.
+/* Opens records, one for each slot of a set or a map.
+   Parameters:
+   - records: all zero.
+   - slots, bytes: as of vbr_records_size.
+   - block: null, and the memory is taken by calloc; or vbr_records_size bytes, which are zero, and aligned as words of 64 bits are. These
+   stay the program's, so records may lie in memory that processes share.
+   Returns:
+   - VBR_OK: they are open.
+   - VBR_IN_USE.
+   - VBR_BAD_SHAPE: slots or bytes is 0.
+   - VBR_NO_MEMORY.
+   Leaves: the records, of zeros.
 
        if (vbr_records_open(&accounts, vbr_map_slots(&map[0]), sizeof(struct account), NULL) != VBR_OK) return 1; */
 VBR_NODISCARD static inline vbr_answer vbr_records_open(vbr_records *records, uint32_t slots, size_t bytes, void *block) VBR_NOEXCEPT {
@@ -77,7 +91,10 @@ VBR_NODISCARD static inline vbr_answer vbr_records_open(vbr_records *records, ui
     return VBR_OK;
 }
 
-/* Frees the memory of records, unless it was given, and leaves them all zero.
+/* Frees the memory of records, unless it was given.
+   Parameters: records.
+   Returns: nothing. It can't fail.
+   Leaves: the records closed, and all zero.
 
        vbr_records_close(&accounts); */
 VBR_NONNULL static inline void vbr_records_close(vbr_records *records) VBR_NOEXCEPT {
@@ -85,8 +102,12 @@ VBR_NONNULL static inline void vbr_records_close(vbr_records *records) VBR_NOEXC
     memset(records, 0, sizeof *records);
 }
 
-/* Writes the record of a held slot, from `data`, which has as many bytes as a record. Whoever finds the entry that is then made of the
-   slot finds the record too. It may be written several times before that, and never after it.
+/* Writes the record of a held slot.
+   Parameters: records.
+   - slot: one that the caller has in hand. It may be written several times, until an entry is made of it, and never after that.
+   - data: as many bytes as a record has.
+   Returns: nothing.
+   Leaves: the record for whoever finds the entry that is then made of the slot.
 
        vbr_records_write(&accounts, slot, &mine); */
 VBR_NONNULL static inline void vbr_records_write(vbr_records *records, uint32_t slot, const void *data) VBR_NOEXCEPT {
@@ -103,9 +124,14 @@ VBR_NONNULL static inline void vbr_records_write(vbr_records *records, uint32_t 
     __atomic_store_n(to, word, __ATOMIC_RELEASE);
 }
 
-/* Copies the record of a slot to `data`. For a held slot that is what was written. For any other the copy counts for nothing until
-   vbr_is_still or vbr_map_is_still has said yes to the entry that was found there before. Until then it may mix two records: follow no
-   pointer and no index in it. vbr_records_read and its kin do all that.
+/* Copies the record of a slot.
+   Parameters: records.
+   - slot: any slot. For a held one the copy is what was written. For any other it counts for nothing until vbr_is_still or
+   vbr_map_is_still has said yes to the entry that was found there before. Until then it may mix two records: follow no pointer and no
+   index in it. vbr_records_read and its kin do all that.
+   - data: where the copy is written, as many bytes as a record has.
+   Returns: nothing.
+   Leaves: the record as it was.
 
        vbr_records_copy(&accounts, at.slot, &seen);
        if (vbr_map_is_still(&map[1], &at) == VBR_YES) copied++; // else it was changed meanwhile: find the key again */
@@ -123,10 +149,17 @@ VBR_NONNULL static inline void vbr_records_copy(const vbr_records *records, uint
     memcpy(to, &word, left);
 }
 
-/* Reads the record of a key of a set: VBR_YES if it is there, and `*data` is then its record, as it was written before the key was
-   inserted, and `*at` its entry, which was there at a moment of the call; VBR_NO if it is absent. Else VBR_OUT_OF_STEPS or VBR_NO_HANDLE.
-   Unless it answers VBR_YES, `*data` is zero, byte by byte, and what is in `*at` means nothing. It looks up, copies, and asks. It does so
-   again only if the slot was handed out anew while it copied. Each look-up has the budget of the handle. All its steps are loads.
+/* Reads the record of a key of a set.
+   Parameters: handle, records, key.
+   - data: where its record is written as it was before the key was inserted, after VBR_YES; else it is set to zero, byte by byte.
+   - at: where its entry is written, after VBR_YES. Else what is there means nothing.
+   Returns:
+   - VBR_YES: the entry was there at a moment of the call, with this record, whole.
+   - VBR_NO: the key is absent.
+   - VBR_NO_HANDLE, VBR_OUT_OF_STEPS.
+   Leaves: the set as it was: all its steps are loads.
+   Notes: It looks up, copies, and asks. It does so again only if the slot was handed out anew while it copied. Each look-up has the
+   budget of the handle.
 
        vbr_answer there = vbr_records_read(&handle[1], &accounts, 5, &seen, &at); // VBR_YES: seen is that record, whole */
 VBR_NODISCARD VBR_NONNULL static inline vbr_answer vbr_records_read(vbr_handle *handle, const vbr_records *records, uint64_t key,
@@ -140,8 +173,18 @@ VBR_NODISCARD VBR_NONNULL static inline vbr_answer vbr_records_read(vbr_handle *
     return told;
 }
 
-/* Reads the record of a key of a map, as vbr_records_read does for a set. Its value is in `at->value`, and is free for other use: a
-   length, or what is read more often than the record.
+/* Reads the record of a key of a map.
+   Parameters: handle, records, key.
+   - data: where its record is written as it was before the key was given its value, after VBR_YES; else it is set to zero, byte by byte.
+   - at: where its entry is written, with its value, which is free for other use: a length, or what is read more often than the record,
+     after VBR_YES. Else what is there means nothing.
+   Returns:
+   - VBR_YES: the entry was there at a moment of the call, with this record, whole.
+   - VBR_NO: the key is absent.
+   - VBR_NO_HANDLE, VBR_OUT_OF_STEPS.
+   Leaves: the map as it was: all its steps are loads.
+   Notes: It looks up, copies, and asks. It does so again only if the slot was handed out anew while it copied. Each look-up has the
+   budget of the handle.
 
        vbr_answer there = vbr_map_records_read(&map[1], &accounts, 5, &seen, &at); // VBR_YES: seen is that record, whole */
 VBR_NODISCARD VBR_NONNULL static inline vbr_answer vbr_map_records_read(vbr_map_handle *handle, const vbr_records *records, uint64_t key,
@@ -155,9 +198,15 @@ VBR_NODISCARD VBR_NONNULL static inline vbr_answer vbr_map_records_read(vbr_map_
     return told;
 }
 
-/* Gives the next key of a walk with its record, as vbr_next_at gives one with its entry: VBR_YES, and the key had this entry and this
-   record at a moment of the call; VBR_NO at the end. Else VBR_OUT_OF_STEPS, and the cursor keeps how far it has come, or VBR_NO_HANDLE.
-   Unless it answers VBR_YES, `*data` is zero, byte by byte, and what is in `*key` and `*at` means nothing.
+/* Gives the next key of a walk with its record, as vbr_next_at gives one with its entry.
+   Parameters: handle, records.
+   - cursor: where the walk stands.
+   - key, data, at: as of vbr_next_at and vbr_records_read: unless VBR_YES, the record is zero, and the others mean nothing.
+   Returns:
+   - VBR_YES: the key had this entry and this record at a moment of the call.
+   - VBR_NO: the walk is at its end.
+   - VBR_NO_HANDLE, VBR_OUT_OF_STEPS.
+   Leaves: what vbr_next leaves.
 
        do {
            told = vbr_records_next(&handle[0], &cursor, &accounts, &key, &seen, &at);
@@ -179,7 +228,15 @@ VBR_NODISCARD VBR_NONNULL static inline vbr_answer vbr_records_next(vbr_handle *
     return told;
 }
 
-/* Gives the next key of a walk over a map with its record, as vbr_records_next does for a set. The value of the key is in `at->value`.
+/* Gives the next key of a walk with its record, as vbr_map_next_at gives one with its entry.
+   Parameters: handle, records.
+   - cursor: where the walk stands.
+   - key, data, at: as of vbr_map_next_at and vbr_map_records_read: unless VBR_YES, the record is zero, and the others mean nothing.
+   Returns:
+   - VBR_YES: the key had this entry and this record at a moment of the call.
+   - VBR_NO: the walk is at its end.
+   - VBR_NO_HANDLE, VBR_OUT_OF_STEPS.
+   Leaves: what vbr_map_next leaves.
 
        do {
            told = vbr_map_records_next(&map[0], &cursor, &accounts, &key, &seen, &at);
@@ -210,10 +267,12 @@ VBR_NONNULL static inline void vbr_records_carry(vbr_records *records, vbr_recor
     *records = *fresh;
 }
 
-/* Renews a set as vbr_renew_all does, and carries its records over to the slots that its keys have then: VBR_OK. If `block` is null,
-   calloc gives the memory of the fresh records; otherwise it is another block than the old one, as vbr_records_open takes it. Else the
-   set and its records stay as they were, and it returns what vbr_renew_all returns. It takes 12 bytes for each slot besides, while it
-   runs. No other thread may use the set or the records meanwhile.
+/* Renews a set as vbr_renew_all does, and carries its records over to the slots that its keys have then.
+   Parameters: handles, count, slots, buckets, last_epoch, records.
+   - block: null, and calloc gives the memory of the fresh records; or another block than the old one, as vbr_records_open takes it.
+   Returns: what vbr_renew_all returns, though not tested in that order.
+   Leaves: what vbr_renew_all leaves; a refusal leaves the records as they were too.
+   Notes: It takes 12 bytes for each slot besides, while it runs. No other thread may use the set or the records meanwhile.
 
        vbr_answer renewed = vbr_records_renew_all(handle, 2, 2048 + 2 * 64, 2048, VBR_MAX_EPOCH, &accounts, NULL); // VBR_OK: twice as large */
 VBR_NODISCARD static inline vbr_answer vbr_records_renew_all(vbr_handle *handles, size_t count, uint32_t slots, uint32_t buckets,
@@ -233,8 +292,12 @@ VBR_NODISCARD static inline vbr_answer vbr_records_renew_all(vbr_handle *handles
     return told;
 }
 
-/* Renews a map as vbr_map_renew_all does, and carries its records over, as vbr_records_renew_all does for a set. It takes 20 bytes for
-   each slot besides, while it runs.
+/* Renews a map as vbr_map_renew_all does, and carries its records over to the slots that its keys have then.
+   Parameters: handles, count, slots, buckets, last_epoch, records.
+   - block: null, and calloc gives the memory of the fresh records; or another block than the old one, as vbr_records_open takes it.
+   Returns: what vbr_map_renew_all returns, though not tested in that order.
+   Leaves: what vbr_map_renew_all leaves; a refusal leaves the records as they were too.
+   Notes: It takes 20 bytes for each slot besides, while it runs. No other thread may use the map or the records meanwhile.
 
        vbr_answer renewed = vbr_map_records_renew_all(map, 2, 2048 + 2 * 64, 2048, VBR_MAX_EPOCH, &accounts, NULL); // VBR_OK: twice as large */
 VBR_NODISCARD static inline vbr_answer vbr_map_records_renew_all(vbr_map_handle *handles, size_t count, uint32_t slots,

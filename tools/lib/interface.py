@@ -5,6 +5,7 @@ import re
 import sys
 import textwrap
 
+import sections
 from crates import ROOT, text_of
 
 KINDS = ("set", "map")
@@ -96,19 +97,27 @@ def text_of_kind(source, kind):
 
 
 def comment_of(lines, kind, columns):
-    """A comment: prose that has marks is filled, and all else stays as it is laid out."""
+    """A comment: sections, and prose that has marks, are filled, and all else stays as it is laid out."""
     laid = []
     for part in "\n".join(lines).split("\n\n"):
-        if part.startswith("       ") or of_kind(part, kind) == part:
+        found = sections.pieces(re.sub(r"^/\*", "", part))
+        if part.startswith("       ") or of_kind(part, kind) == part and len(found) == 1:
             laid.append("\n".join(of_kind(it, kind) for it in part.split("\n")))
         else:
-            words = re.sub(r"^/\*", "", part).split()
-            laid.append(fill(of_kind(" ".join(words), kind), columns, "   " if laid else "/* "))
+            laid.append("\n".join(piece(mark, of_kind(text, kind), columns, laid) for mark, text in found if mark or text))
     return "\n\n".join(laid)
 
 
-def fill(text, columns, begin="/* "):
-    return textwrap.fill(text, columns, initial_indent=begin, subsequent_indent="   ", break_long_words=False, break_on_hyphens=False)
+def piece(mark, text, columns, before=True):
+    """A piece of a comment: a sentence, a section or an item of it, with the mark that it begins with."""
+    begin = "   " if before else "/* "
+    if mark:
+        begin = "   - " if mark == "-" else f"   {mark}: " if text else f"   {mark}:"
+    return fill(text, columns, begin, "     " if mark == "-" else "   ") if text else begin
+
+
+def fill(text, columns, begin="/* ", more="   "):
+    return textwrap.fill(text, columns, initial_indent=begin, subsequent_indent=more, break_long_words=False, break_on_hyphens=False)
 
 
 def declaration(begin, given, end, columns):
@@ -172,9 +181,7 @@ def text_of_call(call):
         return f"{call.comment}\n{declared(call.name, call.given, 'static inline ')}\n{old}"
     if call.within is None:
         return f"{call.comment}\n{declared(call.name, call.given)}"
-    each = " for each key" if call.returns == "void" else ""
-    returns = "" if call.returns == "void" else f" Returns what {call.name} returns."
-    prose = f"{call.within} as {call.name} does, within `steps` steps{each}, instead of the budget of the handle.{returns}"
+    prose = f"{call.within} within `steps` steps{' for each key' if call.returns == 'void' else ''}, as {call.name} does."
     example = "\n".join(f"       {it}" for it in call.example)
     within = f"{fill(prose, call.columns)}\n\n{example} */\n{declared(*call.export())}"
     return f"{call.comment}\n{declared(call.name, call.given, 'static inline ')}\n\n{within}"
