@@ -62,8 +62,7 @@
 
 namespace vbr {
 
-/* The most slots and buckets of a set, a last epoch that every shape takes, which means what VBR_MAX_EPOCH does, and the most handles
-   that open and open_with give; open_many gives more.
+/* VBR_MAX_SLOTS, VBR_MAX_BUCKETS and VBR_MAX_EPOCH of vbr.h, and the most handles that open and open_with give; open_many gives more.
 
        auto most = vbr::open(vbr::shape::for_keys(1024, vbr::max_few_handles), vbr::max_few_handles); */
 inline constexpr std::uint32_t max_slots = VBR_MAX_SLOTS;
@@ -72,7 +71,7 @@ inline constexpr std::uint64_t max_epoch = VBR_MAX_EPOCH;
 inline constexpr std::size_t max_few_handles = VBR_MAX_FEW_HANDLES;
 [[deprecated("max_few_handles")]] inline constexpr std::size_t max_handles = max_few_handles; /* the old name, for one version */
 
-/* The greatest last epoch of a set or a map with so many slots, as vbr_max_epoch; 0 where there can't be so many.
+/* What vbr_max_epoch returns.
 
        static_assert(vbr::max_epoch_for(16777215) == vbr::max_epoch); // more slots leave room for less */
 constexpr std::uint64_t max_epoch_for(std::uint32_t slots) noexcept {
@@ -156,24 +155,29 @@ struct shape {
        seeded.seed = vbr::random_seed(); // a renewal by this shape has another seed */
 inline std::uint64_t random_seed() noexcept { return vbr_random_seed(); }
 
-/* Why a call was refused. What each leaves is said at the call.
+/* Why a call was refused, in the words of vbr.h. What each leaves is said at the call there.
 
        if (full.error() == vbr::refusal::no_slot) other.give_slots_back(); // the other handle may keep free ones */
 enum class [[nodiscard]] refusal : std::int32_t {
-    out_of_steps = VBR_OUT_OF_STEPS, /* the budget is spent; no call was made; a greater one may help; a cursor keeps how far it has come */
-    no_slot = VBR_NO_SLOT,           /* the handle found no slot for a node; no call was made; insert, get_or_insert: the key is absent */
+    out_of_steps = VBR_OUT_OF_STEPS, /* the budget is spent; no call was made; a greater budget may help */
+    no_slot = VBR_NO_SLOT,           /* the handle found no slot for a node; no call was made */
     epoch_spent = VBR_EPOCH_SPENT,   /* a node is wanted and the last epoch is spent; no call was made; renew the set */
-    no_handle = VBR_NO_HANDLE,       /* the handle is empty; a lender has none */
+    no_handle = VBR_NO_HANDLE,       /* the handle, or one of them, is empty, or null where null is allowed; nothing was done; a lender
+                                        has none */
     on_loan = VBR_IN_USE,            /* of a lender, and of processes: a handle is on loan, or in a turn; all stays as it was */
-    bad_shape = VBR_BAD_SHAPE,       /* open, renew: a number of the shape is out of range */
-    bad_count = VBR_BAD_COUNT,       /* open: the number of handles is not from 1 to 64, of open_many to 65,536 */
-    no_memory = VBR_NO_MEMORY,       /* open: nothing was done; else all stays as it was */
-    lost = VBR_LOST,                 /* close: it was the last, and a pass is not there; no program is known to get it */
-    bad_keys = VBR_BAD_KEYS,         /* open_with: the keys do not ascend, or there are more than slots */
-    no_room = VBR_NO_ROOM,           /* renew: there are more keys than slots of the shape; open_in: the file is too short */
-    missing = VBR_MISSING,           /* of all handles: they are fewer than were opened with the set, or none */
-    mixed = VBR_MIXED,               /* of all handles: two of them are of different sets */
-    held = VBR_HELD                  /* a slot is held, and the call would take another one; of calls by a held slot: it isn't this handle's */
+    bad_shape = VBR_BAD_SHAPE,       /* slots, buckets or last_epoch is out of range; nothing was done */
+    bad_count = VBR_BAD_COUNT,       /* count is not from 1 to 64, of open_many to 65,536; nothing was done */
+    no_memory = VBR_NO_MEMORY,       /* there is no memory; handles stay as they were */
+    lost = VBR_LOST,                 /* the handle was the last, and a pass is missing; the set is gone, and its memory is freed. A
+                                        dropped handle gives its pass back, and a forgotten one keeps its set open, so no program is
+                                        known to get this */
+    bad_keys = VBR_BAD_KEYS,         /* the keys do not ascend, or there are more than slots; nothing was done */
+    no_room = VBR_NO_ROOM,           /* there is no room for all keys; handles stay as they were. A report says how many keys there are.
+                                        Of open_shared_in: the file is too short, and nothing was done */
+    missing = VBR_MISSING,           /* not all handles that were opened, each once; they stay as they were */
+    mixed = VBR_MIXED,               /* of all handles: two of them are of different sets; they stay as they were */
+    held = VBR_HELD                  /* a slot is in hand, and the call would take another one; or the call asks for one, and none is in
+                                        hand; nothing was done; of a call by a held slot, it isn't this handle's */
 };
 
 /* A refusal in words.
@@ -464,16 +468,14 @@ struct basic_map_report {
     std::uint32_t free = 0;   /* how many slots had no node in a list */
 };
 
-/* Where a walk stands: before the first key, or after the one that was given last. A copy keeps the place. With another handle, or
-   a set of another shape, the walk from there is another one, and does no harm.
+/* Where a walk stands, as vbr_cursor.
 
        vbr::cursor from; // before the first key */
 struct cursor {
     vbr_cursor raw = VBR_CURSOR_BEGIN;
 };
 
-/* Where an entry stands: its slot, and the birth of its node; of a map also its value. No other node that was ever in that slot has this
-   birth, so it names one entry, and no later one of the same key. It is good until the set is renewed or closed.
+/* Where an entry stands, as vbr_incarnation; only that of a map has a value.
 
        std::optional<vbr::map_incarnation> at = mine.get_entry(6).value(); // at->slot() is where 6 stands */
 template <class Value>
@@ -502,8 +504,8 @@ private:
     vbr_incarnation raw = {0, 0, 0};
 };
 
-/* A slot in hand, or none. Until a call makes it the node of a key nobody else has it, so the record that a program keeps beside it is
-   this handle's to write. It is moved and never copied, and puts the slot back where it ends. The handle stays where it is meanwhile.
+/* A slot in hand, as vbr_hold leaves it, or none. It is moved and never copied, and puts the slot back where it ends. The handle stays
+   where it is meanwhile.
 
        vbr::map_held slot = mine.hold().value();
        beside[slot.number()] = 7; // nobody else writes there */
@@ -528,7 +530,7 @@ public:
            if (!slot.is_held()) slot = mine.hold().value(); // a call by it was done */
     bool is_held() const noexcept { return handle != nullptr; }
 
-    /* The number of the slot, which is below `slots()` of the set.
+    /* The number of the slot.
 
            beside[slot.number()] = 7; // nobody else writes there */
     std::uint32_t number() const noexcept { return slot; }
@@ -869,7 +871,7 @@ public:
            if (mine.steps() != vbr::steps::ample()) return 1; // it was given another */
     vbr::steps steps() const noexcept { return vbr::steps{Kind::steps_of(&raw)}; }
 
-    /* Whether a key is there. It isn't const, since it changes what the handle owns.
+    /* Whether a key is there, by vbr_has. It isn't const, since it changes what the handle owns.
 
            if (*mine.has(7)) there++; // 7 was there during the call */
     result<bool> has(key_type key) noexcept { return has_within(key, this->steps()); }
@@ -877,9 +879,7 @@ public:
         return detail::yes_or_no(Kind::has(&raw, detail::word_of(key), budget.count()));
     }
 
-    /* Whether each of some keys is there: answers[i] is what `has` answers of keys[i], with this budget. Each is a call of its own,
-       and they are made in the order of the keys. It is for many keys of a set that is larger than the cache: their look-ups wait
-       for memory together.
+    /* Whether each of some keys is there, by vbr_has_all: answers[i] is what `has` answers of keys[i].
 
            mine.has_all(wanted.data(), wanted.size(), answers.data()); // answers[i] is that of wanted[i] */
     void has_all(const key_type *keys, std::size_t count, result<bool> *answers) noexcept {
@@ -893,8 +893,7 @@ public:
         });
     }
 
-    /* The next key of a walk, and of a map the next entry; none at the end. The cursor is then after it; where the call is refused
-       for want of steps, as among very many empty buckets, it keeps how far it has come.
+    /* The next key of a walk by vbr_next, and of a map the next entry; none at the end.
 
            auto next = mine.next(from);
            while (next == vbr::refusal::out_of_steps) next = mine.next(from); // from where it came to
@@ -907,42 +906,36 @@ public:
         return told == VBR_NO ? std::nullopt : std::optional<item_type>(Kind::item_of(words));
     }
 
-    /* The last epoch that the handle read in a call: 1 before its first, and 0 for an empty handle. Renew the set before it
-       comes to last_epoch, by renew_all.
+    /* What vbr_epoch returns.
 
            bool is_near = mine.epoch() + 1000 >= mine.last_epoch(); // then renew the set */
     std::uint64_t epoch() const noexcept { return Kind::epoch(&raw); }
 
-    /* What the set was opened with; 0 for an empty handle.
+    /* What the set was opened with, by vbr_last_epoch, vbr_slots and vbr_buckets.
 
            if (mine.slots() != shape.slots || mine.buckets() != shape.buckets) return 1; */
     std::uint64_t last_epoch() const noexcept { return Kind::last_epoch(&raw); }
     std::uint32_t slots() const noexcept { return Kind::slots(&raw); }
     std::uint32_t buckets() const noexcept { return Kind::buckets(&raw); }
 
-    /* A seed that spreads keys as those of the set are spread, as vbr_seed returns it.
+    /* What vbr_seed returns.
 
            again.seed = mine.seed(); // a shape whose sets have each key in the same bucket */
     std::uint64_t seed() const noexcept { return Kind::seed(&raw); }
 
-    /* How many keys the calls of the handle have added, less those that they took out. The first of the handles that were opened
-       together begins with the keys that the set opened with, the others with 0. While no call is under way the balances of all
-       handles of a set add up to the number of its keys; a handle takes its balance along when it is closed.
+    /* What vbr_balance returns. While no call is under way the balances of all handles of a set add up to the number of its keys; a
+       handle takes its balance along when it is closed.
 
            std::int64_t keys = both[0].balance() + both[1].balance(); // no call is under way */
     std::int64_t balance() const noexcept { return Kind::balance(&raw); }
 
-    /* Puts the slots that the handle keeps to itself into the pool that all handles share, where any of them finds them: how
-       many they were. It keeps none then; the next insert that adds a key takes some in reserve again. Call it of a handle that
-       inserts nothing for a time; one that is closed or ends does so by itself.
+    /* Gives the handle's slots back by vbr_give_slots_back, and says how many they were. One that is closed or ends does so by itself.
 
            std::uint32_t given = mine.give_slots_back(); // the other handles can have them now */
     std::uint32_t give_slots_back() noexcept { return Kind::give_slots_back(&raw); }
     [[deprecated("give_slots_back")]] std::uint32_t spare() noexcept { return give_slots_back(); } /* the old name, for one version */
 
-    /* Takes slots out of the pool that all handles share until the handle keeps `wanted` to itself, or 63 if that is less, and
-       returns how many it took: fewer only where it finds no more. A handle keeps up to 32 by itself, from its opening on:
-       vbr_reserve says how many, what they are for, and when to take more. give_slots_back does the opposite.
+    /* Takes slots in reserve by vbr_reserve, and says how many it took.
 
            std::uint32_t reserved = mine.reserve(32); // for its inserts to come */
     std::uint32_t reserve(std::uint32_t wanted) noexcept { return Kind::reserve(&raw, wanted); }
@@ -950,8 +943,7 @@ public:
     using held = basic_held<Kind>;
     using incarnation = basic_incarnation<typename Kind::value>;
 
-    /* Takes a slot in hand, as vbr_hold does. While one is held, calls that would take another one are refused with refusal::held;
-       look-ups, walks and removes go on.
+    /* Takes a slot in hand, by vbr_hold.
 
            vbr::map_held slot = mine.hold().value(); */
     result<held> hold() noexcept { return hold_within(this->steps()); }
@@ -962,7 +954,7 @@ public:
         return held(&raw, slot);
     }
 
-    /* Looks a key up, and tells where it stands; none where it is absent. Its steps are loads.
+    /* Where a key stands, by vbr_get_entry; none where it is absent.
 
            std::optional<vbr::map_incarnation> at = mine.get_entry(6).value(); // at->slot() is where 6 stands */
     result<std::optional<incarnation>> get_entry(key_type key) noexcept { return get_entry_within(key, this->steps()); }
@@ -973,13 +965,12 @@ public:
         return told == VBR_NO ? std::nullopt : std::optional<incarnation>(at);
     }
 
-    /* Whether a slot is still that of the entry that was found there, in one step, as vbr_is_still says: what was copied from beside it
-       since then is of that entry, whole.
+    /* Whether a slot is still that of the entry that was found there, by vbr_is_still.
 
            if (mine.is_still(*at).value()) copied++; // what was copied since at was found is of this entry */
     result<bool> is_still(const incarnation &at) noexcept { return detail::yes_or_no(Kind::is_still(&raw, &at.raw)); }
 
-    /* Takes a key out if it still has the very entry that was found. Else nothing is changed.
+    /* Takes a key out if it still has the very entry that was found, by vbr_remove_entry.
 
            if (mine.remove_entry(7, *at).value()) taken_out++; // nobody had changed 7 since it was found */
     result<bool> remove_entry(key_type key, const incarnation &at) noexcept { return remove_entry_within(key, at, this->steps()); }
@@ -987,7 +978,7 @@ public:
         return detail::yes_or_no(Kind::remove_entry(&raw, detail::word_of(key), &at.raw, budget.count()));
     }
 
-    /* The next key of a walk, and where it stands; none at the end. It is as `next` otherwise.
+    /* The next key of a walk, and where it stands, by vbr_next_at; none at the end.
 
            auto stands = mine.next_at(from).value(); // a key, and its incarnation */
     result<std::optional<std::pair<key_type, incarnation>>> next_at(cursor &from) noexcept { return next_at_within(from, this->steps()); }
@@ -1042,7 +1033,7 @@ protected:
     using kind = detail::set_of<Key>;
 
 public:
-    /* Adds a key: true if it was absent.
+    /* Adds a key by vbr_insert: true if it was absent.
 
            if (mine.insert(6).value()) count++; // this call added 6 */
     result<bool> insert(Key key) noexcept { return insert_within(key, this->steps()); }
@@ -1052,7 +1043,7 @@ public:
 
     using typename basic_pass<detail::set_of<Key>>::held;
 
-    /* Adds a key by the slot that is held: true if it was absent, and the slot is then its node. Else the slot is held still.
+    /* Adds a key by the slot that is held, and vbr_insert_held: true if the key was absent.
 
            if (mine.insert(std::move(slot), 7).value()) count++; // 7 stands in this slot */
     result<bool> insert(held &&slot, Key key) noexcept { return insert_within(std::move(slot), key, this->steps()); }
@@ -1062,7 +1053,7 @@ public:
             [](vbr_answer told) { return told == VBR_YES; }));
     }
 
-    /* Takes a key out: true if it was there.
+    /* Takes a key out by vbr_remove: true if it was there.
 
            if (mine.remove(6).value()) taken++; // this call took 6 out */
     result<bool> remove(Key key) noexcept { return remove_within(key, this->steps()); }
@@ -1095,7 +1086,7 @@ public:
     using value_type = Value;
     using found = result<std::optional<Value>>; /* the value of a key, or none where it is absent */
 
-    /* Adds a key with its value: true if the key was absent. If it was there, it keeps the value that it has.
+    /* Adds a key with its value by vbr_map_insert: true if the key was absent.
 
            if (mine.insert(6, 60).value()) added++; // this call stored 60 for 6 */
     result<bool> insert(Key key, Value value) noexcept { return insert_within(key, value, this->steps()); }
@@ -1106,8 +1097,7 @@ public:
     using typename basic_pass<detail::map_of<Key, Value>>::held;
     using typename basic_pass<detail::map_of<Key, Value>>::incarnation;
 
-    /* Adds a key with its value by the slot that is held: true if the key was absent, and the slot is then its node. Else the slot is held
-       still.
+    /* Adds a key with its value by the slot that is held, and vbr_map_insert_held: true if the key was absent.
 
            if (mine.insert(std::move(slot), 7, 70).value()) added++; // 7 stands in this slot */
     result<bool> insert(held &&slot, Key key, Value value) noexcept { return insert_within(std::move(slot), key, value, this->steps()); }
@@ -1117,8 +1107,7 @@ public:
             [](vbr_answer told) { return told == VBR_YES; }));
     }
 
-    /* Gives a key this value by the slot that is held, in place of the very entry that was found: true if the key still had it. Else
-       nothing is changed, and the slot is held still.
+    /* Gives a key this value by the slot that is held, and vbr_map_replace_held: true if the key still had the entry that was found.
 
            if (mine.replace(std::move(slot), 7, *at, 71).value()) changed++; // nobody had changed 7 since it was found */
     result<bool> replace(held &&slot, Key key, const incarnation &at, Value value) noexcept {
@@ -1131,8 +1120,7 @@ public:
             [](vbr_answer told) { return told == VBR_YES; }));
     }
 
-    /* Gives a key this value by the slot that is held, whether it is there or not, and returns the one that it had. Where it is refused the
-       slot is held still.
+    /* Gives a key this value by the slot that is held, and vbr_map_put_held, and returns the one that it had.
 
            if (mine.put(std::move(slot), 7, 72).has_value()) puts++; // 7 stands in this slot */
     found put(held &&slot, Key key, Value value) noexcept { return put_within(std::move(slot), key, value, this->steps()); }
@@ -1144,19 +1132,19 @@ public:
         return detail::value_by<Value>(told, had);
     }
 
-    /* Takes a key out, and gives its value.
+    /* Takes a key out by vbr_map_remove, and gives its value.
 
            std::optional<std::uint64_t> taken = mine.remove(6).value(); // what 6 had */
     found remove(Key key) noexcept { return remove_within(key, this->steps()); }
     found remove_within(Key key, vbr::steps budget) noexcept { return found_by(vbr_map_remove_within, budget, key); }
 
-    /* The value of a key. As `has` it isn't const.
+    /* The value of a key, by vbr_map_get. As `has` it isn't const.
 
            if (std::optional<std::uint64_t> got = mine.get(6).value()) sum += *got; */
     found get(Key key) noexcept { return get_within(key, this->steps()); }
     found get_within(Key key, vbr::steps budget) noexcept { return found_by(vbr_map_get_within, budget, key); }
 
-    /* The value of each of some keys: values[i] is what `get` answers of keys[i], as `has_all` asks for keys alone.
+    /* The value of each of some keys, by vbr_map_get_all: values[i] is what `get` answers of keys[i].
 
            mine.get_all(wanted.data(), wanted.size(), values.data()); // values[i] is that of wanted[i] */
     void get_all(const Key *keys, std::size_t count, found *values) noexcept { get_all_within(keys, count, values, this->steps()); }
@@ -1168,8 +1156,7 @@ public:
         });
     }
 
-    /* Gives a key that is there another value, and returns the one that it had; if it was absent nothing is changed. No call finds
-       the key absent meanwhile.
+    /* Gives a key that is there another value by vbr_map_replace, and returns the one that it had; none if it was absent.
 
            std::optional<std::uint64_t> was = mine.replace(6, 61).value(); // 6 had it, and has 61 */
     found replace(Key key, Value value) noexcept { return replace_within(key, value, this->steps()); }
@@ -1177,7 +1164,7 @@ public:
         return found_by(vbr_map_replace_within, budget, key, value);
     }
 
-    /* Gives a key this value, and returns the one that it had; if it was absent it is inserted.
+    /* Gives a key this value by vbr_map_put, and returns the one that it had; none if it was absent.
 
            if (mine.put(7, 70).has_value()) puts++; // 7 has 70, whether it was there or not */
     found put(Key key, Value value) noexcept { return put_within(key, value, this->steps()); }
@@ -1185,7 +1172,7 @@ public:
         return found_by(vbr_map_put_within, budget, key, value);
     }
 
-    /* The value of a key; if it was absent there is none, and it is inserted with this one.
+    /* The value of a key, by vbr_map_get_or_insert; none if it was absent.
 
            std::uint64_t has = mine.get_or_insert(8, 80).value().value_or(80); */
     found get_or_insert(Key key, Value value) noexcept { return get_or_insert_within(key, value, this->steps()); }
@@ -1193,7 +1180,7 @@ public:
         return found_by(vbr_map_get_or_insert_within, budget, key, value);
     }
 
-    /* Gives a key another value if it has the one that is expected, by its bits. Else nothing is changed.
+    /* Gives a key another value if it has the one that is expected, by its bits and vbr_map_compare_exchange.
 
            if (*mine.compare_exchange(6, 61, 62)) changed++; // 6 had 61, and has 62 */
     result<compared<Value>> compare_exchange(Key key, Value expected, Value value) noexcept {
@@ -1203,7 +1190,7 @@ public:
         return compared_by(vbr_map_compare_exchange_within, budget, key, expected, value);
     }
 
-    /* Takes a key out if it has the value that is expected, by its bits. Else nothing is changed.
+    /* Takes a key out if it has the value that is expected, by its bits and vbr_map_remove_if.
 
            vbr::compared<std::uint64_t> left = mine.remove_if(6, 60).value(); // not done: 6 has *left.found, and is still there */
     result<compared<Value>> remove_if(Key key, Value expected) noexcept { return remove_if_within(key, expected, this->steps()); }
@@ -1306,8 +1293,7 @@ public:
         return close_last(detail::report_room<kind>(shared->slots));
     }
 
-    /* Tells what is in a set or a map by all its handles, as the close of the last one does. No other thread is in a call of one of
-       them. They stay as they are, and go on. It takes the memory of a close.
+    /* What is in a set or a map, by all its handles and vbr_report_all.
 
            vbr::report now = vbr::handle::report_all(both).value(); // now.keys is {5, 7} */
     static result<report_type> report_all(std::vector<basic_handle> &handles) {
@@ -1323,25 +1309,22 @@ public:
         return room.report();
     }
 
-    /* The slots of what is in a set or a map, by all its handles: slots[i] is that of item i of the report that is made now. A renewal
-       after it, with no call in between, gives item i slot i. It takes the memory of a close, and 4 bytes for each slot besides.
+    /* The slots of what is in a set or a map, by all its handles and vbr_report_slots: slots[i] is that of item i of the report that is
+       made now. It takes 4 bytes for each slot besides.
 
            std::vector<std::uint32_t> slots = vbr::map_handle::report_slots(both).value(); */
     static result<std::vector<std::uint32_t>> report_slots(std::vector<basic_handle> &handles) {
         return report_slots(handles.size(), in_order(handles));
     }
 
-    /* Lets all handles of a set or a map go on over a fresh one of this shape, with the keys that were in it, or the entries: at
-       epoch 1, and larger where there are to be more of them. No other thread is in a call of one of them. The balance of the first
-       handle is the number of keys then, and that of the others is 0. The fresh set is opened before the other one is given up.
+    /* Lets all handles of a set or a map go on over a fresh one of this shape, by vbr_renew_all.
 
            vbr::result<void> renewed = vbr::handle::renew_all(both, vbr::shape::for_keys(4096, 2)); */
     static result<void> renew_all(std::vector<basic_handle> &handles, const shape &wanted) noexcept {
         return renew_all(handles.size(), in_order(handles), wanted);
     }
 
-    /* Ends these handles without a report, and leaves none of them: with the last of a set its memory is freed. It takes no memory, and
-       no time for the keys.
+    /* Ends these handles without a report, as vbr_end_all does, and leaves none of them.
 
            vbr::handle::end_all(handles); // nobody wants to know what was in it */
     static void end_all(std::vector<basic_handle> &handles) noexcept { handles.clear(); }

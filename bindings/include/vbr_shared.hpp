@@ -51,7 +51,7 @@ constexpr shape shape_for_processes(std::uint32_t keys, std::size_t handles, std
     return made;
 }
 
-/* How many bytes the mapping of a set or a map of this shape has, with so many handles.
+/* What vbr_shared_size returns.
 
        if (ftruncate(file, static_cast<off_t>(vbr::shared_size(shape, 2))) != 0) return 1; */
 inline std::size_t shared_size(const shape &wanted, std::size_t handles) noexcept {
@@ -210,10 +210,8 @@ public:
     using item_type = typename kind::item;
     using report_type = typename kind::report;
 
-    /* Opens an empty set, or one of these items, whose keys ascend, with `count` handles, from 1 to max_many_handles. It is refused with
-       bad_shape, bad_count, bad_keys or no_memory, tested in this order, and nothing was done then. A seed can't be chosen: a shape
-       that has one is a bad_shape. It maps shared_size bytes, of which the system gives pages as they are touched; where it has none
-       left by then it ends the process by a signal.
+    /* Opens an empty set, or one of these items, whose keys ascend, by vbr_open_shared. A seed can't be chosen: a shape that has one is a
+       bad_shape.
 
            auto by_address = vbr::shared<ports>::open(vbr::shape_for_processes(1024, 2, 1), 2).value(); */
     static result<basic_shared> open(const shape &wanted, std::size_t count) { return open_with(wanted, count, nullptr, 0); }
@@ -231,9 +229,7 @@ public:
             items, [&](const item_type *first, std::size_t many) { return open_with(wanted, count, first, many); });
     }
 
-    /* The same in a file, which is open for reading and writing and has shared_size bytes: one of memfd_create, or of a tmpfs with large
-       pages. It may be closed afterwards. What was in it is lost. It is refused with no_room where the file is shorter, and with
-       no_memory where it can't be mapped; then nothing of it was written. Nobody makes it shorter while a process has the set.
+    /* The same in a file, by vbr_open_shared_in.
 
            auto seen = vbr::shared<ports>::open_in(file, shape, 2); */
     static result<basic_shared> open_in(int file, const shape &wanted, std::size_t count, const item_type *items = nullptr,
@@ -268,10 +264,9 @@ public:
            vbr::map_claim mine = sessions.claim(1);            // the right to make calls by handle 1 */
     claim_type claim(std::size_t number) const noexcept { return number < count ? claim_type(all + number, number) : claim_type(); }
 
-    /* Takes over the handle of a process that is dead, as waitpid has told; then it may be claimed anew. True: the process died in no
-       turn, and the handle is as its last turn left it, with its slots. False: it died in a turn, whose last call was made or it wasn't.
-       The handle goes on without the slots that it kept, of which at most slots_of_a_death are lost until the next renewal. It is
-       refused with no_handle where there is no such handle. All others may be in calls meanwhile.
+    /* Takes over the handle of a process that is dead, by vbr_inherit; then it may be claimed anew. True: the process died in no turn.
+       False: it died in one, and at most slots_of_a_death slots are lost until the next renewal. It is refused with no_handle where there
+       is no such handle, too.
 
            bool is_whole = sessions.inherit(1).value();            // false: it died in a turn; handle 1 is for the next child */
     result<bool> inherit(std::size_t number) noexcept {
@@ -279,11 +274,10 @@ public:
         return detail::yes_or_no(vbr_inherit(all + number));
     }
 
-    /* Lets all handles go on over a fresh set of this shape, with the keys that were in it, or the entries: at epoch 1, and with the
-       slots that deaths have cost. Any process does it, while no process is in a turn; see to that first. All go on with the claims that
-       they have. Else all is as it was: bad_shape, as of open; no_handle; on_loan, where a handle is marked, by a turn or since a
-       process died in one and nobody has inherited it; no_room, there are more keys than slots; no_memory, the mapping has no room.
-       It has room for the shape of the opening.
+    /* Lets all handles go on over a fresh set of this shape, by vbr_renew_shared. Any process does it, while no process is in a turn; see to
+       that first. All go on with the claims that they have. It is refused with bad_shape, as of open; no_handle; on_loan, where a handle
+       is marked, by a turn or since a process died in one and nobody has inherited it; no_room or no_memory. The mapping has room for the
+       shape of the opening.
 
            vbr::result<void> renewed = sessions.renew(shape); // no slot is lost any more */
     result<void> renew(const shape &wanted) noexcept {
