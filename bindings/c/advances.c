@@ -6,13 +6,7 @@
    sixteen at a time. A mix inserts and removes keys at random. The epoch of the report tells how often it was advanced. An
    insert advances it where each slot of the handle's own pool was retired at the epoch that is, so few do: a handle keeps 32
    slots in reserve. */
-#include "vbr.h"
-
-#include <pthread.h>
-#include <stdio.h>
-#include <stdlib.h>
-
-#define CHECK(x) do { if (!(x)) { fprintf(stderr, "advances.c:%d: %s\n", __LINE__, #x); exit(1); } } while (0)
+#include "client.h"
 
 enum { MAX_THREADS = 4, MOST = 1024 };
 
@@ -27,9 +21,7 @@ static struct worker workers[MAX_THREADS];
 static long inserts = 200000;
 
 static uint64_t next_key(struct worker *w) {
-    w->random ^= w->random << 13;
-    w->random ^= w->random >> 7;
-    w->random ^= w->random << 17;
+    next(&w->random);
     return (w->random >> 32) * w->keys >> 32;
 }
 
@@ -67,7 +59,6 @@ static void *mix(void *of) {
 /* Of a hundred inserts, how many advanced the epoch. */
 static double share(const char *what, int threads, uint32_t kept, uint32_t batch) {
     vbr_handle handles[MAX_THREADS] = {{0}};
-    pthread_t ids[MAX_THREADS];
     uint64_t none[1] = {0};
     vbr_report report = {0};
     long made = 0;
@@ -76,9 +67,8 @@ static double share(const char *what, int threads, uint32_t kept, uint32_t batch
     for (int i = 0; i < threads; i++) {
         workers[i] = (struct worker){.handle = handles[i], .random = 88172645463325252u + (uint64_t)i, .kept = kept,
                                      .batch = batch, .keys = keys, .wanted = inserts / threads};
-        CHECK(!pthread_create(&ids[i], NULL, batch ? keep_newest : mix, &workers[i]));
     }
-    for (int i = 0; i < threads; i++) CHECK(!pthread_join(ids[i], NULL));
+    run_threads(threads, batch ? keep_newest : mix, workers, sizeof *workers);
     for (int i = 0; i < threads; i++) {
         made += workers[i].inserts;
         /* the keys aren't wanted: the last handle gets the rest of the report, and is dropped */

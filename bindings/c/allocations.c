@@ -1,14 +1,9 @@
 /* Each allocation is refused in turn, and then all from some allocation on; nothing is lost or leaked.
    Link with -Wl,--wrap=malloc,--wrap=calloc,--wrap=realloc,--wrap=free. */
-#include "vbr.h"
+#include "client.h"
 #ifndef OF_VALUES
 #include "vbr_records.h"
 #endif
-
-#include <stdio.h>
-#include <stdlib.h>
-
-#define CHECK(x) do { if (!(x)) { fprintf(stderr, "allocations.c:%d: %s\n", __LINE__, #x); return 1; } } while (0)
 
 void *__real_malloc(size_t size);
 void *__real_calloc(size_t count, size_t size);
@@ -169,7 +164,7 @@ static int carried_with(long n, int *done) { return *done = n >= 0, 0; }
 #endif
 
 /* A set whose handles are given up asks for no memory, and frees all. */
-static int ended(void) {
+static void ended(void) {
     vbr_handle handle[3] = {{0}};
     static const uint64_t opening[2] = {6, 7};
     CHECK(vbr_open_with(handle, 3, 8, 2, 100, opening, 2) == VBR_OK && blocks > 0);
@@ -177,11 +172,10 @@ static int ended(void) {
     vbr_end_all(handle, 3);
     CHECK(allowed == 0 && blocks == 0);
     allowed = -1;
-    return 0;
 }
 
 int main(void) {
-    if (ended()) return 1;
+    ended();
     for (stays_short = 0; stays_short < 2; stays_short++) {
         int done = 0;
         for (long n = 0; !done; n++)

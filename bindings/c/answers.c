@@ -1,15 +1,12 @@
 /* Each answer of the interface once, in one thread. */
-#include "vbr.h"
+#include "client.h"
 
-#include <stdio.h>
 #include <string.h>
-
-#define CHECK(x) do { if (!(x)) { fprintf(stderr, "answers.c:%d: %s\n", __LINE__, #x); return 1; } } while (0)
 
 static uint64_t keys[4];
 static vbr_report report;
 
-static int empty_handles(void) {
+static void empty_handles(void) {
     vbr_handle none = {0};
     CHECK(vbr_insert(&none, 1) == VBR_NO_HANDLE);
     CHECK(vbr_remove(&none, 1) == VBR_NO_HANDLE);
@@ -19,11 +16,10 @@ static int empty_handles(void) {
     report.live = keys[0] = 77;
     CHECK(vbr_close(NULL, keys, 4, &report) == VBR_NO_HANDLE && keys[0] == 77 && report.live == 77);
     vbr_drop(NULL);
-    return 0;
 }
 
 /* Each answer in words, and a number that is none. */
-static int words(void) {
+static void words(void) {
     static const char *const texts[] = {"no; of an opening or a renewal, done", "out of steps", "no slot", "the last epoch is spent", "no handle", "a handle is in use",
         "a number is out of range", "too few handles, or too many", "no memory", "the set is lost", "the keys do not ascend, or are too many",
         "no room for the keys, or in the file", "a handle is missing", "handles of different sets"};
@@ -31,11 +27,10 @@ static int words(void) {
     CHECK(!strcmp(vbr_answer_text(VBR_YES), "yes") && !strcmp(vbr_answer_text(VBR_OTHER), "another value"));
     CHECK(!strcmp(vbr_answer_text(VBR_HELD), "a slot is in hand, or none is"));
     CHECK(!strcmp(vbr_answer_text((vbr_answer)-15), "no answer of this library"));
-    return 0;
 }
 
 /* Handles of two sets, and an empty one, given up at once: the one that is left of the second set is the last, and keeps its budget. */
-static int ended(void) {
+static void ended(void) {
     vbr_handle several[5] = {{0}, {0}, {.steps = 3000}, {0}, {0}}, rest = {0};
     CHECK(vbr_open(several, 2, 8, 8, 1000) == VBR_OK && vbr_open(&several[2], 2, 8, 8, 1000) == VBR_OK);
     CHECK(vbr_insert(&several[0], 5) == VBR_YES && vbr_insert(&several[2], 6) == VBR_YES && several[2].steps == 3000);
@@ -45,10 +40,9 @@ static int ended(void) {
     for (int i = 0; i < 5; i++) CHECK(vbr_has(&several[i], 5) == VBR_NO_HANDLE);
     CHECK(vbr_has(&rest, 6) == VBR_YES && vbr_close(&rest, keys, 4, &report) == VBR_YES && report.live == 1 && keys[0] == 6 && rest.steps == 3000);
     vbr_end_all(several, 0);
-    return 0;
 }
 
-static int refused_openings(void) {
+static void refused_openings(void) {
     static vbr_handle many[65];
     CHECK(vbr_open(many, 2, 0, 8, 1000) == VBR_BAD_SHAPE);
     CHECK(vbr_open(many, 2, VBR_MAX_SLOTS + 1, 8, 1000) == VBR_BAD_SHAPE);
@@ -66,7 +60,6 @@ static int refused_openings(void) {
     CHECK(vbr_open(many, 64, (1u << 24) - 1, 1u << 24, VBR_MAX_EPOCH) == VBR_OK && vbr_last_epoch(&many[0]) == VBR_MAX_EPOCH);
     for (int i = 0; i < 63; i++) CHECK(vbr_close(&many[i], keys, 4, &report) == VBR_NO);
     CHECK(vbr_close(&many[63], keys, 4, &report) == VBR_YES && report.free == (1u << 24) - 1);
-    return 0;
 }
 
 /* Whether a set of so many slots opens with a last epoch, and has the wanted one then. */
@@ -80,7 +73,7 @@ static int opens_with(uint32_t slots, uint64_t last_epoch, uint64_t wanted) {
 
 /* The greatest last epoch of so many slots is taken, and one more is refused; VBR_MAX_EPOCH is taken with any number of slots. That a
    shape is in range is seen without memory: an opening of no handle is then refused for that, which is tested next. */
-static int greatest_epochs(void) {
+static void greatest_epochs(void) {
     static const uint32_t some[] = {1, 2, 4095, 4096, (1u << 24) - 1, 1u << 24, 1u << 25, 1u << 30, VBR_MAX_SLOTS};
     vbr_handle none = {0};
     for (size_t i = 0; i < sizeof some / sizeof *some; i++) {
@@ -95,10 +88,9 @@ static int greatest_epochs(void) {
 #ifndef OF_VALUES /* of a map, 2.7 GB */
     CHECK(opens_with(1u << 25, vbr_max_epoch(1u << 25), (UINT64_C(1) << 37) - 1));
 #endif
-    return 0;
 }
 
-static int calls_and_closes(void) {
+static void calls_and_closes(void) {
     vbr_handle two[2] = {{0}};
     CHECK(vbr_open(two, 2, 2, 1, 3) == VBR_OK);
     CHECK(vbr_insert(&two[0], 7) == VBR_YES && vbr_insert(&two[1], 7) == VBR_NO);
@@ -116,10 +108,9 @@ static int calls_and_closes(void) {
     keys[2] = 98;
     CHECK(vbr_close(&two[1], keys, report.live, &report) == VBR_YES && keys[0] == 5 && keys[1] == 7 && keys[2] == 98);
     CHECK(report.live == 2 && report.marked == 0 && report.free == 0 && report.epoch == 1);
-    return 0;
 }
 
-static int refused_keys(void) {
+static void refused_keys(void) {
     static const uint64_t some[3] = {2, 5, 9}, equal[2] = {5, 5}, falling[3] = {5, 9, 2};
     static vbr_handle many[65];
     CHECK(vbr_open_with(many, 2, 0, 2, 10, some, 3) == VBR_BAD_SHAPE);
@@ -129,10 +120,9 @@ static int refused_keys(void) {
     CHECK(vbr_open_with(many, 2, 4, 2, 10, falling, 3) == VBR_BAD_KEYS);
     CHECK(vbr_open_with(many, 2, 2, 2, 10, some, 3) == VBR_BAD_KEYS);
     for (int i = 0; i < 65; i++) CHECK(vbr_has(&many[i], 5) == VBR_NO_HANDLE);
-    return 0;
 }
 
-static int opened_with_keys(void) {
+static void opened_with_keys(void) {
     static const uint64_t some[3] = {2, 5, 9}, ends[2] = {0, UINT64_MAX}, equal[2] = {5, 5};
     vbr_handle two[2] = {{0}};
     CHECK(vbr_open_with(two, 2, 4, 2, 10, some, 3) == VBR_OK);
@@ -148,10 +138,9 @@ static int opened_with_keys(void) {
     CHECK(keys[0] == 0 && keys[1] == UINT64_MAX);
     CHECK(vbr_open_with(two, 1, 2, 1, 1, some, 0) == VBR_OK);
     CHECK(vbr_close(&two[0], keys, 4, &report) == VBR_YES && report.live == 0 && report.free == 2);
-    return 0;
 }
 
-static int spent_epoch(void) {
+static void spent_epoch(void) {
     vbr_handle one = {0};
     CHECK(vbr_open(&one, 1, 1, 1, 1) == VBR_OK);
     int32_t code = vbr_insert(&one, 1);
@@ -162,10 +151,9 @@ static int spent_epoch(void) {
     CHECK(code == VBR_EPOCH_SPENT && vbr_remove(&one, 1) == VBR_NO);
     for (int i = 0; i < 2; i++) CHECK(vbr_has(&one, 1) == VBR_NO);
     CHECK(vbr_close(&one, keys, 0, &report) == VBR_YES && report.live == 0);
-    return 0;
 }
 
-static int shown_numbers(void) {
+static void shown_numbers(void) {
     vbr_handle two[2] = {{0}};
     CHECK(vbr_version() == VBR_VERSION);
     CHECK(vbr_epoch(&two[0]) == 0 && vbr_last_epoch(&two[0]) == 0);
@@ -183,10 +171,9 @@ static int shown_numbers(void) {
     CHECK(vbr_close(&two[0], keys, 4, &report) == VBR_NO && vbr_epoch(&two[0]) == 0 && vbr_slots(&two[0]) == 0);
     uint64_t epoch = vbr_epoch(&two[1]);
     CHECK(vbr_close(&two[1], keys, 4, &report) == VBR_YES && report.epoch == epoch);
-    return 0;
 }
 
-static int dropped_handles(void) {
+static void dropped_handles(void) {
     vbr_handle three[3] = {{0}};
     CHECK(vbr_open(three, 3, 8, 2, 100) == VBR_OK);
     CHECK(vbr_insert(&three[0], 3) == VBR_YES);
@@ -201,11 +188,10 @@ static int dropped_handles(void) {
     CHECK(vbr_close(&three[2], keys, 4, &report) == VBR_NO_HANDLE);
     CHECK(vbr_open(three, 3, 8, 2, 100) == VBR_OK);
     for (int i = 0; i < 3; i++) vbr_drop(&three[i]);
-    return 0;
 }
 
 /* A handle that a program forgets: its pass isn't lost, and the set stays open, so no other close is the last. */
-static int forgotten_handle(void) {
+static void forgotten_handle(void) {
     vbr_handle two[2] = {{0}};
     CHECK(vbr_open(two, 2, 8, 2, 100) == VBR_OK && vbr_insert(&two[0], 5) == VBR_YES);
     vbr_handle forgotten = two[0];
@@ -213,10 +199,9 @@ static int forgotten_handle(void) {
     CHECK(vbr_close_all(&two[1], 1, keys, 4, &report) == VBR_MISSING);
     CHECK(vbr_close(&two[1], keys, 4, &report) == VBR_NO && report.live == 77);
     vbr_drop(&forgotten); /* the set ends here, and not before */
-    return 0;
 }
 
-static int closed_at_once(void) {
+static void closed_at_once(void) {
     vbr_handle three[3] = {{0}}, other[2] = {{0}};
     CHECK(vbr_close_all(three, 0, keys, 4, &report) == VBR_MISSING);
     CHECK(vbr_close_all(three, 3, keys, 4, &report) == VBR_NO_HANDLE);
@@ -238,13 +223,11 @@ static int closed_at_once(void) {
     CHECK(vbr_open(turned, 2, 8, 2, 100) == VBR_OK && vbr_close(&turned[0], keys, 4, &report) == VBR_NO);
     CHECK(vbr_close_all(&turned[1], 1, keys, 4, &report) == VBR_MISSING);
     CHECK(vbr_close(&turned[1], keys, 4, &report) == VBR_YES && report.live == 0);
-    return 0;
 }
 
 int main(void) {
-    if (words() || ended() || empty_handles() || refused_openings() || greatest_epochs() || refused_keys() || opened_with_keys() || calls_and_closes() ||
-        spent_epoch() || shown_numbers() || dropped_handles() || forgotten_handle() || closed_at_once())
-        return 1;
+    words(), ended(), empty_handles(), refused_openings(), greatest_epochs(), refused_keys(), opened_with_keys(), calls_and_closes(),
+        spent_epoch(), shown_numbers(), dropped_handles(), forgotten_handle(), closed_at_once();
     puts("answers in C: passed");
     return 0;
 }

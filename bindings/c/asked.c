@@ -3,13 +3,7 @@
        asked [ROUNDS [FAULT]]
 
    With FAULT 1 one of them looks a key up by it meanwhile: a program that is wrong, for ThreadSanitizer to find. */
-#include "vbr.h"
-
-#include <pthread.h>
-#include <stdio.h>
-#include <stdlib.h>
-
-#define CHECK(x) do { if (!(x)) { fprintf(stderr, "asked.c:%d: %s\n", __LINE__, #x); exit(1); } } while (0)
+#include "client.h"
 
 enum { THREADS = 4, SLOTS = 8 + 64, BUCKETS = 8 };
 

@@ -1,15 +1,11 @@
 /* Balances, which add up to the number of keys, and sets and maps that are reported and renewed by all their handles: each answer
    of these calls, in one thread. */
-#include "vbr.h"
-
-#include <stdio.h>
-
-#define CHECK(x) do { if (!(x)) { fprintf(stderr, "balances.c:%d: %s\n", __LINE__, #x); return 1; } } while (0)
+#include "client.h"
 
 static vbr_report report;
 
 /* What is counted: calls that are answered VBR_YES, and no others. */
-static int counts(void) {
+static void counts(void) {
     static const uint64_t some[3] = {2, 5, 9};
     vbr_handle handle[2] = {{0}}, none = {0};
     CHECK(vbr_balance(&none) == 0);
@@ -23,11 +19,10 @@ static int counts(void) {
     int64_t keys = vbr_balance(&handle[0]) + vbr_balance(&handle[1]); // no call is under way
     CHECK(keys == 2);
     for (int i = 0; i < 2; i++) vbr_drop(&handle[i]);
-    return 0;
 }
 
 /* A report that leaves the handles open, and each refusal of it. */
-static int reports(void) {
+static void reports(void) {
     vbr_handle handle[2] = {{0}}, other = {0};
     uint64_t keys[8] = {0};
     CHECK(vbr_open(handle, 2, 1024 + 2 * 64, 1024, VBR_MAX_EPOCH) == VBR_OK);
@@ -48,11 +43,10 @@ static int reports(void) {
     CHECK(vbr_report_all(handle, 2, keys, 8, &report) == VBR_YES && report.live == 1 && keys[0] == 5);
     CHECK(vbr_close_all(handle, 2, keys, 8, &report) == VBR_YES && report.live == 1 && keys[0] == 5);
     vbr_drop(&other);
-    return 0;
 }
 
 /* Handles that go on over a fresh set of another shape, and each refusal, after which they go on as they were. */
-static int renewals(void) {
+static void renewals(void) {
     vbr_handle handle[2] = {{0}}, other = {0};
     uint64_t keys[8] = {0};
     CHECK(vbr_open(handle, 2, 4, 1, 3) == VBR_OK);
@@ -75,11 +69,10 @@ static int renewals(void) {
     CHECK(vbr_insert(&handle[1], 9) == VBR_YES);
     CHECK(vbr_close_all(handle, 2, keys, 8, &report) == VBR_YES && report.live == 2 && keys[0] == 2 && keys[1] == 9);
     vbr_drop(&other);
-    return 0;
 }
 
 /* The same of a map, whose values go along. */
-static int of_maps(void) {
+static void of_maps(void) {
     static const vbr_entry some[2] = {{2, 20}, {5, 50}};
     vbr_map_handle map[2] = {{0}};
     vbr_entry entries[8] = {{0}};
@@ -101,11 +94,10 @@ static int of_maps(void) {
     CHECK(vbr_map_get(&map[1], 9, &value) == VBR_YES && value == 91 && vbr_map_slots(&map[0]) == 2048 + 2 * 64);
     CHECK(vbr_map_close_all(map, 2, entries, 8, &report) == VBR_YES && report.live == 3);
     CHECK(entries[0].value == 51 && entries[1].key == 7 && entries[1].value == 72 && entries[2].value == 91);
-    return 0;
 }
 
 int main(void) {
-    if (counts() || reports() || renewals() || of_maps()) return 1;
+    counts(), reports(), renewals(), of_maps();
     puts("balances that add up, reports and renewals by all handles, of sets and maps");
     return 0;
 }

@@ -1,12 +1,8 @@
 /* Look-ups in batches, of sets and of maps: rows that are worked by hand, random ones against single calls, and batches while
    other threads change other keys. */
-#include "vbr.h"
+#include "client.h"
 
-#include <pthread.h>
 #include <stdatomic.h>
-#include <stdio.h>
-
-#define CHECK(x) do { if (!(x)) { fprintf(stderr, "batches.c:%d: FAILED: %s\n", __LINE__, #x); return 1; } } while (0)
 
 enum { MANY = 100, THREADS = 4, RANGE = 4096, BATCHES = 20000 };
 
@@ -15,7 +11,7 @@ static vbr_answer answers[MANY];
 static vbr_found found[MANY];
 
 /* A handle that is empty, no key, and pointers that are null where there is none. */
-static int none(void) {
+static void none(void) {
     vbr_handle empty = {0}, full = {0};
     vbr_map_handle empty_map = {0};
     CHECK(vbr_open(&full, 1, 128, 16, 1000) == VBR_OK);
@@ -32,7 +28,6 @@ static int none(void) {
     vbr_map_get_all(&empty_map, keys, 2, found);
     CHECK(found[0].answer == VBR_NO_HANDLE && found[1].answer == VBR_NO_HANDLE && found[1].value == 0 && found[2].value == 7);
     vbr_drop(&full);
-    return 0;
 }
 
 /* The odd keys are there, each of a map with ten times itself. */
@@ -59,7 +54,7 @@ static int odd_keys(size_t count) {
 
 /* One bucket. Three steps to start, five for a node, and eight have to be left of the budget: so twenty are enough to look at the
    first node and to answer by it, and not at the second. */
-static int refusals(void) {
+static void refusals(void) {
     static const uint64_t asked[6] = {1, 2, 0, 3, 1, 1};
     static const vbr_answer told[6] = {VBR_YES, VBR_OUT_OF_STEPS, VBR_NO, VBR_OUT_OF_STEPS, VBR_YES, VBR_YES};
     vbr_handle set = {0};
@@ -73,7 +68,6 @@ static int refusals(void) {
     for (int i = 0; i < 6; i++) CHECK(answers[i] == told[i] && found[i].answer == told[i] && found[i].value == (told[i] == VBR_YES ? 71 : 0));
     vbr_drop(&set);
     vbr_map_drop(&map);
-    return 0;
 }
 
 static uint64_t drawn(uint64_t *state, uint64_t below) {
@@ -121,22 +115,21 @@ static void *run(void *who) {
     return NULL;
 }
 
-static int threads(void) {
+static void threads(void) {
     pthread_t thread[THREADS];
     CHECK(vbr_map_open(maps, THREADS, RANGE + 64 * THREADS, RANGE / 4, VBR_MAX_EPOCH) == VBR_OK);
     for (uintptr_t i = 0; i < THREADS; i++) CHECK(pthread_create(&thread[i], NULL, run, (void *)i) == 0);
     for (int i = 0; i < THREADS; i++) CHECK(pthread_join(thread[i], NULL) == 0);
     for (int i = 0; i < THREADS; i++) vbr_map_drop(&maps[i]);
     CHECK(!failed && done == THREADS);
-    return 0;
 }
 
 int main(void) {
     static const size_t counts[9] = {0, 1, 2, 15, 16, 17, 33, 99, 100};
-    if (none() || refusals()) return 1;
+    none(), refusals();
     for (int i = 0; i < 9; i++)
         if (odd_keys(counts[i])) return 1;
-    if (threads()) return 1;
+    threads();
     puts("look-ups in batches, of sets and of maps, alone and on four threads: passed");
     return 0;
 }

@@ -1,12 +1,9 @@
 /* Each call of the headers, and each of their types and numbers, as the example in its comment has it: tests/pages and
    bindings/headers see that these lines are those. tools/interface makes it of bindings/interface/calls.c.in. */
-#include "vbr.h"
+#include "client.h"
 #include "vbr_lend.h"
 
 #include <sched.h>
-#include <stdio.h>
-
-#define CHECK(x) do { if (!(x)) { fprintf(stderr, "calls.c:%d: %s\n", __LINE__, #x); return 1; } } while (0)
 
 static uint64_t keys[8];
 

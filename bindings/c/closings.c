@@ -4,16 +4,10 @@
        closings [ROUNDS [FAULT]]
 
    With FAULT 1 a thread makes a call by a handle that it doesn't own: a program that is wrong, for ThreadSanitizer to find. */
-#define _XOPEN_SOURCE 700
-#include "vbr.h"
+#include "client.h"
 
-#include <pthread.h>
 #include <sched.h>
 #include <stdatomic.h>
-#include <stdio.h>
-#include <stdlib.h>
-
-#define CHECK(x) do { if (!(x)) { fprintf(stderr, "closings.c:%d: %s\n", __LINE__, #x); exit(1); } } while (0)
 
 enum { THREADS = 4, KEYS = 8 * THREADS, SLOTS = KEYS + 64 * THREADS };
 

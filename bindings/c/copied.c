@@ -1,13 +1,7 @@
 /* What a program may do only by mistake, and the library refuses: a handle that was copied stands twice in place of all, and an opening
    is given a count or a shape that is out of range, with handles that are in use or aren't there. Nothing is freed or changed, and the
    handles go on. */
-#define _XOPEN_SOURCE 700
-#include "vbr.h"
-
-#include <stdio.h>
-#include <stdlib.h>
-
-#define CHECK(x) do { if (!(x)) { fprintf(stderr, "copied.c:%d: FAILED: %s\n", __LINE__, #x); exit(1); } } while (0)
+#include "client.h"
 
 enum { MANY = 9000, KEYS = 8 };
 

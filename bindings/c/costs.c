@@ -3,22 +3,11 @@
    hand is a close of all handles and an opening with the keys of the report, and takes no longer than these two do; one by
    vbr_renew_all takes no more processor time than one by hand. To give all handles up takes less than a close, which has a report.
    All but for a margin for what else the machine does, whose noise more rounds take away. */
-#include "vbr.h"
+#include "client.h"
 
-#include <stdio.h>
-#include <stdlib.h>
 #include <string.h>
-#include <time.h>
-
-#define CHECK(x) do { if (!(x)) { fprintf(stderr, "costs.c:%d: %s\n", __LINE__, #x); exit(1); } } while (0)
 
 enum { HANDLES = 4, ROUNDS = 5, MOST_ROUNDS = 50 };
-
-static double now(void) {
-    struct timespec t;
-    CHECK(timespec_get(&t, TIME_UTC) == TIME_UTC);
-    return (double)t.tv_sec + (double)t.tv_nsec / 1e9;
-}
 
 static double least(double a, double b) { return a < b ? a : b; }
 

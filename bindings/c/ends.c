@@ -1,18 +1,11 @@
 /* Handles whose threads end or are cancelled, calls in a signal handler, and the child of a fork. */
-#define _POSIX_C_SOURCE 200809L
-#define _XOPEN_SOURCE 700
-#include "vbr.h"
+#include "client.h"
 
-#include <pthread.h>
 #include <signal.h>
 #include <stdatomic.h>
-#include <stdio.h>
-#include <stdlib.h>
 #include <sys/time.h>
 #include <sys/wait.h>
 #include <unistd.h>
-
-#define CHECK(x) do { if (!(x)) { fprintf(stderr, "ends.c:%d: %s\n", __LINE__, #x); exit(1); } } while (0)
 
 enum { KEYS = 64, SLOTS = KEYS + 2 * 64 };
 

@@ -3,15 +3,10 @@
 
    An insert advances the epoch only where it has a slot that was retired at the epoch as it stands. So each advance but the first
    asks for a node that was removed, unlinked and retired since the one before. A node that is marked still, at the end, paid for none. */
-#include "vbr.h"
+#include "client.h"
 
-#include <pthread.h>
 #include <sched.h>
 #include <stdatomic.h>
-#include <stdio.h>
-#include <stdlib.h>
-
-#define CHECK(x) do { if (!(x)) { fprintf(stderr, "epochs.c:%d: %s\n", __LINE__, #x); exit(1); } } while (0)
 
 enum { THREADS = 4, KEYS = 6, CALLS = 4000, MOST = 200, SLOTS = KEYS + THREADS };
 
@@ -24,21 +19,14 @@ struct worker {
 static struct worker workers[THREADS];
 static atomic_int ready; /* so many threads have begun */
 
-static uint64_t next_random(struct worker *w) {
-    w->random ^= w->random << 13;
-    w->random ^= w->random >> 7;
-    w->random ^= w->random << 17;
-    return w->random >> 8;
-}
-
 static void *work(void *of) {
     struct worker *w = of;
     atomic_fetch_add(&ready, 1);
     while (atomic_load(&ready) < THREADS) sched_yield();
     for (int i = 0; i < CALLS; i++) {
-        uint64_t key = next_random(w) % KEYS;
-        uint32_t budget = 1 + (uint32_t)next_random(w) % MOST;
-        if (next_random(w) % 3 > 0) {
+        uint64_t key = (next(&w->random) >> 8) % KEYS;
+        uint32_t budget = 1 + (uint32_t)(next(&w->random) >> 8) % MOST;
+        if ((next(&w->random) >> 8) % 3 > 0) {
             vbr_answer answer = vbr_insert_within(&w->handle, key, budget);
             w->inserts++;
             w->refused += answer != VBR_YES && answer != VBR_NO;
@@ -55,14 +43,12 @@ int main(int count, char **words) {
     for (int i = 0; i < THREADS; i++) workers[i].random = 88172645463325252u + (uint64_t)i;
     for (int round = 0; round < rounds; round++) {
         vbr_handle handles[THREADS] = {{0}};
-        pthread_t threads[THREADS];
         vbr_report report;
         uint64_t keys[KEYS], of_round = 0;
         CHECK(vbr_open(handles, THREADS, SLOTS, 1, VBR_MAX_EPOCH) == VBR_OK);
         for (int i = 0; i < THREADS; i++) workers[i].handle = handles[i], workers[i].removed = 0;
         atomic_store(&ready, 0);
-        for (int i = 0; i < THREADS; i++) CHECK(!pthread_create(&threads[i], NULL, work, &workers[i]));
-        for (int i = 0; i < THREADS; i++) CHECK(!pthread_join(threads[i], NULL));
+        run_threads(THREADS, work, workers, sizeof *workers);
         for (int i = 0; i < THREADS; i++) handles[i] = workers[i].handle, of_round += workers[i].removed;
         CHECK(vbr_close_all(handles, THREADS, keys, KEYS, &report) == VBR_YES);
         CHECK(report.epoch + report.marked <= 1 + of_round);

@@ -5,16 +5,11 @@
 
    With FAULT 1 the hand-over is relaxed, with 2 a handle is given on before its last call, with 3 before it is asked for
    the number of slots, and with 4 before it walks: programs that are wrong, for ThreadSanitizer to find. */
-#include "vbr.h"
+#include "client.h"
 
-#include <pthread.h>
 #include <sched.h>
 #include <stdatomic.h>
-#include <stdio.h>
-#include <stdlib.h>
 #include <string.h>
-
-#define CHECK(x) do { if (!(x)) { fprintf(stderr, "handover.c:%d: %s\n", __LINE__, #x); exit(1); } } while (0)
 
 enum { THREADS = 4, HANDLES = 4, KEYS = 16, SLOTS = HANDLES * (KEYS + 64) };
 
@@ -32,9 +27,7 @@ static long rounds = 2000;
 static int fault;
 
 static void call(struct baton *b, int id) {
-    b->random ^= b->random << 13;
-    b->random ^= b->random >> 7;
-    b->random ^= b->random << 17;
+    next(&b->random);
     unsigned number = (unsigned)(b->random >> 32) % KEYS, kind = (unsigned)(b->random >> 40) % 3;
     uint64_t key = number * (uint64_t)HANDLES + (uint64_t)id;
     int there = b->held[number];
@@ -71,7 +64,6 @@ static void *work(void *of) {
 
 int main(int count, char **words) {
     vbr_handle handles[HANDLES] = {{0}};
-    pthread_t threads[THREADS];
     int ids[THREADS];
     vbr_report report = {0};
     uint64_t keys[HANDLES * KEYS] = {0};
@@ -84,11 +76,8 @@ int main(int count, char **words) {
         batons[h].random = 88172645463325252u + (uint64_t)h;
         atomic_init(&batons[h].turn, 0);
     }
-    for (int i = 0; i < THREADS; i++) {
-        ids[i] = i;
-        CHECK(!pthread_create(&threads[i], NULL, work, &ids[i]));
-    }
-    for (int i = 0; i < THREADS; i++) CHECK(!pthread_join(threads[i], NULL));
+    for (int i = 0; i < THREADS; i++) ids[i] = i;
+    run_threads(THREADS, work, ids, sizeof *ids);
     for (int h = 0; h < HANDLES; h++) {
         CHECK(batons[h].calls == THREADS * rounds);
         for (int i = 0; i < KEYS; i++) want += batons[h].held[i];

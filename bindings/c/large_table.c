@@ -3,28 +3,15 @@
    answers as it should: large_table [SLOTS [KEYS]]
 
    Its buckets are the least power of two that is no less than the slots. The keys are 0, 1, 2 and so on; they are spread by seed 0. */
-#define _POSIX_C_SOURCE 200809L
-#include "vbr.h"
+#include "client.h"
 
-#include <pthread.h>
-#include <stdio.h>
-#include <stdlib.h>
 #include <sys/resource.h>
-#include <time.h>
-
-#define CHECK(x) do { if (!(x)) { fprintf(stderr, "large_table.c:%d: FAILED: %s\n", __LINE__, #x); exit(1); } } while (0)
 
 enum { THREADS = 4, LOOK_UPS = 1000000 };
 
 static vbr_handle handles[THREADS];
 static uint64_t keys = 60000;
 static double began;
-
-static double now(void) {
-    struct timespec at;
-    CHECK(clock_gettime(CLOCK_MONOTONIC, &at) == 0);
-    return (double)at.tv_sec + (double)at.tv_nsec / 1e9;
-}
 
 static void begins(void) { began = now(); }
 

@@ -4,14 +4,10 @@
        lend [ROUNDS [FAULT]]
 
    With FAULT 1 a handle is used behind its return: a program that is wrong, for ThreadSanitizer to find. */
+#include "client.h"
 #include "vbr_lend.h"
 
-#include <pthread.h>
 #include <sched.h>
-#include <stdio.h>
-#include <stdlib.h>
-
-#define CHECK(x) do { if (!(x)) { fprintf(stderr, "lend.c:%d: %s\n", __LINE__, #x); exit(1); } } while (0)
 
 enum { THREADS = 8, HANDLES = 3, KEYS = 64, SLOTS = KEYS + 64 * HANDLES, RENEWALS = 40 };
 
@@ -38,9 +34,7 @@ static void *work(void *of) {
             continue;
         }
         w->lent++;
-        w->random ^= w->random << 13;
-        w->random ^= w->random >> 7;
-        w->random ^= w->random << 17;
+        next(&w->random);
         int key = (int)(w->random >> 32 & (KEYS - 1));
         vbr_answer answer = w->random >> 40 & 1 ? vbr_insert(mine, (uint64_t)key) : vbr_remove(mine, (uint64_t)key);
         CHECK(answer == VBR_YES || answer == VBR_NO);

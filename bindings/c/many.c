@@ -3,15 +3,7 @@
    thousand take at most 20 ms more than 64 with the same slots.
 
        many [HANDLES] */
-#define _POSIX_C_SOURCE 200809L
-#include "vbr.h"
-
-#include <pthread.h>
-#include <stdio.h>
-#include <stdlib.h>
-#include <time.h>
-
-#define CHECK(x) do { if (!(x)) { fprintf(stderr, "many.c:%d: %s\n", __LINE__, #x); exit(1); } } while (0)
+#include "client.h"
 
 enum { OPENING = 3, BUCKETS = 1024, STACK = 64 << 10, ROUNDS = 15 };
 

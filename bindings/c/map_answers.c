@@ -1,9 +1,5 @@
 /* What the calls on maps answer and write of values, in one thread. What is of keys alone is tested by answers.c, over maps too. */
-#include "vbr.h"
-
-#include <stdio.h>
-
-#define CHECK(x) do { if (!(x)) { fprintf(stderr, "map_answers.c:%d: %s\n", __LINE__, #x); return 1; } } while (0)
+#include "client.h"
 
 static vbr_entry entries[4];
 static vbr_report report;
@@ -53,27 +49,25 @@ static int each_writes_nothing(vbr_map_handle *handle, uint64_t key, uint64_t ex
     return 1;
 }
 
-static int empty_handles(void) {
+static void empty_handles(void) {
     vbr_map_handle none = {0};
     entries[0] = (vbr_entry){77, 78};
     CHECK(writes_nothing(&none, 1, VBR_AMPLE_STEPS, VBR_NO_HANDLE) && each_writes_nothing(&none, 1, 1, VBR_AMPLE_STEPS, VBR_NO_HANDLE));
     CHECK(vbr_map_close(&none, entries, 4, &report) == VBR_NO_HANDLE && is_entry(0, 77, 78));
     CHECK(vbr_map_close(NULL, entries, 4, &report) == VBR_NO_HANDLE && is_entry(0, 77, 78));
-    return 0;
 }
 
 /* A large map takes 8 bytes more for each slot than a large set. */
-static int large_map(void) {
+static void large_map(void) {
     vbr_map_handle one = {0};
     CHECK(vbr_map_open(&one, 1, 1u << 24, 1u << 24, VBR_MAX_EPOCH) == VBR_OK && vbr_map_last_epoch(&one) == vbr_max_epoch(1u << 24));
     CHECK(vbr_map_insert(&one, 0, UINT64_MAX) == VBR_YES && vbr_map_insert(&one, UINT64_MAX, 0) == VBR_YES);
     CHECK(has_value(&one, 0, UINT64_MAX) && has_value(&one, UINT64_MAX, 0));
     CHECK(vbr_map_close(&one, entries, 4, &report) == VBR_YES && report.live == 2 && report.free == (1u << 24) - 2);
     CHECK(is_entry(0, 0, UINT64_MAX) && is_entry(1, UINT64_MAX, 0));
-    return 0;
 }
 
-static int calls_and_closes(void) {
+static void calls_and_closes(void) {
     vbr_map_handle two[2] = {{0}};
     CHECK(vbr_map_open(two, 2, 2, 1, 3) == VBR_OK);
     CHECK(vbr_map_insert(&two[0], 7, 70) == VBR_YES && vbr_map_insert(&two[1], 7, 71) == VBR_NO);
@@ -91,11 +85,10 @@ static int calls_and_closes(void) {
     entries[2] = (vbr_entry){96, 97};
     CHECK(vbr_map_close(&two[1], entries, report.live, &report) == VBR_YES && is_entry(0, 5, 7) && is_entry(1, 7, 70));
     CHECK(is_entry(2, 96, 97) && report.live == 2 && report.marked == 0 && report.free == 0 && report.epoch == 1);
-    return 0;
 }
 
 /* A key has the value of its last insert, also where the slot of its node was another's or its own before. */
-static int values_of_incarnations(void) {
+static void values_of_incarnations(void) {
     vbr_map_handle two[2] = {{0}};
     CHECK(vbr_map_open(two, 2, 2, 1, VBR_MAX_EPOCH) == VBR_OK);
     for (uint64_t turn = 0; turn < 1000; turn++) {
@@ -106,10 +99,9 @@ static int values_of_incarnations(void) {
         CHECK(writes_nothing(&two[1], 5, VBR_AMPLE_STEPS, VBR_NO) && takes_out(&two[0], 6, ~turn));
     }
     CHECK(vbr_map_close_all(two, 2, entries, 4, &report) == VBR_YES && report.live == 0);
-    return 0;
 }
 
-static int opened_with_entries(void) {
+static void opened_with_entries(void) {
     static const vbr_entry some[3] = {{2, 90}, {5, 20}, {9, 50}}, ends[2] = {{0, UINT64_MAX}, {UINT64_MAX, 0}};
     vbr_map_handle two[2] = {{0}};
     CHECK(vbr_map_open_with(two, 2, 4, 2, 10, some, 3) == VBR_OK);
@@ -121,7 +113,6 @@ static int opened_with_entries(void) {
     CHECK(vbr_map_open_with(two, 1, 2, 1, 1, ends, 2) == VBR_OK);
     CHECK(vbr_map_close(&two[0], entries, 4, &report) == VBR_YES && report.live == 2 && report.free == 0);
     CHECK(is_entry(0, 0, UINT64_MAX) && is_entry(1, UINT64_MAX, 0));
-    return 0;
 }
 
 /* What each call does where its key is there with the value that it expects, with another one, and where it is absent: the answer,
@@ -152,19 +143,19 @@ static int stands(vbr_map_handle *handle, uint64_t key, uint64_t value) {
 }
 
 /* A call with budgets from 0 up: until one is enough it is refused, and does nothing. `most` is enough. */
-static int budgets_from_0(vbr_map_handle *handle, const struct outcome *it, uint64_t key, uint32_t most, int asks) {
+static void budgets_from_0(vbr_map_handle *handle, const struct outcome *it, uint64_t key, uint32_t most, int asks) {
     for (uint32_t budget = 0;; budget++) {
         uint64_t found = 77;
         vbr_answer answer = change(it->by, handle, key, it->expected, 99, asks ? &found : NULL, budget);
         CHECK(!asks || found == (answer == VBR_YES || answer == VBR_OTHER ? it->had : 77));
         CHECK(stands(handle, key, answer == it->answer ? it->has : it->had));
-        if (answer == it->answer) return 0;
+        if (answer == it->answer) return;
         CHECK(answer == VBR_OUT_OF_STEPS && budget < most);
     }
 }
 
 /* The key is the first, the last, or between others of one bucket; the steps are those that are promised to be enough. */
-static int outcomes_of_changes(void) {
+static void outcomes_of_changes(void) {
     enum { OTHERS = 4, MAP_SLOTS = OTHERS + 1 + 64 };
     for (size_t i = 0; i < sizeof outcomes / sizeof outcomes[0]; i++)
         for (uint64_t key = 0; key < 20; key += 5) {
@@ -176,18 +167,17 @@ static int outcomes_of_changes(void) {
             CHECK(vbr_map_open_with(&one, 1, MAP_SLOTS, 1, VBR_MAX_EPOCH, others, OTHERS) == VBR_OK);
             for (int asks = 0; asks < 2; asks++) {
                 if (it->had) CHECK(vbr_map_insert(&one, key, it->had) == VBR_YES);
-                if (budgets_from_0(&one, it, key, most, asks)) return 1;
+                budgets_from_0(&one, it, key, most, asks);
                 if (it->has) CHECK(takes_out(&one, key, it->has));
             }
             CHECK(vbr_map_close(&one, all, OTHERS + 1, &report) == VBR_YES && report.live == OTHERS && report.marked == 0);
             for (int index = 0; index < OTHERS; index++) CHECK(all[index].key == others[index].key && all[index].value == others[index].value);
         }
-    return 0;
 }
 
 /* What is refused for want of a slot, or since the epoch is spent, leaves each value as it was. A new value takes a slot before the
    old one's is free; what changes nothing takes none. */
-static int refusals_of_changes(void) {
+static void refusals_of_changes(void) {
     static const vbr_entry full[2] = {{5, 50}, {7, 70}};
     for (int is_spent = 0; is_spent < 2; is_spent++) {
         vbr_answer refusal = is_spent ? VBR_EPOCH_SPENT : VBR_NO_SLOT;
@@ -205,11 +195,10 @@ static int refusals_of_changes(void) {
         CHECK(vbr_map_remove_if(&one, 7, 70, &found) == VBR_YES && found == 70);
         CHECK(vbr_map_close(&one, entries, 4, &report) == VBR_YES && report.live == 1 && is_entry(0, 5, 50));
     }
-    return 0;
 }
 
 /* A key whose value changes again and again has two slots in turn, and the others see each value. */
-static int values_in_turn(void) {
+static void values_in_turn(void) {
     vbr_map_handle two[2] = {{0}};
     uint64_t found = 0;
     CHECK(vbr_map_open(two, 2, 2, 1, VBR_MAX_EPOCH) == VBR_OK && vbr_map_put(&two[0], 5, 0, &found) == VBR_NO);
@@ -222,11 +211,10 @@ static int values_in_turn(void) {
     }
     CHECK(vbr_map_compare_exchange(&two[0], 5, 3000, 3000, &found) == VBR_YES && found == 3000 && has_value(&two[1], 5, 3000));
     CHECK(vbr_map_close_all(two, 2, entries, 4, &report) == VBR_YES && report.live == 1 && is_entry(0, 5, 3000) && report.marked == 0 && report.free == 1);
-    return 0;
 }
 
 /* A close writes the entries that it tells of and no others, and none where it isn't answered yes. */
-static int closed_at_once(void) {
+static void closed_at_once(void) {
     vbr_map_handle three[3] = {{0}}, other[1] = {{0}};
     CHECK(vbr_map_open(three, 3, 8, 2, 100) == VBR_OK && vbr_map_open(other, 1, 8, 2, 100) == VBR_OK);
     for (uint64_t i = 0; i < 3; i++) CHECK(vbr_map_insert(&three[i], i + 6, i + 60) == VBR_YES);
@@ -239,11 +227,10 @@ static int closed_at_once(void) {
     CHECK(report.live == 2 && is_entry(0, 7, 61) && is_entry(1, 8, 62) && is_entry(2, 77, 78) && is_entry(3, 77, 78));
     for (int i = 0; i < 3; i++) CHECK(writes_nothing(&three[i], 7, VBR_AMPLE_STEPS, VBR_NO_HANDLE) && each_writes_nothing(&three[i], 7, 61, VBR_AMPLE_STEPS, VBR_NO_HANDLE));
     vbr_map_drop(other);
-    return 0;
 }
 
 /* A get and a remove by whom nobody asks for the value. */
-static int unasked(void) {
+static void unasked(void) {
     vbr_map_handle one = {0};
     vbr_report report = {0};
     CHECK(vbr_map_get(&one, 5, NULL) == VBR_NO_HANDLE && vbr_map_remove(&one, 5, NULL) == VBR_NO_HANDLE);
@@ -252,13 +239,11 @@ static int unasked(void) {
     CHECK(vbr_map_remove(&one, 6, NULL) == VBR_NO && vbr_map_remove_within(&one, 5, NULL, 7) == VBR_OUT_OF_STEPS);
     CHECK(vbr_map_remove(&one, 5, NULL) == VBR_YES && vbr_map_get(&one, 5, NULL) == VBR_NO);
     CHECK(vbr_map_close(&one, entries, 1, &report) == VBR_YES && report.live == 0);
-    return 0;
 }
 
 int main(void) {
-    if (empty_handles() || large_map() || calls_and_closes() || values_of_incarnations() || opened_with_entries() || closed_at_once() ||
-        outcomes_of_changes() || refusals_of_changes() || values_in_turn() || unasked())
-        return 1;
+    empty_handles(), large_map(), calls_and_closes(), values_of_incarnations(), opened_with_entries(), closed_at_once(),
+        outcomes_of_changes(), refusals_of_changes(), values_in_turn(), unasked();
     puts("values of maps in C: passed");
     return 0;
 }

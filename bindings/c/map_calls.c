@@ -1,11 +1,7 @@
 /* Each call on maps of the headers, and each of their types, as the example in its comment has it: tests/pages and
    bindings/headers see that these lines are those. tools/interface makes it of bindings/interface/calls.c.in. */
-#include "vbr.h"
+#include "client.h"
 #include "vbr_lend.h"
-
-#include <stdio.h>
-
-#define CHECK(x) do { if (!(x)) { fprintf(stderr, "map_calls.c:%d: %s\n", __LINE__, #x); return 1; } } while (0)
 
 static vbr_entry entries[8];
 

@@ -2,14 +2,9 @@
    a key that is known to be inserted and never removed, has answers yes and insert no; of one that is known to be
    removed for good, has and remove answer no. A thread knows of others by a mutex, by a release and an acquire, and by
    the join; and of those that it never hears from, by what others tell of them. */
-#include "vbr.h"
+#include "client.h"
 
-#include <pthread.h>
 #include <stdatomic.h>
-#include <stdio.h>
-#include <stdlib.h>
-
-#define CHECK(x) do { if (!(x)) { fprintf(stderr, "order.c:%d: %s\n", __LINE__, #x); exit(1); } } while (0)
 
 enum { THREADS = 4, BEHIND = 8 };
 
@@ -75,9 +70,7 @@ static void *work(void *of) {
         long shown = atomic_load_explicit(&far->shown, memory_order_acquire);
         /* an odd key may be on its way out by then, an even one stays */
         if (w->known.inserted[far->id] < shown) w->known.inserted[far->id] = shown;
-        random ^= random << 13;
-        random ^= random >> 7;
-        random ^= random << 17;
+        next(&random);
         check(&w->handle, &w->known, (int)((random >> 8) % THREADS), random >> 16);
         check(&w->handle, &w->known, far->id, random >> 16);
     }
@@ -86,7 +79,6 @@ static void *work(void *of) {
 
 int main(int count, char **words) {
     vbr_handle handles[THREADS] = {{0}};
-    pthread_t threads[THREADS];
     vbr_report report = {0};
     uint64_t first[1] = {0};
     if (count > 1) rounds = atol(words[1]);
@@ -97,8 +89,7 @@ int main(int count, char **words) {
         workers[i].id = i;
         CHECK(!pthread_mutex_init(&workers[i].lock, NULL));
     }
-    for (int i = 0; i < THREADS; i++) CHECK(!pthread_create(&threads[i], NULL, work, &workers[i]));
-    for (int i = 0; i < THREADS; i++) CHECK(!pthread_join(threads[i], NULL));
+    run_threads(THREADS, work, workers, sizeof *workers);
     /* after the join all is known to each handle */
     for (int i = 0; i < THREADS; i++)
         for (int of = 0; of < THREADS; of++)

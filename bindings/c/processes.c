@@ -2,23 +2,18 @@
    nothing, one that is killed in a call is inherited, threads go on while their process forks, closes come from several processes, a
    file shows the memory by name, and one that is too short, or can't be mapped, is refused before anything is written. */
 #define _GNU_SOURCE
+#include "client.h"
 #include "vbr_shared.h"
 
 #include <fcntl.h>
-#include <pthread.h>
 #include <signal.h>
 #include <stdatomic.h>
-#include <stdio.h>
-#include <stdlib.h>
 #include <string.h>
 #include <sys/mman.h>
 #include <sys/resource.h>
 #include <sys/stat.h>
 #include <sys/wait.h>
-#include <time.h>
 #include <unistd.h>
-
-#define CHECK(x) do { if (!(x)) { fprintf(stderr, "processes.c:%d: FAILED: %s\n", __LINE__, #x); return 1; } } while (0)
 
 static int ended_well(pid_t child) {
     int status;

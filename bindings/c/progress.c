@@ -30,15 +30,10 @@
 
    Alone, of a key after all others, a look-up needs its bound, a remove more than half of its own, and an insert more than a third. So
    calls that take twice the steps are refused, or, of inserts, three times. */
-#include "vbr.h"
+#include "client.h"
 
-#include <pthread.h>
 #include <sched.h>
 #include <stdatomic.h>
-#include <stdio.h>
-#include <stdlib.h>
-
-#define CHECK(x) do { if (!(x)) { fprintf(stderr, "progress.c:%d: %s\n", __LINE__, #x); exit(1); } } while (0)
 
 enum { THREADS = 4, CHANGING = 4, MOST_RESTING = 24, PREPARED = 60, ALONE = 40, CALLS = 1000, AMPLE = 1 << 30 };
 enum { SLOTS = MOST_RESTING + CHANGING + THREADS * 64 + PREPARED };
@@ -75,13 +70,6 @@ static atomic_int ready; /* so many threads have begun */
 static uint64_t last_key(void) { return 2 * resting + 2; }
 
 static uint64_t changing_key(uint64_t i) { return i * (2 * resting / CHANGING / 2 * 2) + 2; }
-
-static uint64_t next_random(struct worker *w) {
-    w->random ^= w->random << 13;
-    w->random ^= w->random >> 7;
-    w->random ^= w->random << 17;
-    return w->random >> 8;
-}
 
 /* What the others had recorded as a call began, and the most that they can have done until it ended. */
 struct others {
@@ -167,10 +155,10 @@ static vbr_answer told_call(struct worker *w, enum kind kind, uint64_t key, uint
 /* In a map, now and then: gives a key another value, if it is there, which is recorded as a remove and an insert. */
 static void change(struct worker *w, uint32_t budget) {
 #ifdef OF_VALUES
-    if (next_random(w) % 8 > 0) return;
+    if ((next(&w->random) >> 8) % 8 > 0) return;
     tell_begin(&w->told[REMOVE]);
     tell_begin(&w->told[INSERT]);
-    vbr_answer answer = value_change(&w->handle, changing_key(next_random(w) % CHANGING), budget);
+    vbr_answer answer = value_change(&w->handle, changing_key((next(&w->random) >> 8) % CHANGING), budget);
     CHECK(answer == VBR_YES || answer == VBR_NO || answer == VBR_OUT_OF_STEPS);
     if (answer == VBR_YES) sweep(w);
     tell_end(&w->told[REMOVE], answer);
@@ -210,10 +198,10 @@ static void *work(void *of) {
     atomic_fetch_add(&ready, 1);
     while (atomic_load(&ready) < THREADS) sched_yield();
     for (int i = 0; i < CALLS; i++) {
-        uint64_t chance = next_random(w) % 16;
+        uint64_t chance = (next(&w->random) >> 8) % 16;
         enum kind kind = chance < 2 ? INSERT : chance < 4 ? REMOVE : LOOK_UP;
-        uint64_t key = kind == LOOK_UP && chance % 2 ? last_key() : changing_key(next_random(w) % CHANGING);
-        uint32_t budget = 1 + (uint32_t)next_random(w) % most(kind);
+        uint64_t key = kind == LOOK_UP && chance % 2 ? last_key() : changing_key((next(&w->random) >> 8) % CHANGING);
+        uint32_t budget = 1 + (uint32_t)(next(&w->random) >> 8) % most(kind);
         change(w, budget);
         int has_slot = atomic_load(&w->told[INSERT].stored) < PREPARED;
         struct others before = before_call(w);
@@ -241,11 +229,9 @@ static void open_set(void) {
 }
 
 static void play(void) {
-    pthread_t threads[THREADS];
     open_set();
     atomic_store(&ready, 0);
-    for (int i = 0; i < THREADS; i++) CHECK(!pthread_create(&threads[i], NULL, work, &workers[i]));
-    for (int i = 0; i < THREADS; i++) CHECK(!pthread_join(threads[i], NULL));
+    run_threads(THREADS, work, workers, sizeof *workers);
     for (int i = 0; i < THREADS; i++) vbr_drop(&workers[i].handle);
 }
 

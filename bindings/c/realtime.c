@@ -22,15 +22,11 @@
 
    The second makes no call: it sees that of so many short histories, drawn at random with true and false answers, the search
    explains just those for which a trial of all orders finds one. */
-#define _POSIX_C_SOURCE 200809L
 #include "stopping.h"
-#include "vbr.h"
+#include "client.h"
 
 #include <sched.h>
-#include <stdio.h>
-#include <stdlib.h>
 #include <string.h>
-#include <time.h>
 
 enum {
     THREADS = 4,

@@ -11,15 +11,10 @@
    - in sequence: the keys are 0, 1, 2 and so on, off a counter too, so the threads are in different buckets.
    In the first two the keys of the second filling have other buckets than those of the first, so no insert comes by what
    was left there. */
-#include "vbr.h"
+#include "client.h"
 
-#include <pthread.h>
 #include <sched.h>
 #include <stdatomic.h>
-#include <stdio.h>
-#include <stdlib.h>
-
-#define CHECK(x) do { if (!(x)) { fprintf(stderr, "refill.c:%d: %s\n", __LINE__, #x); exit(1); } } while (0)
 
 enum { THREADS = 4, MAX_KEYS = 1 << 20 };
 
@@ -40,13 +35,6 @@ static uint64_t first[MAX_KEYS], ascending[MAX_KEYS], second[MAX_KEYS], left[MAX
 static uint32_t key_count = 1 << 18;
 static enum kind kind;
 static atomic_uint taken, arrived;
-
-static uint64_t next(uint64_t *random) {
-    *random ^= *random << 13;
-    *random ^= *random >> 7;
-    *random ^= *random << 17;
-    return *random;
-}
 
 static int by_number(const void *a, const void *b) {
     uint64_t x = *(const uint64_t *)a, y = *(const uint64_t *)b;
@@ -95,7 +83,6 @@ static void *remove_all(void *of) {
 /* Fills, empties and fills a set: how many keys of the second filling found a slot, and the report. */
 static uint32_t play(vbr_report *report) {
     vbr_handle handles[THREADS] = {{0}};
-    pthread_t threads[THREADS];
     uint32_t slots = key_count + 64 * THREADS, found = 0;
     CHECK(vbr_open_seeded(handles, THREADS, slots, key_count, VBR_MAX_EPOCH, 0, ascending, key_count) == VBR_OK);
     atomic_store(&taken, THREADS * steps());
@@ -103,9 +90,8 @@ static uint32_t play(vbr_report *report) {
     for (int i = 0; i < THREADS; i++) {
         workers[i].handle = handles[i]; /* moved: the old place is not used again */
         workers[i].id = i;
-        CHECK(!pthread_create(&threads[i], NULL, remove_all, &workers[i]));
     }
-    for (int i = 0; i < THREADS; i++) CHECK(!pthread_join(threads[i], NULL));
+    run_threads(THREADS, remove_all, workers, sizeof *workers);
     vbr_answer added = VBR_YES;
     while (found < key_count && (added = vbr_insert(&workers[0].handle, second[found])) == VBR_YES) found++;
     CHECK(added == VBR_YES || added == VBR_NO_SLOT);

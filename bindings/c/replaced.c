@@ -7,15 +7,10 @@
    first comes by get_or_insert. Who takes a number out of the map reads that record, and so do two others, who get values. With FAULT 1
    a reader reads the record that comes next, whose number no call returned to it, and with 2 a record is written once more after its
    call: programs that are wrong, for ThreadSanitizer to find. */
-#include "vbr.h"
+#include "client.h"
 
-#include <pthread.h>
 #include <sched.h>
 #include <stdatomic.h>
-#include <stdio.h>
-#include <stdlib.h>
-
-#define CHECK(x) do { if (!(x)) { fprintf(stderr, "replaced.c:%d: %s\n", __LINE__, #x); exit(1); } } while (0)
 
 enum { WRITERS = 2, THREADS = 2 * WRITERS, KEYS = 8, MOST = 1 << 20, SLOTS = KEYS + 64 * THREADS };
 

@@ -1,11 +1,6 @@
 /* Slots that a handle keeps in reserve by itself: how many, from the opening on or by its inserts, in small sets none, and that a
    set sized by the rule has room for all of its keys whatever the handles keep. */
-#include "vbr.h"
-
-#include <stdio.h>
-#include <stdlib.h>
-
-#define CHECK(x) do { if (!(x)) { fprintf(stderr, "reserve.c:%d: %s\n", __LINE__, #x); exit(1); } } while (0)
+#include "client.h"
 
 enum { HANDLES = 4, KEYS = 100, SLOTS = KEYS + 64 * HANDLES };
 

@@ -1,12 +1,8 @@
 /* Seeds: keys that were chosen against a seed that is known, and the same keys with one that is drawn; which seed a set has, which it
    keeps, and which it is given; and what an opening draws where the system has no random number. Link with -Wl,--wrap=getrandom. */
-#include "vbr.h"
+#include "client.h"
 
-#include <stdio.h>
-#include <stdlib.h>
 #include <sys/types.h>
-
-#define CHECK(x) do { if (!(x)) { fprintf(stderr, "seeds.c:%d: %s\n", __LINE__, #x); return 1; } } while (0)
 
 /* Seed 0 has keys multiplied by the first number; the second is its inverse. */
 static const uint64_t MIXER = 0x9E3779B97F4A7C15u, INVERSE = 0xF1DE83E19937733Du;
@@ -34,7 +30,7 @@ static int choose_keys(void) {
     uint64_t random = 88172645463325252u;
     CHECK(MIXER * INVERSE == 1);
     for (int i = 0; i <= CHOSEN; i++) {
-        random ^= random << 13, random ^= random >> 7, random ^= random << 17;
+        next(&random);
         chosen[i] = (random >> 16) * INVERSE;
     }
     qsort(chosen, CHOSEN + 1, sizeof chosen[0], by_number);

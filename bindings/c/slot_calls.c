@@ -1,17 +1,14 @@
 /* Each call on slots in hand, and on records beside them, as the example in its comment has it: tests/pages and bindings/headers see
    that these lines are those. And what each of them answers where it isn't done. tools/interface makes it of
    bindings/interface/slot_calls.c.in. */
-#define _DEFAULT_SOURCE
+#define _GNU_SOURCE
+#include "client.h"
 #include "vbr_records.h"
 #include "vbr_shared.h"
 
-#include <pthread.h>
-#include <stdio.h>
 #include <sys/mman.h>
 #include <sys/wait.h>
 #include <unistd.h>
-
-#define CHECK(x) do { if (!(x)) { fprintf(stderr, "slot_calls.c:%d: FAILED: %s\n", __LINE__, #x); return 1; } } while (0)
 
 enum { SLOTS = 1024 + 2 * 64 };
 

@@ -9,14 +9,9 @@
 
    ThreadSanitizer is silent on that, and reports each fault: 1, the receiver reads after it took the entry out; 2, the sender writes
    after it published the slot. */
-#include "vbr.h"
+#include "client.h"
 
-#include <pthread.h>
 #include <sched.h>
-#include <stdio.h>
-#include <stdlib.h>
-
-#define CHECK(x) do { if (!(x)) { fprintf(stderr, "slot_handover.c:%d: FAILED: %s\n", __LINE__, #x); exit(1); } } while (0)
 
 enum { PAIRS = 2, THREADS = 2 * PAIRS, SLOTS = 12, WORDS = 16 };
 

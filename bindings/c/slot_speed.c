@@ -5,16 +5,10 @@
    the threads, which all make calls of this kind. A record has 256 bytes. Then comes the median of the ratio of `is_still` to a
    generation. The line on answers says how many of the entries that the look-ups of the second kind found had left their slots by the
    question, while another thread gave keys other records. */
-#define _POSIX_C_SOURCE 200809L
+#include "client.h"
 #include "vbr_records.h"
 
-#include <pthread.h>
 #include <stdatomic.h>
-#include <stdio.h>
-#include <stdlib.h>
-#include <time.h>
-
-#define CHECK(x) do { if (!(x)) { fprintf(stderr, "slot_speed.c:%d: FAILED: %s\n", __LINE__, #x); exit(1); } } while (0)
 
 enum { KEYS = 4096, MOST_THREADS = 8, SLOTS = KEYS + 64 * MOST_THREADS, KINDS = 9, MOST_RUNS = 99, GET = 0, ASKED = 2, COUNTED = 3 };
 
@@ -35,7 +29,7 @@ struct caller {
     uint64_t sum, gone;
 };
 
-static double now(void) {
+static double cpu_time(void) {
     struct timespec at;
     CHECK(clock_gettime(CLOCK_THREAD_CPUTIME_ID, &at) == 0);
     return (double)at.tv_sec * 1e9 + (double)at.tv_nsec;
@@ -81,12 +75,12 @@ static void *calls_of(void *argument) {
     struct caller *me = argument;
     uint64_t random = 88172645463325252u + (uint64_t)me->number * 7919;
     pthread_barrier_wait(&at_once);
-    double begin = now();
+    double begin = cpu_time();
     for (long i = 0; i < me->calls; i++) {
-        random ^= random << 13, random ^= random >> 7, random ^= random << 17;
+        next(&random);
         call(me, random % KEYS);
     }
-    me->took = (now() - begin) / (double)me->calls;
+    me->took = (cpu_time() - begin) / (double)me->calls;
     return NULL;
 }
 
@@ -112,7 +106,7 @@ static atomic_int is_over;
 static void *writes(void *argument) {
     uint64_t random = 1, record[32] = {0};
     while (!is_over) {
-        random ^= random << 13, random ^= random >> 7, random ^= random << 17;
+        next(&random);
         write_and_put(argument, random % KEYS, record);
     }
     return NULL;

@@ -17,14 +17,10 @@
    keys, and finds a slot for each. Where all budgets were ample the report counts no removed node that is still in a list.
    Then the keys of the report are carried over into the next set, which opens with them or gets them by inserts, or a
    fresh one begins. */
-#define _POSIX_C_SOURCE 200809L
 #include "stopping.h"
-#include "vbr.h"
+#include "client.h"
 
-#include <stdio.h>
-#include <stdlib.h>
 #include <string.h>
-#include <time.h>
 
 enum {
     THREADS = 4,
@@ -428,12 +424,6 @@ static int carry(const struct round *r, uint64_t *random) {
     int carries = (next(random) & 1) && !r->drops;
     for (uint32_t i = 0; i < MOST; i++) held[i] = carries && i < r->keys && is_in(i);
     return carries;
-}
-
-static double now(void) {
-    struct timespec time;
-    clock_gettime(CLOCK_MONOTONIC, &time);
-    return (double)time.tv_sec + (double)time.tv_nsec / 1e9;
 }
 
 int main(int count, char **words) {

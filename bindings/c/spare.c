@@ -1,10 +1,5 @@
 /* Slots that a handle keeps to itself: who has them, how others come to them, and how a handle takes some in reserve. */
-#include "vbr.h"
-
-#include <stdio.h>
-#include <stdlib.h>
-
-#define CHECK(x) do { if (!(x)) { fprintf(stderr, "spare.c:%d: %s\n", __LINE__, #x); exit(1); } } while (0)
+#include "client.h"
 
 #ifdef __GNUC__
 #pragma GCC diagnostic ignored "-Wdeprecated-declarations" /* it calls vbr_spare by its old name too */

@@ -3,23 +3,15 @@
 #ifndef STOPPING_H
 #define STOPPING_H
 
+#include "client.h"
+
 #include <errno.h>
-#include <pthread.h>
 #include <signal.h>
 #include <stdatomic.h>
-#include <stdint.h>
-#include <time.h>
 
 static _Alignas(128) atomic_int working; /* threads that haven't done */
 static atomic_int pause_us;              /* how long a thread that is stopped stands still */
 static long stops;                       /* how often one was stopped */
-
-static uint64_t next(uint64_t *random) {
-    *random ^= *random << 13;
-    *random ^= *random >> 7;
-    *random ^= *random << 17;
-    return *random;
-}
 
 /* Stops the thread where it is, often in the middle of a call. */
 static void stand_still(int signal_number) {

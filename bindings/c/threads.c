@@ -1,11 +1,5 @@
 /* Four threads on one set. Each answer is counted, and the keys that are left are those that the answers tell. */
-#include "vbr.h"
-
-#include <pthread.h>
-#include <stdio.h>
-#include <stdlib.h>
-
-#define CHECK(x) do { if (!(x)) { fprintf(stderr, "threads.c:%d: %s\n", __LINE__, #x); return 1; } } while (0)
+#include "client.h"
 
 enum { THREADS = 4, KEYS = 64, SLOTS = 512 };
 
@@ -20,9 +14,7 @@ struct worker {
 static void *work(void *of) {
     struct worker *w = of;
     for (long i = 0; i < w->rounds; i++) {
-        w->random ^= w->random << 13;
-        w->random ^= w->random >> 7;
-        w->random ^= w->random << 17;
+        next(&w->random);
         uint64_t key = (w->random >> 8) % KEYS;
         int kind = (int)(w->random % 3);
         int32_t answer = kind == 0   ? vbr_insert(&w->handle, key)
@@ -44,7 +36,6 @@ static int left(const struct worker *workers, int key) {
 int main(int count, char **words) {
     static struct worker workers[THREADS];
     vbr_handle handles[THREADS] = {{0}};
-    pthread_t threads[THREADS];
     uint64_t keys[KEYS] = {0};
     vbr_report report = {0};
     uint32_t want = 0;
@@ -53,9 +44,8 @@ int main(int count, char **words) {
         workers[i].handle = handles[i]; /* moved: the old place is not used again */
         workers[i].random = 88172645463325252u + (uint64_t)i;
         workers[i].rounds = count > 1 ? atol(words[1]) : 200000;
-        CHECK(!pthread_create(&threads[i], NULL, work, &workers[i]));
     }
-    for (int i = 0; i < THREADS; i++) CHECK(!pthread_join(threads[i], NULL));
+    run_threads(THREADS, work, workers, sizeof *workers);
     for (int i = 0; i < THREADS; i++) CHECK(workers[i].refused == 0);
     for (int key = 0; key < KEYS; key++) {
         int sum = left(workers, key);

@@ -12,12 +12,9 @@
    makes two more. Each of these begins where eight steps are left of the budget. So the least budget that gives a key is eight more
    than the steps before its node: the reading of its value is among the eight. After the last key of a bucket the cursor stands
    before the next bucket, unless a marked node is behind that key. */
-#include "vbr.h"
+#include "client.h"
 
-#include <stdio.h>
 #include <string.h>
-
-#define CHECK(x) do { if (!(x)) { fprintf(stderr, "walk.c:%d: %s\n", __LINE__, #x); return 1; } } while (0)
 
 enum { KEYS = 11, SLOTS = 2 * KEYS + 2 * 64 };
 
@@ -58,7 +55,7 @@ static int gives_all(vbr_handle *handle, vbr_cursor cursor, const uint64_t *want
     return 0;
 }
 
-static int nothing_to_give(void) {
+static void nothing_to_give(void) {
     vbr_handle handle[2] = {{0}};
     vbr_cursor cursor, as_it_was;
     uint64_t key = 77;
@@ -73,10 +70,9 @@ static int nothing_to_give(void) {
     cursor = begin;
     CHECK(vbr_next_within(&handle[0], &cursor, &key, 3 + 3 + 3 + 7) == VBR_OUT_OF_STEPS && !ends(&handle[0], &cursor, 8)); /* it stood before the last */
     CHECK(close_both(handle, 0));
-    return 0;
 }
 
-static int bucket_by_bucket(void) {
+static void bucket_by_bucket(void) {
     /* the steps before the node of each key: its bucket is entered, and the nodes before it are passed */
     static const uint32_t before[KEYS] = {3, 3 + 5, 3 + 10, 3, 3 + 5, 3 + 10, 3, 3 + 5, 3 + 10, 3, 3 + 5};
     vbr_handle handle[2] = {{0}};
@@ -90,11 +86,10 @@ static int bucket_by_bucket(void) {
     CHECK(vbr_next_within(&handle[0], &cursor, &key, 0) == VBR_NO && key == 77);
     CHECK(!gives_all(&handle[0], begin, by_bucket, KEYS));
     CHECK(close_both(handle, KEYS));
-    return 0;
 }
 
 /* A refused call that has come to a later bucket is refused less there; one that hasn't leaves all as it was. */
-static int refused(void) {
+static void refused(void) {
     vbr_handle handle[2] = {{0}};
     vbr_cursor cursor = VBR_CURSOR_BEGIN, copy;
     uint64_t key = 77;
@@ -114,12 +109,11 @@ static int refused(void) {
     for (int i = 3; i < KEYS; i++) CHECK(vbr_next_within(&handle[0], &cursor, &key, 5 * 3 + 11) == VBR_YES && key == by_bucket[i]);
     CHECK(vbr_next_within(&handle[0], &cursor, &key, 0) == VBR_NO);
     CHECK(close_both(handle, KEYS - 1));
-    return 0;
 }
 
 /* The node of a removed key is passed in three steps while it is in its list: a remove with the least budget leaves it there. Behind
    the last key of a bucket it keeps the cursor in the bucket. */
-static int past_removed_nodes(void) {
+static void past_removed_nodes(void) {
     static const uint64_t some[3] = {2, 5, 8};
     vbr_handle handle[2] = {{0}};
     vbr_cursor begin = VBR_CURSOR_BEGIN, cursor = begin, copy = begin;
@@ -134,11 +128,10 @@ static int past_removed_nodes(void) {
     CHECK(!gives(&handle[1], &copy, 3 + 8, 0));
     CHECK(!gives(&handle[1], &copy, 3 + 5 + 3 + 3 + 3 + 3 + 8, 8));
     CHECK(close_both(handle, 2));
-    return 0;
 }
 
 /* Each key is removed as it is given, by this handle or the other one: none is passed over, and none is left. */
-static int removed_on_the_way(void) {
+static void removed_on_the_way(void) {
     vbr_handle handle[2] = {{0}};
     vbr_cursor cursor = VBR_CURSOR_BEGIN;
     uint64_t key = 77;
@@ -149,12 +142,11 @@ static int removed_on_the_way(void) {
     }
     CHECK(vbr_next(&handle[0], &cursor, &key) == VBR_NO);
     CHECK(close_both(handle, 0));
-    return 0;
 }
 
 /* What is inserted before the cursor isn't given, and what is inserted after it is; a key that was given isn't given again. After 2,
    the last key of its bucket, the cursor stands before the next one, so 5 isn't given; after 4 it stands before 7 and 2^64 - 1. */
-static int inserted_on_the_way(void) {
+static void inserted_on_the_way(void) {
     static const uint64_t some[4] = {2, 4, 9, UINT64_MAX}, rest[4] = {7, 1, 9, 8};
     vbr_handle handle[2] = {{0}};
     vbr_cursor cursor = VBR_CURSOR_BEGIN;
@@ -168,11 +160,10 @@ static int inserted_on_the_way(void) {
     CHECK(vbr_insert(&handle[1], 1) == VBR_YES && vbr_insert(&handle[1], 8) == VBR_YES);
     CHECK(!gives_all(&handle[0], cursor, rest, 4));
     CHECK(close_both(handle, 8));
-    return 0;
 }
 
 /* Any bytes are a cursor, and so is one of another set, which is closed by now: the walk from there gives what is after it. */
-static int other_cursors(void) {
+static void other_cursors(void) {
     static const uint64_t after[7] = {7, 4, 1, 9, 6, 3, 8}; /* of eight buckets 7 is in the third, 4 in the fourth, 1 and 9 in the fifth, and one is in each of the last */
     vbr_handle handle[2] = {{0}};
     vbr_cursor any, cursor = VBR_CURSOR_BEGIN;
@@ -186,11 +177,10 @@ static int other_cursors(void) {
     CHECK(!gives_all(&handle[0], cursor, NULL, 0) && close_both(handle, KEYS));
     CHECK(vbr_open_seeded(handle, 2, SLOTS, 8, VBR_MAX_EPOCH, 0, all, KEYS - 1) == VBR_OK);
     CHECK(!gives_all(&handle[0], cursor, after, 7) && close_both(handle, KEYS - 1));
-    return 0;
 }
 
 /* One handle on two walks at a time: each gives all. */
-static int two_walks(void) {
+static void two_walks(void) {
     vbr_handle handle[2] = {{0}};
     vbr_cursor one = VBR_CURSOR_BEGIN, other = one;
     uint64_t key = 77;
@@ -202,13 +192,11 @@ static int two_walks(void) {
     CHECK(vbr_next(&handle[0], &one, &key) == VBR_NO);
     CHECK(!gives_all(&handle[0], other, by_bucket + (KEYS + 1) / 2, KEYS / 2));
     CHECK(close_both(handle, KEYS));
-    return 0;
 }
 
 int main(void) {
-    if (nothing_to_give() || bucket_by_bucket() || refused() || past_removed_nodes() || removed_on_the_way() || inserted_on_the_way() ||
-        other_cursors() || two_walks())
-        return 1;
+    nothing_to_give(), bucket_by_bucket(), refused(), past_removed_nodes(), removed_on_the_way(), inserted_on_the_way(), other_cursors(),
+        two_walks();
     puts("walks in C: passed");
     return 0;
 }
