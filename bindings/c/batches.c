@@ -2,8 +2,6 @@
    other threads change other keys. */
 #include "client.h"
 
-#include <stdatomic.h>
-
 enum { MANY = 100, THREADS = 4, RANGE = 4096, BATCHES = 20000 };
 
 static uint64_t keys[MANY];

@@ -3,8 +3,6 @@
 #include "client.h"
 #include "vbr_lend.h"
 
-#include <sched.h>
-
 static uint64_t keys[8];
 
 static int one_by_one(void) {

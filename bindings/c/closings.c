@@ -6,9 +6,6 @@
    With FAULT 1 a thread makes a call by a handle that it doesn't own: a program that is wrong, for ThreadSanitizer to find. */
 #include "client.h"
 
-#include <sched.h>
-#include <stdatomic.h>
-
 enum { THREADS = 4, KEYS = 8 * THREADS, SLOTS = KEYS + 64 * THREADS };
 
 /* Its members are named as the calls are. */

@@ -2,7 +2,6 @@
 #include "client.h"
 
 #include <signal.h>
-#include <stdatomic.h>
 #include <sys/time.h>
 #include <sys/wait.h>
 #include <unistd.h>

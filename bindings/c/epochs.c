@@ -5,9 +5,6 @@
    asks for a node that was removed, unlinked and retired since the one before. A node that is marked still, at the end, paid for none. */
 #include "client.h"
 
-#include <sched.h>
-#include <stdatomic.h>
-
 enum { THREADS = 4, KEYS = 6, CALLS = 4000, MOST = 200, SLOTS = KEYS + THREADS };
 
 struct worker {

@@ -7,8 +7,6 @@
    the number of slots, and with 4 before it walks: programs that are wrong, for ThreadSanitizer to find. */
 #include "client.h"
 
-#include <sched.h>
-#include <stdatomic.h>
 #include <string.h>
 
 enum { THREADS = 4, HANDLES = 4, KEYS = 16, SLOTS = HANDLES * (KEYS + 64) };

@@ -7,8 +7,6 @@
 #include "client.h"
 #include "vbr_lend.h"
 
-#include <sched.h>
-
 enum { THREADS = 8, HANDLES = 3, KEYS = 64, SLOTS = KEYS + 64 * HANDLES, RENEWALS = 40 };
 
 struct worker {

@@ -4,8 +4,6 @@
    the join; and of those that it never hears from, by what others tell of them. */
 #include "client.h"
 
-#include <stdatomic.h>
-
 enum { THREADS = 4, BEHIND = 8 };
 
 /* How many keys of each thread are inserted, and below which of them the odd ones are removed. */

@@ -32,9 +32,6 @@
    calls that take twice the steps are refused, or, of inserts, three times. */
 #include "client.h"
 
-#include <sched.h>
-#include <stdatomic.h>
-
 enum { THREADS = 4, CHANGING = 4, MOST_RESTING = 24, PREPARED = 60, ALONE = 40, CALLS = 1000, AMPLE = 1 << 30 };
 enum { SLOTS = MOST_RESTING + CHANGING + THREADS * 64 + PREPARED };
 

@@ -25,7 +25,6 @@
 #include "stopping.h"
 #include "client.h"
 
-#include <sched.h>
 #include <string.h>
 
 enum {

@@ -13,9 +13,6 @@
    was left there. */
 #include "client.h"
 
-#include <sched.h>
-#include <stdatomic.h>
-
 enum { THREADS = 4, MAX_KEYS = 1 << 20 };
 
 /* With seed 0 keys are spread by a product with the first number, whose upper bits are the bucket; the second is its inverse. */

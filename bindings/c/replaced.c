@@ -9,9 +9,6 @@
    call: programs that are wrong, for ThreadSanitizer to find. */
 #include "client.h"
 
-#include <sched.h>
-#include <stdatomic.h>
-
 enum { WRITERS = 2, THREADS = 2 * WRITERS, KEYS = 8, MOST = 1 << 20, SLOTS = KEYS + 64 * THREADS };
 
 struct record {

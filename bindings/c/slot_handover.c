@@ -11,8 +11,6 @@
    after it published the slot. */
 #include "client.h"
 
-#include <sched.h>
-
 enum { PAIRS = 2, THREADS = 2 * PAIRS, SLOTS = 12, WORDS = 16 };
 
 static uint64_t messages[SLOTS][WORDS]; /* one for each slot */

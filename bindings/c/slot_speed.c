@@ -8,8 +8,6 @@
 #include "client.h"
 #include "vbr_records.h"
 
-#include <stdatomic.h>
-
 enum { KEYS = 4096, MOST_THREADS = 8, SLOTS = KEYS + 64 * MOST_THREADS, KINDS = 9, MOST_RUNS = 99, GET = 0, ASKED = 2, COUNTED = 3 };
 
 static const char *const names[KINDS] = {

@@ -7,7 +7,6 @@
 
 #include <errno.h>
 #include <signal.h>
-#include <stdatomic.h>
 
 static _Alignas(128) atomic_int working; /* threads that haven't done */
 static atomic_int pause_us;              /* how long a thread that is stopped stands still */
