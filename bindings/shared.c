@@ -181,22 +181,26 @@ void *block_resized(void *bytes, word size)
 
 /* ---- the calls of vbr_shared.h */
 
-int vbr_open_many_seeded(void *handles, word count, unsigned slots, unsigned buckets, word last_epoch, word seed, const void *keys, word key_count);
-int vbr_map_open_many_seeded(void *handles, word count, unsigned slots, unsigned buckets, word last_epoch, word seed, const void *entries, word entry_count);
-int renew_keys_seeded(void *handles, word count, unsigned slots, unsigned buckets, word last_epoch, word seed);
-int renew_entries_seeded(void *handles, word count, unsigned slots, unsigned buckets, word last_epoch, word seed);
+/* What an opening and a renewal of sets, or of maps, are given. */
+#define OPENING word count, unsigned slots, unsigned buckets, word last_epoch, const void *items, word item_count
+#define RENEWAL void *handles, word count, unsigned slots, unsigned buckets, word last_epoch, word seed
+
+int vbr_open_many_seeded(RENEWAL, const void *keys, word key_count);
+int vbr_map_open_many_seeded(RENEWAL, const void *entries, word entry_count);
+int renew_keys_seeded(RENEWAL);
+int renew_entries_seeded(RENEWAL);
 void forsake_handle(void *handle);
 void map_forsake_handle(void *handle);
 word vbr_seed(void *handle);
 word vbr_map_seed(void *handle);
 word vbr_random_seed(void);
 
-int vbr_open_shared(handle **handles, word count, unsigned slots, unsigned buckets, word last_epoch, const void *keys, word key_count);
-int vbr_map_open_shared(handle **handles, word count, unsigned slots, unsigned buckets, word last_epoch, const void *entries, word entry_count);
-int vbr_open_shared_in(int file, handle **handles, word count, unsigned slots, unsigned buckets, word last_epoch, const void *keys, word key_count);
-int vbr_map_open_shared_in(int file, handle **handles, word count, unsigned slots, unsigned buckets, word last_epoch, const void *entries, word entry_count);
-int vbr_renew_all_seeded(void *handles, word count, unsigned slots, unsigned buckets, word last_epoch, word seed);
-int vbr_map_renew_all_seeded(void *handles, word count, unsigned slots, unsigned buckets, word last_epoch, word seed);
+int vbr_open_shared(handle **handles, OPENING);
+int vbr_map_open_shared(handle **handles, OPENING);
+int vbr_open_shared_in(int file, handle **handles, OPENING);
+int vbr_map_open_shared_in(int file, handle **handles, OPENING);
+int vbr_renew_all_seeded(RENEWAL);
+int vbr_map_renew_all_seeded(RENEWAL);
 int vbr_renew_shared(handle *handles, unsigned slots, unsigned buckets, word last_epoch);
 int vbr_inherit(handle *handle);
 plain *vbr_gather(handle *handles);
@@ -273,7 +277,7 @@ static int is_shorter(int file, word size)
 
 /* The proved opening makes the same tests; here they come before the mapping, so that they are answered in the order of
    vbr_open_many. */
-static int open_in(int kind, int file, word is_map, handle **handles, word count, unsigned slots, unsigned buckets, word last_epoch, const void *items, word item_count)
+static int open_in(int kind, int file, word is_map, handle **handles, OPENING)
 {
     const word nothing = 0;
     if (!is_shape(slots, buckets, last_epoch)) return VBR_BAD_SHAPE;
@@ -302,25 +306,15 @@ static int open_in(int kind, int file, word is_map, handle **handles, word count
     return told;
 }
 
-int vbr_open_shared_in(int file, handle **handles, word count, unsigned slots, unsigned buckets, word last_epoch, const void *keys, word key_count)
-{
-    return open_in(0, file, 0, handles, count, slots, buckets, last_epoch, keys, key_count);
-}
+#define OPENS_IN_FILE(name, is_map) \
+    int name(int file, handle **handles, OPENING) { return open_in(0, file, is_map, handles, count, slots, buckets, last_epoch, items, item_count); }
+#define OPENS(name, is_map) \
+    int name(handle **handles, OPENING) { return open_in(ANONYMOUS, -1, is_map, handles, count, slots, buckets, last_epoch, items, item_count); }
 
-int vbr_map_open_shared_in(int file, handle **handles, word count, unsigned slots, unsigned buckets, word last_epoch, const void *entries, word entry_count)
-{
-    return open_in(0, file, 1, handles, count, slots, buckets, last_epoch, entries, entry_count);
-}
-
-int vbr_open_shared(handle **handles, word count, unsigned slots, unsigned buckets, word last_epoch, const void *keys, word key_count)
-{
-    return open_in(ANONYMOUS, -1, 0, handles, count, slots, buckets, last_epoch, keys, key_count);
-}
-
-int vbr_map_open_shared(handle **handles, word count, unsigned slots, unsigned buckets, word last_epoch, const void *entries, word entry_count)
-{
-    return open_in(ANONYMOUS, -1, 1, handles, count, slots, buckets, last_epoch, entries, entry_count);
-}
+OPENS_IN_FILE(vbr_open_shared_in, 0)
+OPENS_IN_FILE(vbr_map_open_shared_in, 1)
+OPENS(vbr_open_shared, 0)
+OPENS(vbr_map_open_shared, 1)
 
 /* Where a process died in a call, the pool of its handle and its hand may be half written: they are given up. */
 int vbr_inherit(handle *it)
@@ -335,21 +329,17 @@ int vbr_inherit(handle *it)
 }
 
 /* The proved renewals, whose memory comes from where the handles lie: from their mapping, or from malloc. */
-int vbr_renew_all_seeded(void *handles, word count, unsigned slots, unsigned buckets, word last_epoch, word seed)
-{
-    filled = share_of(handles);
-    int told = renew_keys_seeded(handles, count, slots, buckets, last_epoch, seed);
-    filled = 0;
-    return told;
-}
+#define RENEWS(name, proved) \
+    int name(RENEWAL) \
+    { \
+        filled = share_of(handles); \
+        int told = proved(handles, count, slots, buckets, last_epoch, seed); \
+        filled = 0; \
+        return told; \
+    }
 
-int vbr_map_renew_all_seeded(void *handles, word count, unsigned slots, unsigned buckets, word last_epoch, word seed)
-{
-    filled = share_of(handles);
-    int told = renew_entries_seeded(handles, count, slots, buckets, last_epoch, seed);
-    filled = 0;
-    return told;
-}
+RENEWS(vbr_renew_all_seeded, renew_keys_seeded)
+RENEWS(vbr_map_renew_all_seeded, renew_entries_seeded)
 
 int vbr_renew_shared(handle *handles, unsigned slots, unsigned buckets, word last_epoch)
 {

@@ -56,5 +56,5 @@ def faults(header_prototypes, calls):
             yield f"crates/vbr_c exports {name} as {returns} ({', '.join(given)}), and it is declared as {declared[name][0]} ({', '.join(declared[name][1])})"
     in_c_code = "\n".join(text_of(it) for it in glob.glob(f"{ROOT}/bindings/*.c"))
     for name in declared:
-        if name not in found and not re.search(rf"^\w[\w *]*\b{name}\([^;{{]*\)\n\{{", in_c_code, re.M):
+        if name not in found and not re.search(rf"^\w[\w *]*\b{name}\([^;{{]*\)\n\{{|^[A-Z_]+\({name}, ", in_c_code, re.M):
             yield f"{name} is declared, and neither crates/vbr_c nor a file of C in bindings/ has it"
