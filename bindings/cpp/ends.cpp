@@ -1,13 +1,10 @@
 // What is so of the handles of sets and of those of maps: whatever ends them nothing is lost, and the handle that is closed last gets
 // all; by the end of a thread, by an exception, and where they are lent.
-#include "vbr.hpp"
+#include "client.hpp"
 
 #include <atomic>
-#include <cstdio>
 #include <stdexcept>
 #include <thread>
-
-#define CHECK(x) do { if (!(x)) { std::fprintf(stderr, "ends.cpp:%d: %s\n", __LINE__, #x); return 1; } } while (0)
 
 // The calls of both: in a map each key has a value that follows from it.
 static bool added(vbr::pass &mine, std::uint64_t key) { return mine.insert(key).value(); }
@@ -33,7 +30,7 @@ static std::vector<std::uint64_t> told(const vbr::result<std::optional<Report>> 
 
 // Handles whose life ends in threads: the last one gets all, whichever it is.
 template <class Of>
-static int ends() {
+static void ends() {
     using handle = typename Of::handle;
     for (std::size_t last = 0; last < 3; last++) {
         std::vector<handle> handles = Of::open(vbr::shape::for_keys(64, 3), 3).value();
@@ -52,7 +49,6 @@ static int ends() {
         CHECK(told(report).size() == 40 && report.value()->free == 64 + 3 * 64 - 40);
         for (std::uint64_t key : told(report)) CHECK(key < 60 && key % 3 != last);
     }
-    return 0;
 }
 
 // Inserts a key by each of the handles that are open, and throws: it owns the handles, so they end.
@@ -65,7 +61,7 @@ static void inserts_and_throws(std::vector<Handle> owned) {
 
 // An exception that ends handles: the last close gets all, whichever handle is kept; and a loan is given back.
 template <class Of>
-static int exceptions() {
+static void exceptions() {
     for (std::size_t last = 0; last < 3; last++) {
         auto handles = Of::open(vbr::shape::for_keys(64, 3), 3).value();
         auto kept = std::move(handles[last]);
@@ -86,7 +82,6 @@ static int exceptions() {
         CHECK(lender.lend());
     }
     CHECK(told(lender.close()) == std::vector<std::uint64_t>{5});
-    return 0;
 }
 
 // Threads that borrow two handles: each stores keys of its own, and takes back every other one.
@@ -129,7 +124,8 @@ static int loans() {
 
 template <class Of>
 static int of_a_kind() {
-    return ends<Of>() || exceptions<Of>() || loans<Of>();
+    ends<Of>(), exceptions<Of>();
+    return loans<Of>();
 }
 
 int main() {

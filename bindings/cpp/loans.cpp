@@ -1,15 +1,12 @@
 // Handles on loan in C++, of sets and of maps: at once or not at all, or as soon as one is free; loans that own their share; lenders
 // and loans that are moved; closes of all handles or none; and renewals, which wait for all loans while others wait for one.
-#include "vbr.hpp"
+#include "client.hpp"
 
-#include <cstdio>
 #include <string>
 #include <thread>
 #include <type_traits>
 
 using namespace std::chrono_literals;
-
-#define CHECK(x) do { if (!(x)) { std::fprintf(stderr, "loans.cpp:%d: %s\n", __LINE__, #x); return 1; } } while (0)
 
 // What doesn't compile: another handle in the place of the one on loan, and a close by a loan.
 template <class Pass, class = void>
@@ -92,7 +89,7 @@ static int example() {
 
 // Handles that end without a report: all of them or, where one is on loan, none.
 template <class Of>
-static int ends_without_a_report() {
+static void ends_without_a_report() {
     auto another = lending<Of>(3);
     {
         auto mine = another.lend();
@@ -106,11 +103,10 @@ static int ends_without_a_report() {
     CHECK(lender.handles() == 2 && Of::adds(*lender.lend(), 7));
     CHECK(lender.end());
     CHECK(Of::keys(kept.close()) == keys{7}); // while one is kept nothing is lost
-    return 0;
 }
 
 template <class Of>
-static int each_handle_once(std::size_t handles) {
+static void each_handle_once(std::size_t handles) {
     auto lender = lending<Of>(handles);
     std::vector<decltype(lender.lend())> loans;
     std::vector<int> seen(handles);
@@ -122,12 +118,11 @@ static int each_handle_once(std::size_t handles) {
     std::swap(loans[7], loans[9]);
     std::thread([back = std::move(loans)] {}).join(); // given back by another thread
     CHECK(Of::keys(lender.close()).empty() && lender.handles() == 0 && !lender.lend() && !lender.lend_wait());
-    return 0;
 }
 
 // A handle that is on loan keeps the lender open; one that is empty, or of another set, is not lent.
 template <class Of>
-static int closes_all_or_none() {
+static void closes_all_or_none() {
     auto handles = Of::open(4), others = Of::open(2);
     auto kept = std::move(handles[3]);
     handles.push_back(std::move(others[0]));
@@ -141,12 +136,11 @@ static int closes_all_or_none() {
     }
     CHECK(!lender.close().value() && !lender.lend() && lender.close() == vbr::refusal::no_handle);
     CHECK(Of::keys(kept.close()) == (keys{1, 2}));
-    return 0;
 }
 
 // A lender that is moved has the loans that are out; each of two goes back where it is from.
 template <class Of>
-static int moved() {
+static void moved() {
     auto lender = lending<Of>(1), other = lending<Of>(1);
     auto mine = lender.lend(), another = other.lend();
     auto moved = std::move(lender);
@@ -158,12 +152,11 @@ static int moved() {
     CHECK(moved.lend());
     lender = std::move(moved);
     CHECK(Of::keys(lender.close()) == keys{1} && Of::keys(other.close()) == keys{2});
-    return 0;
 }
 
 // Eight threads wait for two handles, and none is left waiting; what each did beside a handle is there for the next one.
 template <class Of>
-static int waits() {
+static void waits() {
     auto lender = lending<Of>(2);
     std::vector<long> beside(lender.handles());
     std::atomic<int> wrong{0};
@@ -179,7 +172,6 @@ static int waits() {
         });
     for (std::thread &thread : threads) thread.join();
     CHECK(wrong == 0 && beside[0] + beside[1] == 8 * 2000 && Of::keys(lender.close()).empty());
-    return 0;
 }
 
 // A number that one thread tells another.
@@ -197,7 +189,7 @@ private:
 
 // A handle is given back just as another thread begins to wait for it: either that one sees it, or it is woken. What is written before
 // the return, to lines that the other thread wrote, makes the return come late.
-static int woken_in_time() {
+static void woken_in_time() {
     struct alignas(64) line {
         std::atomic<int> written{0};
     };
@@ -232,12 +224,11 @@ static int woken_in_time() {
     }
     other.join();
     CHECK(!late);
-    return 0;
 }
 
 // Waits that are over: by their time and not before, by a return, and by the close of the lender.
 template <class Of>
-static int ends_of_waits() {
+static void ends_of_waits() {
     auto lender = lending<Of>(1);
     auto kept = lender.lend();
     std::atomic<int> wrong{0}, waiting{2};
@@ -271,12 +262,11 @@ static int ends_of_waits() {
     while (told == vbr::refusal::on_loan) told = lender.close();
     outlives.join();
     CHECK(wrong == 0 && waiting == 0 && Of::keys(told) == keys{3});
-    return 0;
 }
 
 // Tasks that outlive the lender, each with a loan that was waited for before it began.
 template <class Of>
-static int tasks() {
+static void tasks() {
     std::atomic<int> made{0};
     std::vector<std::thread> threads;
     decltype(lending<Of>(3).lend_owned()) last;
@@ -292,12 +282,11 @@ static int tasks() {
     }
     CHECK(made == 30 && last->has(29).value() && Of::takes(*last, 0));
     last = {};
-    return 0;
 }
 
 // The set goes on with its keys, in another shape if wanted; unless it is done it is as it was, and all handles are lent again.
 template <class Of>
-static int renewals() {
+static void renewals() {
     auto handles = Of::open(3);
     auto kept = std::move(handles[2]);
     typename Of::lender lender(std::move(handles)), of_all = lending<Of>(2);
@@ -319,12 +308,11 @@ static int renewals() {
     CHECK(of_all.lend()->last_epoch() == of_all.last_epoch() && of_all.renew({1u << 24, 8, vbr::max_epoch - 1}) == vbr::refusal::bad_shape);
     CHECK(of_all.renew(small) && of_all.last_epoch() == 100 && of_all.buckets() == 1);
     CHECK(Of::keys(of_all.close()) == (keys{1, 3}) && of_all.renew(small) == vbr::refusal::no_handle);
-    return 0;
 }
 
 // While a renewal waits for a loan none is lent, though one is free, and it isn't closed; then it is made, and who waited is lent one.
 template <class Of>
-static int lends_none_meanwhile() {
+static void lends_none_meanwhile() {
     auto lender = lending<Of>(2);
     const vbr::shape wanted{300, 16, 1000};
     auto kept = lender.lend();
@@ -342,12 +330,11 @@ static int lends_none_meanwhile() {
     renews.join();
     waits.join();
     CHECK(wrong == 0 && lender.slots() == wanted.slots && Of::keys(lender.close()) == (keys{7, 8}));
-    return 0;
 }
 
 // Eight threads borrow three handles, in each way there is, and have loans of each other; two threads renew the set all the while.
 template <class Of>
-static int renewals_and_loans() {
+static void renewals_and_loans() {
     auto lender = lending<Of>(3);
     std::atomic<int> wrong{0}, lent{0}, renewed{0};
     std::atomic<bool> ends{false};
@@ -380,18 +367,18 @@ static int renewals_and_loans() {
     ends = true;
     for (std::thread &thread : renew) thread.join();
     CHECK(wrong == 0 && lent >= 8 * 400 && renewed > 0 && beside[0] + beside[1] + beside[2] == lent && Of::keys(lender.close()).empty());
-    return 0;
 }
 
 template <class Of>
-static int all() {
-    if (renewals<Of>() || lends_none_meanwhile<Of>() || renewals_and_loans<Of>()) return 1;
-    if (ends_without_a_report<Of>() || each_handle_once<Of>(64) || each_handle_once<Of>(1000) || closes_all_or_none<Of>() || moved<Of>()) return 1;
-    return waits<Of>() || ends_of_waits<Of>() || tasks<Of>();
+static void all() {
+    renewals<Of>(), lends_none_meanwhile<Of>(), renewals_and_loans<Of>();
+    ends_without_a_report<Of>(), each_handle_once<Of>(64), each_handle_once<Of>(1000), closes_all_or_none<Of>(), moved<Of>();
+    waits<Of>(), ends_of_waits<Of>(), tasks<Of>();
 }
 
 int main() {
-    if (example() || woken_in_time() || all<of_sets>() || all<of_maps>()) return 1;
+    if (example()) return 1;
+    woken_in_time(), all<of_sets>(), all<of_maps>();
     std::puts("lent handles in C++: passed");
     return 0;
 }

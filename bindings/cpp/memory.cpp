@@ -2,14 +2,10 @@
 // Memory that the library is refused while it opens a set, closes it, or renews it: all handles stay as they were, those of a lender too, which
 // lends on. A set is closed by vbr_close_all. Threads that ask for the same renewal share one.
 // Link with -Wl,--wrap=malloc,--wrap=realloc,--wrap=vbr_close,--wrap=vbr_map_close,--wrap=vbr_renew_all_seeded,--wrap=vbr_map_renew_all_seeded.
-#include "vbr.hpp"
+#include "client.hpp"
 
-#include <cstdio>
-#include <cstdlib>
 #include <new>
 #include <thread>
-
-#define CHECK(x) do { if (!(x)) { std::fprintf(stderr, "memory.cpp:%d: %s\n", __LINE__, #x); return 1; } } while (0)
 
 static bool refuses = false;         // what this program asks for
 static long granted = -1;            // how many blocks it still gets, where that isn't below 0
@@ -84,7 +80,7 @@ static bool throws(const Call &call) {
     return thrown;
 }
 
-static int maps() {
+static void maps() {
     const vbr::shape shape = vbr::shape::for_keys(1000, 3);
     CHECK(throws([&] { static_cast<void>(vbr::open_map(shape, 3)); }));
     CHECK(throws([&] { static_cast<void>(vbr::open_map_with(shape, 3, {{5, 50}})); }));
@@ -105,11 +101,10 @@ static int maps() {
     vbr::map_report last = handles[2].close().value().value();
     CHECK(last.entries.size() == 2 && last.entries.capacity() == 2);
     CHECK(last.entries[0].value == 50 && last.entries[1].value == 60 && last.free == shape.slots - 2);
-    return 0;
 }
 
 // Closes of a set of another type of keys, whose report takes memory twice: where either part is refused the handle stays as it was.
-static int typed() {
+static void typed() {
     const vbr::shape shape = vbr::shape::for_keys(1000, 1);
     auto handles = vbr::set<std::uint32_t>::open_with(shape, 1, {5, 7}).value();
     for (granted = 0; granted < 2;) {
@@ -128,10 +123,9 @@ static int typed() {
     long before = asked;
     vbr::set<std::uint32_t>::handle::end_all(handles); // which asks for none
     CHECK(asked == before && handles.empty());
-    return 0;
 }
 
-static int sets() {
+static void sets() {
     const vbr::shape shape = vbr::shape::for_keys(1000, 3);
     CHECK(throws([&] { static_cast<void>(vbr::open(shape, 3)); }));
     std::vector<vbr::handle> handles = vbr::open(shape, 3).value();
@@ -168,7 +162,6 @@ static int sets() {
         granted = -1;
         CHECK(long_one.value()->keys == (std::vector<std::uint64_t>{5, 7}) && (*long_one)->keys.capacity() == shape.slots);
     }
-    return 0;
 }
 
 // An opening whose library is refused each allocation in turn, and all later ones, tells it; once none is refused it opens.
@@ -188,7 +181,7 @@ static int opened(const Open &open) {
 
 // A lender that is refused memory: it leaves the handles where they were, and when it is closed it goes on to lend all of them.
 template <class Lender, class Handle, class Adds>
-static int lent(std::vector<Handle> handles, const Adds &adds) {
+static void lent(std::vector<Handle> handles, const Adds &adds) {
     CHECK(throws([&] { Lender none(std::move(handles)); }));
     CHECK(handles.size() == 3 && handles[0].is_open() && handles[2].is_open());
     Lender lender(std::move(handles));
@@ -206,13 +199,12 @@ static int lent(std::vector<Handle> handles, const Adds &adds) {
         CHECK(adds(*first, key) && *second->has(key) && *third->has(key));
     }
     CHECK(lender.close().value()->free == lender.slots() - 3 && !lender.lend());
-    return 0;
 }
 
 // A lender that is refused each allocation of a renewal in turn lends on, over the set that it had; and once none is refused, over a
 // fresh one. No renewal asks this program for memory.
 template <class Lender, class Adds>
-static int renewed(Lender lender, const Adds &adds) {
+static void renewed(Lender lender, const Adds &adds) {
     const vbr::shape before{lender.slots(), lender.buckets(), lender.last_epoch()}, wanted = vbr::shape::for_keys(2000, 3);
     CHECK(adds(*lender.lend(), 5));
     long of_program = asked;
@@ -231,13 +223,12 @@ static int renewed(Lender lender, const Adds &adds) {
     }
     CHECK(asked == of_program);
     CHECK(lender.close().value()->free == wanted.slots - 1);
-    return 0;
 }
 
 // Three threads ask for the same shape while a loan is out: where all of them wait one renewal is made. A thread that comes late makes
 // its own, so there are some turns.
 template <class Lender>
-static int shared_renewals(Lender lender) {
+static void shared_renewals(Lender lender) {
     const vbr::shape wanted = vbr::shape::for_keys(50, 3), other = vbr::shape::for_keys(60, 3);
     bool are_shared = false;
     for (int turn = 0; turn < 20 && !are_shared; turn++) {
@@ -258,7 +249,6 @@ static int shared_renewals(Lender lender) {
         are_shared = renewals_made == 1;
     }
     CHECK(are_shared && lender.renew(other) && lender.slots() == other.slots);
-    return 0;
 }
 
 static bool adds(vbr::pass &mine, std::uint64_t key) { return *mine.insert(key); }
@@ -270,10 +260,10 @@ int main() {
     const auto map = [&] { return vbr::open_map(shape, 3).value(); };
     if (opened([&] { return vbr::open(shape, 3); }) || opened([&] { return vbr::open_with(shape, 3, {5, 7}); })) return 1;
     if (opened([&] { return vbr::open_map(shape, 3); }) || opened([&] { return vbr::open_map_with(shape, 3, {{5, 50}}); })) return 1;
-    if (sets() || maps() || typed()) return 1;
-    if (renewed(vbr::lender(set()), adds) || renewed(vbr::map_lender(map()), adds_entry)) return 1;
-    if (shared_renewals(vbr::lender(set())) || shared_renewals(vbr::map_lender(map()))) return 1;
-    if (lent<vbr::lender>(set(), adds) || lent<vbr::map_lender>(map(), adds_entry)) return 1;
+    sets(), maps(), typed();
+    renewed(vbr::lender(set()), adds), renewed(vbr::map_lender(map()), adds_entry);
+    shared_renewals(vbr::lender(set())), shared_renewals(vbr::map_lender(map()));
+    lent<vbr::lender>(set(), adds), lent<vbr::map_lender>(map(), adds_entry);
     CHECK(closed_alone == 0);
     std::puts("refused memory in C++: passed");
     return 0;

@@ -1,15 +1,12 @@
 // Sets and maps of other keys and values than plain numbers: the examples of vbr.hpp for them, and a type of each kind in each call.
-#include "vbr.hpp"
+#include "client.hpp"
 
 #include <algorithm>
-#include <cstdio>
 #include <list>
 #include <map>
 #include <string>
 #include <thread>
 #include <vector>
-
-#define CHECK(x) do { if (!(x)) { std::fprintf(stderr, "typed.cpp:%d: %s\n", __LINE__, #x); return 1; } } while (0)
 
 enum class colour : std::uint8_t { red, green, blue };
 
@@ -49,7 +46,7 @@ static_assert(sizeof(vbr::set<colour>::handle) == sizeof(vbr::handle));
 
 using ports = vbr::map<address, std::uint16_t>;
 
-static int example() {
+static void example() {
     using colours = vbr::set<colour>;
     colours::handle mine = std::move(colours::open(vbr::shape::for_keys(8, 1), 1)->front());
     CHECK(*mine.insert(colour::green) && *mine.has(colour::green) && !*mine.has(colour::red) && !*mine.insert(colour::green));
@@ -61,7 +58,6 @@ static int example() {
     CHECK(there && of[1].put(address(0x7f000001), 80) == std::uint16_t{8080} && *of[0].compare_exchange(address(0x7f000001), 80, 443));
     for (auto [host, port] : of[0].entries()) CHECK(host.of() == 0x7f000001 && port == 443);
     ports::handle::end_all(of);
-    return 0;
 }
 
 template <class Key>
@@ -76,7 +72,7 @@ static bool are_same(const std::vector<Key> &one, const std::vector<Key> &other)
 
 // A set of three keys of a type, whose order by bits is that of the list: each call, a walk, reports, batches and a renewal.
 template <class Key>
-static int as_keys(const std::vector<Key> &keys) {
+static void as_keys(const std::vector<Key> &keys) {
     using numbers = vbr::set<Key>;
     auto handles = numbers::open_with(vbr::shape::for_keys(100, 2), 2, keys).value();
     typename numbers::handle &one = handles[0], &other = handles[1];
@@ -104,12 +100,11 @@ static int as_keys(const std::vector<Key> &keys) {
         CHECK(*mine->remove(keys[0]));
     }
     CHECK(are_same(lender.close().value()->keys, {keys[1], keys[2]}));
-    return 0;
 }
 
 // A map of values of a type, three of which are given: each call that takes or gives one.
 template <class Value>
-static int as_values(const Value (&of)[3]) {
+static void as_values(const Value (&of)[3]) {
     using values = vbr::map<std::int16_t, Value>;
     // by its bits -1 is the last
     auto handles = values::open_with(vbr::shape::for_keys(100, 1), 1, {{1, of[0]}, {2, of[1]}, {-1, of[2]}}).value();
@@ -132,11 +127,10 @@ static int as_values(const Value (&of)[3]) {
     while (std::optional<typename values::entry> next = mine.next(from).value()) CHECK(next->value == of[2]);
     auto entries = mine.close().value()->entries;
     CHECK((entries == std::vector<typename values::entry>{{2, of[2]}, {-1, of[2]}}));
-    return 0;
 }
 
 // Openings with ranges: of the type itself, or of unsigned numbers that have room; and keys in another order.
-static int ranges() {
+static void ranges() {
     const vbr::shape shape = vbr::shape::for_keys(8, 1);
     CHECK(*vbr::set<std::uint32_t>::open_with(shape, 1, std::list<std::uint16_t>{2, 5})->at(0).has(5));
     CHECK(*vbr::set<std::int32_t>::open_with(shape, 1, std::list<std::int32_t>{2, 5})->at(0).has(5));
@@ -147,24 +141,22 @@ static int ranges() {
     std::sort(keys.begin(), keys.end(), vbr::by_bits{}); // as open_with takes them
     CHECK((keys == std::vector<std::int32_t>{0, 1, -2, -1}));
     CHECK(vbr::set<std::int32_t>::open_with(shape, 1, keys)->at(0).close().value()->keys == keys);
-    return 0;
 }
 
 // Floats as keys are told apart by their bits: there are two zeros.
-static int floats() {
+static void floats() {
     auto mine = std::move(vbr::set<float>::open(vbr::shape::for_keys(8, 1), 1)->at(0));
     CHECK(*mine.insert(0.0f) && !*mine.has(-0.0f) && *mine.insert(-0.0f) && *mine.has(0.0f));
-    return 0;
 }
 
 int main() {
     int one = 0, other = 0;
     const double halves[3] = {0.5, -1.5, 1e300};
     int *const pointers[3] = {&one, &other, nullptr};
-    if (example() || ranges() || floats()) return 1;
-    if (as_keys<std::int64_t>({0, 5, -5}) || as_keys<address>({address(1), address(2), address(~0u)})) return 1;
-    if (as_keys<place>({{5, 1, 0}, {5, 2, 0}, {1, 1, 1}})) return 1;
-    if (as_values<std::int8_t>({1, -1, 127}) || as_values(halves) || as_values(pointers) || as_values<bool>({true, false, true})) return 1;
+    example(), ranges(), floats();
+    as_keys<std::int64_t>({0, 5, -5}), as_keys<address>({address(1), address(2), address(~0u)});
+    as_keys<place>({{5, 1, 0}, {5, 2, 0}, {1, 1, 1}});
+    as_values<std::int8_t>({1, -1, 127}), as_values(halves), as_values(pointers), as_values<bool>({true, false, true});
     std::puts("typed keys and values in C++: passed");
     return 0;
 }
