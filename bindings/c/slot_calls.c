@@ -14,14 +14,14 @@ enum { SLOTS = 1024 + 2 * 64 };
 
 static uint64_t beside[SLOTS];
 
-static int of_a_set(void) {
+static void of_a_set(void) {
     int added = 0, there = 0, copied = 0, taken = 0, let_go = 0;
     uint32_t slot = 0;
     vbr_handle handle[2] = {{0}};
     vbr_answer told;
     vbr_incarnation at = {0, 0, 0}; // what a call that finds the key writes
     vbr_incarnation before = at, nowhere = {1, 0, SLOTS};
-    if (vbr_open(handle, 2, SLOTS, 1024, VBR_MAX_EPOCH) != VBR_OK) return 1;
+    CHECK(vbr_open(handle, 2, SLOTS, 1024, VBR_MAX_EPOCH) == VBR_OK);
     CHECK(vbr_let_go(&handle[0]) == VBR_HELD && vbr_insert_held(&handle[0], 5) == VBR_HELD);
     if (vbr_hold(&handle[0], &slot) == VBR_YES) beside[slot] = 7; // nobody else writes there
     CHECK(slot < SLOTS && vbr_hold(&handle[0], &slot) == VBR_HELD && vbr_insert(&handle[0], 6) == VBR_HELD);
@@ -54,16 +54,15 @@ static int of_a_set(void) {
     vbr_end_all(handle, 2);
     CHECK(vbr_hold(&handle[0], &slot) == VBR_NO_HANDLE && vbr_is_still(&handle[0], &at) == VBR_NO_HANDLE);
     CHECK(vbr_remove_entry(&handle[0], 7, &at) == VBR_NO_HANDLE);
-    return 0;
 }
 
 /* A slot that was handed out anew isn't the entry's, and an entry that left is so until then: the only slot has the key again, with another
    birth. */
-static int handed_out_anew(void) {
+static void handed_out_anew(void) {
     uint32_t slot = 1;
     vbr_handle handle[1] = {{0}};
     vbr_incarnation before = {0, 0, 0}, at = {0, 0, 0};
-    if (vbr_open(handle, 1, 1, 1, VBR_MAX_EPOCH) != VBR_OK) return 1;
+    CHECK(vbr_open(handle, 1, 1, 1, VBR_MAX_EPOCH) == VBR_OK);
     CHECK(vbr_insert(&handle[0], 5) == VBR_YES && vbr_get_entry(&handle[0], 5, &before) == VBR_YES && before.slot == 0);
     CHECK(vbr_hold(&handle[0], &slot) == VBR_NO_SLOT);
     CHECK(vbr_remove(&handle[0], 5) == VBR_YES && vbr_is_still(&handle[0], &before) == VBR_YES);
@@ -73,11 +72,10 @@ static int handed_out_anew(void) {
     CHECK(vbr_remove_entry(&handle[0], 5, &before) == VBR_NO && vbr_get_entry(&handle[0], 5, &at) == VBR_YES);
     CHECK(at.slot == 0 && at.birth != before.birth && vbr_remove_entry(&handle[0], 5, &at) == VBR_YES && vbr_has(&handle[0], 5) == VBR_NO);
     vbr_drop(&handle[0]);
-    return 0;
 }
 
 /* A walk over the keys 1, 4, 7 and so on, of which number i stands in slot i, as in each set that opens with keys. */
-static int walked(void) {
+static void walked(void) {
     enum { KEYS = 40 };
     vbr_handle handle[2] = {{0}};
     vbr_answer told;
@@ -85,7 +83,7 @@ static int walked(void) {
     uint64_t walked = 0, key = 0;
     vbr_incarnation at = {0, 0, 0}, same = {0, 0, 0};
     for (uint64_t i = 0; i < KEYS; i++) some[i] = 3 * i + 1;
-    if (vbr_open_with(handle, 2, SLOTS, 1024, VBR_MAX_EPOCH, some, KEYS) != VBR_OK) return 1;
+    CHECK(vbr_open_with(handle, 2, SLOTS, 1024, VBR_MAX_EPOCH, some, KEYS) == VBR_OK);
     vbr_cursor cursor = VBR_CURSOR_BEGIN; // before the first key
     do {
         told = vbr_next_at(&handle[0], &cursor, &key, &at);
@@ -106,18 +104,17 @@ static int walked(void) {
     CHECK(told == VBR_NO && vbr_balance(&handle[1]) == -KEYS);
     vbr_end_all(handle, 2);
     CHECK(vbr_next_at(&handle[0], &cursor, &key, &at) == VBR_NO_HANDLE);
-    return 0;
 }
 
 /* Where keys stand, before a renewal and after it. */
-static int reported(void) {
+static void reported(void) {
     static const uint64_t some[2] = {2, 9};
     uint64_t keys[8] = {0};
     uint32_t slots[8] = {0}, slot = 0;
     vbr_handle handle[2] = {{0}};
     vbr_report report = {0};
     vbr_incarnation at = {0, 0, 0};
-    if (vbr_open_with(handle, 2, SLOTS, 1024, VBR_MAX_EPOCH, some, 2) != VBR_OK) return 1;
+    CHECK(vbr_open_with(handle, 2, SLOTS, 1024, VBR_MAX_EPOCH, some, 2) == VBR_OK);
     CHECK(vbr_hold(&handle[1], &slot) == VBR_YES && vbr_insert_held(&handle[1], 5) == VBR_YES);
     vbr_answer told = vbr_report_slots(handle, 2, keys, slots, 8, &report); // VBR_YES: keys[i] stands in slots[i]
     CHECK(told == VBR_YES && report.live == 3 && keys[1] == 5 && slots[1] == slot && slots[0] == 0 && slots[2] == 1);
@@ -126,10 +123,9 @@ static int reported(void) {
     CHECK(vbr_let_go(&handle[1]) == VBR_HELD); // the renewal has put it back
     for (uint32_t i = 0; i < 3; i++) CHECK(vbr_get_entry(&handle[0], keys[i], &at) == VBR_YES && at.slot == i);
     vbr_end_all(handle, 2);
-    return 0;
 }
 
-static int of_a_map(void) {
+static void of_a_map(void) {
     int added = 0, there = 0, copied = 0, changed = 0, taken = 0, let_go = 0;
     uint32_t slot = 0;
     vbr_map_handle map[2] = {{0}};
@@ -137,7 +133,7 @@ static int of_a_map(void) {
     vbr_incarnation at = {0, 0, 0}; // what a call that finds the key writes
     vbr_incarnation before = at, nowhere = {1, 0, SLOTS};
     uint64_t value = 0, found = 0;
-    if (vbr_map_open(map, 2, SLOTS, 1024, VBR_MAX_EPOCH) != VBR_OK) return 1;
+    CHECK(vbr_map_open(map, 2, SLOTS, 1024, VBR_MAX_EPOCH) == VBR_OK);
     CHECK(vbr_map_let_go(&map[0]) == VBR_HELD && vbr_map_insert_held(&map[0], 5, 70) == VBR_HELD);
     if (vbr_map_hold(&map[0], &slot) == VBR_YES) beside[slot] = 7; // nobody else writes there
     CHECK(slot < SLOTS && vbr_map_hold(&map[0], &slot) == VBR_HELD && vbr_map_insert(&map[0], 6, 60) == VBR_HELD);
@@ -185,16 +181,15 @@ static int of_a_map(void) {
     vbr_map_end_all(map, 2);
     CHECK(vbr_map_hold(&map[0], &slot) == VBR_NO_HANDLE && vbr_map_is_still(&map[0], &at) == VBR_NO_HANDLE);
     CHECK(vbr_map_remove_entry(&map[0], 7, &at) == VBR_NO_HANDLE);
-    return 0;
 }
 
 /* A slot that was handed out anew isn't the entry's, and an entry that left is so until then: the only slot has the key again, with another
    birth. */
-static int map_handed_out_anew(void) {
+static void map_handed_out_anew(void) {
     uint32_t slot = 1;
     vbr_map_handle map[1] = {{0}};
     vbr_incarnation before = {0, 0, 0}, at = {0, 0, 0};
-    if (vbr_map_open(map, 1, 1, 1, VBR_MAX_EPOCH) != VBR_OK) return 1;
+    CHECK(vbr_map_open(map, 1, 1, 1, VBR_MAX_EPOCH) == VBR_OK);
     CHECK(vbr_map_insert(&map[0], 5, 70) == VBR_YES && vbr_map_get_entry(&map[0], 5, &before) == VBR_YES && before.slot == 0);
     CHECK(vbr_map_hold(&map[0], &slot) == VBR_NO_SLOT);
     CHECK(vbr_map_remove(&map[0], 5, NULL) == VBR_YES && vbr_map_is_still(&map[0], &before) == VBR_YES);
@@ -204,11 +199,10 @@ static int map_handed_out_anew(void) {
     CHECK(vbr_map_remove_entry(&map[0], 5, &before) == VBR_NO && vbr_map_get_entry(&map[0], 5, &at) == VBR_YES);
     CHECK(at.slot == 0 && at.birth != before.birth && vbr_map_remove_entry(&map[0], 5, &at) == VBR_YES && vbr_map_has(&map[0], 5) == VBR_NO);
     vbr_map_drop(&map[0]);
-    return 0;
 }
 
 /* A walk over the keys 1, 4, 7 and so on, of which number i stands in slot i, as in each map that opens with entries. */
-static int map_walked(void) {
+static void map_walked(void) {
     enum { KEYS = 40 };
     vbr_map_handle map[2] = {{0}};
     vbr_answer told;
@@ -216,7 +210,7 @@ static int map_walked(void) {
     uint64_t sum = 0, key = 0;
     vbr_incarnation at = {0, 0, 0}, same = {0, 0, 0};
     for (uint64_t i = 0; i < KEYS; i++) some[i].key = 3 * i + 1, some[i].value = 10 * i;
-    if (vbr_map_open_with(map, 2, SLOTS, 1024, VBR_MAX_EPOCH, some, KEYS) != VBR_OK) return 1;
+    CHECK(vbr_map_open_with(map, 2, SLOTS, 1024, VBR_MAX_EPOCH, some, KEYS) == VBR_OK);
     vbr_cursor cursor = VBR_CURSOR_BEGIN; // before the first key
     do {
         told = vbr_map_next_at(&map[0], &cursor, &key, &at);
@@ -237,18 +231,17 @@ static int map_walked(void) {
     CHECK(told == VBR_NO && vbr_map_balance(&map[1]) == -KEYS);
     vbr_map_end_all(map, 2);
     CHECK(vbr_map_next_at(&map[0], &cursor, &key, &at) == VBR_NO_HANDLE);
-    return 0;
 }
 
 /* Where keys stand, before a renewal and after it. */
-static int map_reported(void) {
+static void map_reported(void) {
     static const vbr_entry some[2] = {{2, 20}, {9, 90}};
     vbr_entry entries[8] = {{0, 0}};
     uint32_t slots[8] = {0}, slot = 0;
     vbr_map_handle map[2] = {{0}};
     vbr_report report = {0};
     vbr_incarnation at = {0, 0, 0};
-    if (vbr_map_open_with(map, 2, SLOTS, 1024, VBR_MAX_EPOCH, some, 2) != VBR_OK) return 1;
+    CHECK(vbr_map_open_with(map, 2, SLOTS, 1024, VBR_MAX_EPOCH, some, 2) == VBR_OK);
     CHECK(vbr_map_hold(&map[1], &slot) == VBR_YES && vbr_map_insert_held(&map[1], 5, 50) == VBR_YES);
     vbr_answer told = vbr_map_report_slots(map, 2, entries, slots, 8, &report); // VBR_YES: entries[i] stands in slots[i]
     CHECK(told == VBR_YES && report.live == 3 && entries[1].value == 50 && slots[1] == slot && slots[0] == 0 && slots[2] == 1);
@@ -257,7 +250,6 @@ static int map_reported(void) {
     CHECK(vbr_map_let_go(&map[1]) == VBR_HELD); // the renewal has put it back
     for (uint32_t i = 0; i < 3; i++) CHECK(vbr_map_get_entry(&map[0], entries[i].key, &at) == VBR_YES && at.slot == i);
     vbr_map_end_all(map, 2);
-    return 0;
 }
 
 struct account { char owner[32]; uint64_t balance; };
@@ -316,7 +308,7 @@ static int beside_a_map(void) {
 }
 
 /* Records of a set, of any size, in a block of the program's. */
-static int beside_a_set(void) {
+static void beside_a_set(void) {
     static uint64_t block[32 * SLOTS], larger[32 * (2048 + 2 * 64)];
     uint32_t slot = 0;
     vbr_incarnation at = {0, 0, 0};
@@ -326,7 +318,7 @@ static int beside_a_set(void) {
     for (size_t bytes = 1; bytes <= 256; bytes += bytes < 20 ? 1 : 59) {
         unsigned char mine[256], seen[256] = {0};
         vbr_handle handle[2] = {{0}};
-        if (vbr_open(handle, 2, SLOTS, 1024, VBR_MAX_EPOCH) != VBR_OK) return 1;
+        CHECK(vbr_open(handle, 2, SLOTS, 1024, VBR_MAX_EPOCH) == VBR_OK);
         for (size_t i = 0; i < sizeof mine; i++) mine[i] = (unsigned char)(bytes + i);
         CHECK(vbr_records_size(SLOTS, bytes) <= sizeof block && vbr_records_open(&accounts, SLOTS, bytes, block) == VBR_OK);
         CHECK(vbr_hold(&handle[0], &slot) == VBR_YES);
@@ -344,18 +336,17 @@ static int beside_a_set(void) {
         vbr_end_all(handle, 2);
         vbr_records_close(&accounts);
     }
-    return 0;
 }
 
 /* A walk over the records of a set. */
-static int walked_beside_a_set(void) {
+static void walked_beside_a_set(void) {
     uint32_t slot = 0;
     uint64_t key = 0, sum = 0;
     vbr_handle handle[2] = {{0}};
     vbr_incarnation at = {0, 0, 0};
     struct account mine = {"somebody", 0}, seen = {"", 0};
     static vbr_records accounts;
-    if (vbr_open(handle, 2, SLOTS, 1024, VBR_MAX_EPOCH) != VBR_OK) return 1;
+    CHECK(vbr_open(handle, 2, SLOTS, 1024, VBR_MAX_EPOCH) == VBR_OK);
     CHECK(vbr_records_open(&accounts, vbr_slots(&handle[0]), sizeof(struct account), NULL) == VBR_OK);
     for (uint64_t other = 20; other < 30; other++) {
         mine.balance = 3 * other;
@@ -378,7 +369,6 @@ static int walked_beside_a_set(void) {
     vbr_end_all(handle, 2);
     CHECK(vbr_records_next(&handle[1], &again, &accounts, &key, &seen, &at) == VBR_NO_HANDLE && seen.balance == 0);
     vbr_records_close(&accounts);
-    return 0;
 }
 
 /* Walks over four keys of a set, and of a map, while another thread takes them out and adds them anew, each time with a record of another
@@ -390,36 +380,29 @@ static int is_over;
 static vbr_handle both[2];
 static vbr_records rounds;
 
-static void *write_rounds(void *wrong) {
+static void *write_rounds(void *none) {
     for (uint64_t round = 0; round < ROUNDS; round++) {
         uint64_t key = round % 4, words[WORDS];
         uint32_t slot = 0;
         vbr_incarnation at = {0, 0, 0};
         for (int i = 0; i < WORDS; i++) words[i] = 4 * round + key;
-        if (round >= 4 && vbr_get_entry(&both[0], key, &at) != VBR_YES) return wrong;
-        if (round >= 4 && vbr_remove_entry(&both[0], key, &at) != VBR_YES) return wrong;
-        if (vbr_hold(&both[0], &slot) != VBR_YES) return wrong;
+        CHECK(round < 4 || (vbr_get_entry(&both[0], key, &at) == VBR_YES && vbr_remove_entry(&both[0], key, &at) == VBR_YES));
+        CHECK(vbr_hold(&both[0], &slot) == VBR_YES);
         vbr_records_write(&rounds, slot, words);
-        if (vbr_insert_held(&both[0], key) != VBR_YES) return wrong;
+        CHECK(vbr_insert_held(&both[0], key) == VBR_YES);
     }
-    return NULL;
-}
-
-static void *write_and_end(void *wrong) {
-    wrong = write_rounds(wrong);
     __atomic_store_n(&is_over, 1, __ATOMIC_RELAXED);
-    return wrong;
+    return none;
 }
 
-static int walks_meanwhile(void) {
+static void walks_meanwhile(void) {
     pthread_t writer;
-    void *wrong = NULL;
     uint64_t words[WORDS], key = 0;
     vbr_incarnation at = {0, 0, 0};
     CHECK(vbr_open(both, 2, 6, 4, VBR_MAX_EPOCH) == VBR_OK);
     CHECK(vbr_records_open(&rounds, 6, sizeof words, NULL) == VBR_OK);
     __atomic_store_n(&is_over, 0, __ATOMIC_RELAXED);
-    CHECK(!pthread_create(&writer, NULL, write_and_end, words));
+    CHECK(!pthread_create(&writer, NULL, write_rounds, NULL));
     while (!__atomic_load_n(&is_over, __ATOMIC_RELAXED)) {
         vbr_cursor cursor = VBR_CURSOR_BEGIN;
         vbr_answer told;
@@ -427,45 +410,37 @@ static int walks_meanwhile(void) {
             for (int i = 0; i < WORDS; i++) CHECK(key < 4 && words[i] % 4 == key && words[i] == words[0]);
         CHECK(told == VBR_NO);
     }
-    CHECK(!pthread_join(writer, &wrong) && !wrong);
+    CHECK(!pthread_join(writer, NULL));
     vbr_end_all(both, 2);
     vbr_records_close(&rounds);
-    return 0;
 }
 
 static vbr_map_handle map_both[2];
 static vbr_records map_rounds;
 
-static void *map_write_rounds(void *wrong) {
+static void *map_write_rounds(void *none) {
     for (uint64_t round = 0; round < ROUNDS; round++) {
         uint64_t key = round % 4, words[WORDS];
         uint32_t slot = 0;
         vbr_incarnation at = {0, 0, 0};
         for (int i = 0; i < WORDS; i++) words[i] = 4 * round + key;
-        if (round >= 4 && vbr_map_get_entry(&map_both[0], key, &at) != VBR_YES) return wrong;
-        if (round >= 4 && vbr_map_remove_entry(&map_both[0], key, &at) != VBR_YES) return wrong;
-        if (vbr_map_hold(&map_both[0], &slot) != VBR_YES) return wrong;
+        CHECK(round < 4 || (vbr_map_get_entry(&map_both[0], key, &at) == VBR_YES && vbr_map_remove_entry(&map_both[0], key, &at) == VBR_YES));
+        CHECK(vbr_map_hold(&map_both[0], &slot) == VBR_YES);
         vbr_records_write(&map_rounds, slot, words);
-        if (vbr_map_insert_held(&map_both[0], key, round) != VBR_YES) return wrong;
+        CHECK(vbr_map_insert_held(&map_both[0], key, round) == VBR_YES);
     }
-    return NULL;
-}
-
-static void *map_write_and_end(void *wrong) {
-    wrong = map_write_rounds(wrong);
     __atomic_store_n(&is_over, 1, __ATOMIC_RELAXED);
-    return wrong;
+    return none;
 }
 
-static int map_walks_meanwhile(void) {
+static void map_walks_meanwhile(void) {
     pthread_t writer;
-    void *wrong = NULL;
     uint64_t words[WORDS], key = 0;
     vbr_incarnation at = {0, 0, 0};
     CHECK(vbr_map_open(map_both, 2, 6, 4, VBR_MAX_EPOCH) == VBR_OK);
     CHECK(vbr_records_open(&map_rounds, 6, sizeof words, NULL) == VBR_OK);
     __atomic_store_n(&is_over, 0, __ATOMIC_RELAXED);
-    CHECK(!pthread_create(&writer, NULL, map_write_and_end, words));
+    CHECK(!pthread_create(&writer, NULL, map_write_rounds, NULL));
     while (!__atomic_load_n(&is_over, __ATOMIC_RELAXED)) {
         vbr_cursor cursor = VBR_CURSOR_BEGIN;
         vbr_answer told;
@@ -473,14 +448,13 @@ static int map_walks_meanwhile(void) {
             for (int i = 0; i < WORDS; i++) CHECK(key < 4 && words[i] % 4 == key && words[i] == words[0]);
         CHECK(told == VBR_NO);
     }
-    CHECK(!pthread_join(writer, &wrong) && !wrong);
+    CHECK(!pthread_join(writer, NULL));
     vbr_map_end_all(map_both, 2);
     vbr_records_close(&map_rounds);
-    return 0;
 }
 
 /* Records in memory that processes share: one of them writes a record, and ends with another slot in hand. */
-static int between_processes(void) {
+static void between_processes(void) {
     vbr_shared_handle *handle = NULL;
     vbr_records accounts = {0};
     vbr_incarnation at = {0, 0, 0};
@@ -508,12 +482,12 @@ static int between_processes(void) {
     vbr_unmap_shared(handle);
     vbr_records_close(&accounts);
     CHECK(munmap(block, size) == 0);
-    return 0;
 }
 
 int main(void) {
-    if (of_a_set() || of_a_map() || handed_out_anew() || map_handed_out_anew() || walked() || map_walked() || reported() || map_reported()) return 1;
-    if (beside_a_map() || beside_a_set() || walked_beside_a_set() || walks_meanwhile() || map_walks_meanwhile() || between_processes()) return 1;
+    of_a_set(), of_a_map(), handed_out_anew(), map_handed_out_anew(), walked(), map_walked(), reported(), map_reported();
+    if (beside_a_map()) return 1;
+    beside_a_set(), walked_beside_a_set(), walks_meanwhile(), map_walks_meanwhile(), between_processes();
     puts("examples of each call on slots in hand and records in C: passed");
     return 0;
 }
