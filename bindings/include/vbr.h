@@ -1382,7 +1382,7 @@ VBR_NODISCARD vbr_answer vbr_remove_entry_within(vbr_handle *handle, uint64_t ke
    - at: the entry that was found.
    Returns:
    - VBR_YES: the key had that entry, and is taken out.
-   - VBR_NO: it is absent, or was given a value since then, even the same one; nothing was changed.
+   - VBR_NO: it is absent, or was taken out and added again, or given a value, even the same one, since then; nothing was changed.
    - VBR_NO_HANDLE.
    - VBR_OUT_OF_STEPS: a budget that is enough for vbr_map_remove is enough.
    Leaves: what vbr_map_remove leaves.

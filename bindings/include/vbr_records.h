@@ -67,7 +67,7 @@ VBR_NODISCARD static inline size_t vbr_records_size(uint32_t slots, size_t bytes
    - records: all zero.
    - slots, bytes: as of vbr_records_size.
    - block: null, and the memory is taken by calloc; or vbr_records_size bytes, which are zero, and aligned as words of 64 bits are. These
-   stay the program's, so records may lie in memory that processes share.
+     stay the program's, so records may lie in memory that processes share.
    Returns:
    - VBR_OK: they are open.
    - VBR_IN_USE.
@@ -127,8 +127,8 @@ VBR_NONNULL static inline void vbr_records_write(vbr_records *records, uint32_t 
 /* Copies the record of a slot.
    Parameters: records.
    - slot: any slot. For a held one the copy is what was written. For any other it counts for nothing until vbr_is_still or
-   vbr_map_is_still has said yes to the entry that was found there before. Until then it may mix two records: follow no pointer and no
-   index in it. vbr_records_read and its kin do all that.
+     vbr_map_is_still has said yes to the entry that was found there before. Until then it may mix two records: follow no pointer and
+     no index in it. vbr_records_read and its kin do all that.
    - data: where the copy is written, as many bytes as a record has.
    Returns: nothing.
    Leaves: the record as it was.
