@@ -24,12 +24,14 @@ static inline uint64_t next(uint64_t *random) {
     return *random;
 }
 
-/* The time in seconds. */
-static inline double now(void) {
+/* The time in nanoseconds, and in seconds. */
+static inline uint64_t nanoseconds(void) {
     struct timespec time;
     CHECK(clock_gettime(CLOCK_MONOTONIC, &time) == 0);
-    return (double)time.tv_sec + (double)time.tv_nsec / 1e9;
+    return (uint64_t)time.tv_sec * 1000000000u + (uint64_t)time.tv_nsec;
 }
+
+static inline double now(void) { return (double)nanoseconds() / 1e9; }
 
 /* Runs so many threads, up to 64, until each has ended; each works with an item of its own, of an array of items of this size. */
 static inline void run_threads(int count, void *(*work)(void *), void *items, size_t size) {

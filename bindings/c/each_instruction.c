@@ -6,11 +6,10 @@
 
        each_instruction [worn]     worn: only of handles that have made so many calls that one moves the pool to the front of its room */
 #define _GNU_SOURCE
+#include "client.h"
 #include "vbr_shared.h"
 
 #include <signal.h>
-#include <stdio.h>
-#include <stdlib.h>
 #include <string.h>
 #include <sys/prctl.h>
 #include <sys/ptrace.h>

@@ -10,19 +10,15 @@
    before and after it in memory that all share. A call that was under way at the kill took effect before it or not at all: both are
    tried. What else is noted has to be explained, as in bindings/c/realtime.c. */
 #define _GNU_SOURCE
+#include "client.h"
 #include "vbr_shared.h"
 
 #include <errno.h>
-#include <sched.h>
 #include <signal.h>
-#include <stdatomic.h>
-#include <stdio.h>
-#include <stdlib.h>
 #include <string.h>
 #include <sys/mman.h>
 #include <sys/prctl.h>
 #include <sys/wait.h>
-#include <time.h>
 #include <unistd.h>
 
 enum { MOST = 6, LIVES = 96, CALLS = 8192, KEYS = 8, STILL = 100, STILLS = 2, ABSENT = 0, CONFS = 1 << 14 };
@@ -60,7 +56,6 @@ static int is_careless;
 static long rounds, kills, in_call, stops, lives_begun, calls_made, refused, unknown, unseen, walks, overlaps, lost_in_all, lost_most, won_back;
 static long by_op[OPS];
 
-static uint64_t next(uint64_t *x) { *x ^= *x << 13, *x ^= *x >> 7, *x ^= *x << 17; return *x * 0x9e3779b97f4a7c15u; }
 static uint32_t below(uint64_t *random, uint32_t limit) { return (uint32_t)((next(random) >> 32) * limit >> 32); }
 static int failed(const char *what, long n) { fprintf(stderr, "killed: FAILED: %s (%ld, round %ld)\n", what, n, rounds); return 1; }
 static void rest(long microseconds) { nanosleep(&(struct timespec){0, microseconds * 1000}, NULL); }
@@ -452,8 +447,6 @@ struct ledger {
     atomic_uint faults;
 };
 
-static uint64_t now(void) { struct timespec t; clock_gettime(CLOCK_MONOTONIC, &t); return (uint64_t)t.tv_sec * 1000000000u + (uint64_t)t.tv_nsec; }
-
 static int balance(long wanted, uint64_t *random) {
     long renewals = 0;
     uint64_t longest_wait = 0, longest_renewal = 0;
@@ -520,7 +513,7 @@ static int balance(long wanted, uint64_t *random) {
             child[p] = -1, stopped[p] = 0;
             if (++since < SPELL) continue;
             /* all rest between two calls; those that were stopped go on first; the dead are inherited already */
-            uint64_t before = now();
+            uint64_t before = nanoseconds();
             atomic_store(&board->pause, (int)++renewals);
             for (int q = 0; q < CROWD; q++) {
                 if (child[q] < 0) continue;
@@ -530,9 +523,9 @@ static int balance(long wanted, uint64_t *random) {
                     sched_yield();
                 }
             }
-            uint64_t at_rest = now();
+            uint64_t at_rest = nanoseconds();
             if (vbr_renew_shared(handles, slots, MANY, VBR_MAX_EPOCH) != VBR_OK) return failed("the renewal", 0);
-            uint64_t renewed = now();
+            uint64_t renewed = nanoseconds();
             atomic_store(&board->pause, 0);
             if (at_rest - before > longest_wait) longest_wait = at_rest - before;
             if (renewed - at_rest > longest_renewal) longest_renewal = renewed - at_rest;

@@ -313,30 +313,6 @@ VBR_NODISCARD static inline vbr_answer value_opened(vbr_answer answer, size_t ke
     return answer;
 }
 
-VBR_NODISCARD static inline vbr_answer value_open_with(vbr_map_handle *handles, size_t count, uint32_t slots, uint32_t buckets,
-                                                       uint64_t last_epoch, const uint64_t *keys, size_t key_count) {
-    value_open_entries(keys, key_count);
-    return value_opened(vbr_map_open_with(handles, count, slots, buckets, last_epoch, opening_entries, key_count), key_count);
-}
-
-VBR_NODISCARD static inline vbr_answer value_open_seeded(vbr_map_handle *handles, size_t count, uint32_t slots, uint32_t buckets,
-                                                         uint64_t last_epoch, uint64_t seed, const uint64_t *keys, size_t key_count) {
-    value_open_entries(keys, key_count);
-    return value_opened(vbr_map_open_seeded(handles, count, slots, buckets, last_epoch, seed, opening_entries, key_count), key_count);
-}
-
-VBR_NODISCARD static inline vbr_answer value_open_many(vbr_map_handle *handles, size_t count, uint32_t slots, uint32_t buckets,
-                                                       uint64_t last_epoch, const uint64_t *keys, size_t key_count) {
-    value_open_entries(keys, key_count);
-    return value_opened(vbr_map_open_many(handles, count, slots, buckets, last_epoch, opening_entries, key_count), key_count);
-}
-
-VBR_NODISCARD static inline vbr_answer value_open_many_seeded(vbr_map_handle *handles, size_t count, uint32_t slots, uint32_t buckets,
-                                                              uint64_t last_epoch, uint64_t seed, const uint64_t *keys, size_t key_count) {
-    value_open_entries(keys, key_count);
-    return value_opened(vbr_map_open_many_seeded(handles, count, slots, buckets, last_epoch, seed, opening_entries, key_count), key_count);
-}
-
 /* The entries of a report: each value is taken out, and its key is returned. */
 static inline void value_report(uint64_t *keys, size_t count) {
     uint64_t now = value_read(&value_time);
@@ -374,6 +350,30 @@ VBR_NODISCARD static inline vbr_answer value_report_all(vbr_map_handle *handles,
 #define OF_VALUES
 
 /* What follows is made of bindings/interface/vbr.h.in by tools/interface. */
+
+VBR_NODISCARD static inline vbr_answer value_open_with(vbr_map_handle *handles, size_t count, uint32_t slots, uint32_t buckets,
+                                                       uint64_t last_epoch, const uint64_t *keys, size_t key_count) {
+    value_open_entries(keys, key_count);
+    return value_opened(vbr_map_open_with(handles, count, slots, buckets, last_epoch, opening_entries, key_count), key_count);
+}
+
+VBR_NODISCARD static inline vbr_answer value_open_seeded(vbr_map_handle *handles, size_t count, uint32_t slots, uint32_t buckets,
+                                                         uint64_t last_epoch, uint64_t seed, const uint64_t *keys, size_t key_count) {
+    value_open_entries(keys, key_count);
+    return value_opened(vbr_map_open_seeded(handles, count, slots, buckets, last_epoch, seed, opening_entries, key_count), key_count);
+}
+
+VBR_NODISCARD static inline vbr_answer value_open_many(vbr_map_handle *handles, size_t count, uint32_t slots, uint32_t buckets,
+                                                       uint64_t last_epoch, const uint64_t *keys, size_t key_count) {
+    value_open_entries(keys, key_count);
+    return value_opened(vbr_map_open_many(handles, count, slots, buckets, last_epoch, opening_entries, key_count), key_count);
+}
+
+VBR_NODISCARD static inline vbr_answer value_open_many_seeded(vbr_map_handle *handles, size_t count, uint32_t slots, uint32_t buckets,
+                                                              uint64_t last_epoch, uint64_t seed, const uint64_t *keys, size_t key_count) {
+    value_open_entries(keys, key_count);
+    return value_opened(vbr_map_open_many_seeded(handles, count, slots, buckets, last_epoch, seed, opening_entries, key_count), key_count);
+}
 
 VBR_NODISCARD static inline vbr_answer value_insert(vbr_map_handle *handle, uint64_t key) {
     return value_insert_within(handle, key, vbr_map_steps_of(handle));
