@@ -256,7 +256,7 @@ VBR_NODISCARD vbr_answer vbr_open(vbr_handle *handles, size_t count, uint32_t sl
 VBR_NODISCARD vbr_answer vbr_open_with(vbr_handle *handles, size_t count, uint32_t slots, uint32_t buckets, uint64_t last_epoch,
                                        const uint64_t *keys, size_t key_count) VBR_NOEXCEPT VBR_NONNULL;
 
-/* Opens a set as vbr_open_with does, with its keys spread over the buckets by this seed.
+/* Opens a set with its keys spread over the buckets by this seed, as vbr_open_with does otherwise.
    Parameters:
    - handles, count, slots, buckets, last_epoch: as of vbr_open.
    - seed: any number; vbr(3) says which one to choose. With the same seed and number of buckets each key has the same bucket, so
@@ -279,7 +279,7 @@ VBR_NODISCARD vbr_answer vbr_open_seeded(vbr_handle *handles, size_t count, uint
        vbr_answer renewed = vbr_renew_all_seeded(handle, 2, 2048 + 2 * 64, 2048, VBR_MAX_EPOCH, vbr_random_seed()); */
 VBR_NODISCARD uint64_t vbr_random_seed(void) VBR_NOEXCEPT;
 
-/* Opens a set as vbr_open_with does, with up to VBR_MAX_MANY_HANDLES handles.
+/* Opens a set with up to VBR_MAX_MANY_HANDLES handles, as vbr_open_with does otherwise.
    Parameters:
    - handles, count: from 1 to VBR_MAX_MANY_HANDLES that are empty. Each may keep 64 slots, as always, so a thousand need 64,000
      slots more than keys.
@@ -297,7 +297,7 @@ VBR_NODISCARD uint64_t vbr_random_seed(void) VBR_NOEXCEPT;
 VBR_NODISCARD vbr_answer vbr_open_many(vbr_handle *handles, size_t count, uint32_t slots, uint32_t buckets, uint64_t last_epoch,
                                        const uint64_t *keys, size_t key_count) VBR_NOEXCEPT VBR_NONNULL;
 
-/* Opens a set as vbr_open_many does, with its keys spread by this seed.
+/* Opens a set for many handles with its keys spread by this seed, as vbr_open_many does otherwise.
    Parameters:
    - handles, count, slots, buckets, last_epoch, keys, key_count: as of vbr_open_many.
    - seed: as of vbr_open_seeded.
@@ -325,7 +325,7 @@ VBR_NODISCARD vbr_answer vbr_open_many_seeded(vbr_handle *handles, size_t count,
        if (vbr_insert(&handle[0], 5) == VBR_YES) added++; // this call added 5 */
 VBR_NODISCARD static inline vbr_answer vbr_insert(vbr_handle *handle, uint64_t key) VBR_NOEXCEPT VBR_NONNULL;
 
-/* Adds a key within `steps` steps, as vbr_insert does.
+/* Adds a key within a budget of `steps`, as vbr_insert does.
 
        told = vbr_insert_within(&handle[0], 7, 500); // at most 500 steps */
 VBR_NODISCARD vbr_answer vbr_insert_within(vbr_handle *handle, uint64_t key, uint32_t steps) VBR_NOEXCEPT VBR_NONNULL;
@@ -342,7 +342,7 @@ VBR_NODISCARD vbr_answer vbr_insert_within(vbr_handle *handle, uint64_t key, uin
        if (vbr_remove(&handle[1], 5) == VBR_YES) taken++; // this call took 5 out */
 VBR_NODISCARD static inline vbr_answer vbr_remove(vbr_handle *handle, uint64_t key) VBR_NOEXCEPT VBR_NONNULL;
 
-/* Takes a key out within `steps` steps, as vbr_remove does.
+/* Takes a key out within a budget of `steps`, as vbr_remove does.
 
        told = vbr_remove_within(&handle[0], 7, 500); // at most 500 steps */
 VBR_NODISCARD vbr_answer vbr_remove_within(vbr_handle *handle, uint64_t key, uint32_t steps) VBR_NOEXCEPT VBR_NONNULL;
@@ -358,7 +358,7 @@ VBR_NODISCARD vbr_answer vbr_remove_within(vbr_handle *handle, uint64_t key, uin
        if (vbr_has(&handle[1], 5) == VBR_YES) there++; // 5 was there during the call */
 VBR_NODISCARD static inline vbr_answer vbr_has(vbr_handle *handle, uint64_t key) VBR_NOEXCEPT VBR_NONNULL;
 
-/* Looks a key up within `steps` steps, as vbr_has does.
+/* Looks a key up within a budget of `steps`, as vbr_has does.
 
        told = vbr_has_within(&handle[1], 7, 500); // at most 500 steps */
 VBR_NODISCARD vbr_answer vbr_has_within(vbr_handle *handle, uint64_t key, uint32_t steps) VBR_NOEXCEPT VBR_NONNULL;
@@ -377,7 +377,7 @@ VBR_NODISCARD vbr_answer vbr_has_within(vbr_handle *handle, uint64_t key, uint32
 static inline void vbr_has_all(vbr_handle *handle, const uint64_t *keys, size_t count,
                                vbr_answer *answers) VBR_NOEXCEPT VBR_NONNULL_FIRST;
 
-/* Looks keys up within `steps` steps for each key, as vbr_has_all does.
+/* Looks keys up within a budget of `steps` for each key, as vbr_has_all does.
 
        vbr_has_all_within(&handle[0], wanted, 3, answers, 500); // at most 500 steps for each key */
 void vbr_has_all_within(vbr_handle *handle, const uint64_t *keys, size_t count, vbr_answer *answers,
@@ -417,7 +417,7 @@ typedef struct vbr_cursor {
        } while (told == VBR_YES || told == VBR_OUT_OF_STEPS); // at the end it is VBR_NO */
 VBR_NODISCARD static inline vbr_answer vbr_next(vbr_handle *handle, vbr_cursor *cursor, uint64_t *key) VBR_NOEXCEPT VBR_NONNULL;
 
-/* Gives the next key of a walk within `steps` steps, as vbr_next does.
+/* Gives the next key of a walk within a budget of `steps`, as vbr_next does.
 
        told = vbr_next_within(&handle[0], &cursor, &key, 5000); // at most 5000 steps */
 VBR_NODISCARD vbr_answer vbr_next_within(vbr_handle *handle, vbr_cursor *cursor, uint64_t *key,
@@ -512,7 +512,7 @@ uint32_t vbr_reserve(vbr_handle *handle, uint32_t wanted) VBR_NOEXCEPT VBR_NONNU
 
 /* Reports, closes and renewals */
 
-/* Gives up the slots of a handle, as vbr_give_slots_back does, and its pass; the last one of a set ends it with a report.
+/* Closes a handle; the last one of a set ends it, with a report.
    Parameters:
    - handle: it may be null, as an empty one.
    - keys, room: an array of `room` elements, where the keys, ascending, are written, after VBR_YES alone. Elements after the last
@@ -525,7 +525,8 @@ uint32_t vbr_reserve(vbr_handle *handle, uint32_t wanted) VBR_NOEXCEPT VBR_NONNU
    - VBR_NO_MEMORY: it is the last. Only then is memory needed, which is freed again.
    - VBR_LOST.
    - VBR_NO_ROOM: it is the last, and there are more keys than `room`: so many as report->live says.
-   Leaves: the handle empty. VBR_NO_MEMORY and VBR_NO_ROOM leave it full: close it again, drop it, or go on with it.
+   Leaves: the handle empty, and its slots given back, as by vbr_give_slots_back, and its pass. VBR_NO_MEMORY and VBR_NO_ROOM leave
+   it full: close it again, drop it, or go on with it.
 
        vbr_answer first = vbr_close(&handle[0], keys, 8, &report); // VBR_NO: the other handle is open
        vbr_answer last = vbr_close(&handle[1], keys, 8, &report);  // VBR_YES: report.live keys are in front of keys */
@@ -580,7 +581,7 @@ VBR_NODISCARD vbr_answer vbr_report_all(vbr_handle *handles, size_t count, uint6
 VBR_NODISCARD vbr_answer vbr_renew_all(vbr_handle *handles, size_t count, uint32_t slots, uint32_t buckets,
                                        uint64_t last_epoch) VBR_NOEXCEPT VBR_NONNULL;
 
-/* Lets all handles go on over a fresh set, as vbr_renew_all does, with its keys spread by this seed.
+/* Lets all handles go on over a fresh set with its keys spread by this seed, as vbr_renew_all does otherwise.
    Parameters: handles, count, slots, buckets, last_epoch.
    - seed: as of vbr_open_seeded.
    Returns: what vbr_renew_all returns.
@@ -672,7 +673,7 @@ VBR_NODISCARD vbr_answer vbr_map_open_with(vbr_map_handle *handles, size_t count
                                            uint64_t last_epoch, const vbr_entry *entries,
                                            size_t entry_count) VBR_NOEXCEPT VBR_NONNULL;
 
-/* Opens a map as vbr_map_open_with does, with its keys spread over the buckets by this seed.
+/* Opens a map with its keys spread over the buckets by this seed, as vbr_map_open_with does otherwise.
    Parameters:
    - handles, count, slots, buckets, last_epoch: as of vbr_map_open.
    - seed: as of vbr_open_seeded.
@@ -685,7 +686,7 @@ VBR_NODISCARD vbr_answer vbr_map_open_seeded(vbr_map_handle *handles, size_t cou
                                              uint64_t last_epoch, uint64_t seed, const vbr_entry *entries,
                                              size_t entry_count) VBR_NOEXCEPT VBR_NONNULL;
 
-/* Opens a map as vbr_map_open_with does, with up to VBR_MAX_MANY_HANDLES handles.
+/* Opens a map with up to VBR_MAX_MANY_HANDLES handles, as vbr_map_open_with does otherwise.
    Parameters:
    - handles, count: from 1 to VBR_MAX_MANY_HANDLES that are empty. Each may keep 64 slots, as always, so a thousand need 64,000
      slots more than keys.
@@ -704,7 +705,7 @@ VBR_NODISCARD vbr_answer vbr_map_open_many(vbr_map_handle *handles, size_t count
                                            uint64_t last_epoch, const vbr_entry *entries,
                                            size_t entry_count) VBR_NOEXCEPT VBR_NONNULL;
 
-/* Opens a map as vbr_map_open_many does, with its keys spread by this seed.
+/* Opens a map for many handles with its keys spread by this seed, as vbr_map_open_many does otherwise.
    Parameters:
    - handles, count, slots, buckets, last_epoch, entries, entry_count: as of vbr_map_open_many.
    - seed: as of vbr_open_seeded.
@@ -733,7 +734,7 @@ VBR_NODISCARD vbr_answer vbr_map_open_many_seeded(vbr_map_handle *handles, size_
 VBR_NODISCARD static inline vbr_answer vbr_map_insert(vbr_map_handle *handle, uint64_t key,
                                                       uint64_t value) VBR_NOEXCEPT VBR_NONNULL;
 
-/* Adds a key with its value within `steps` steps, as vbr_map_insert does.
+/* Adds a key with its value within a budget of `steps`, as vbr_map_insert does.
 
        told = vbr_map_insert_within(&map[0], 7, 70, 500); // at most 500 steps */
 VBR_NODISCARD vbr_answer vbr_map_insert_within(vbr_map_handle *handle, uint64_t key, uint64_t value,
@@ -753,7 +754,7 @@ VBR_NODISCARD vbr_answer vbr_map_insert_within(vbr_map_handle *handle, uint64_t 
 VBR_NODISCARD static inline vbr_answer vbr_map_remove(vbr_map_handle *handle, uint64_t key,
                                                       uint64_t *value) VBR_NOEXCEPT VBR_NONNULL_FIRST;
 
-/* Takes a key out with its value within `steps` steps, as vbr_map_remove does.
+/* Takes a key out with its value within a budget of `steps`, as vbr_map_remove does.
 
        told = vbr_map_remove_within(&map[0], 7, NULL, 500); // at most 500 steps; whatever value it had */
 VBR_NODISCARD vbr_answer vbr_map_remove_within(vbr_map_handle *handle, uint64_t key, uint64_t *value,
@@ -772,7 +773,7 @@ VBR_NODISCARD vbr_answer vbr_map_remove_within(vbr_map_handle *handle, uint64_t 
 VBR_NODISCARD static inline vbr_answer vbr_map_get(vbr_map_handle *handle, uint64_t key,
                                                    uint64_t *value) VBR_NOEXCEPT VBR_NONNULL_FIRST;
 
-/* Looks a key up and gives its value within `steps` steps, as vbr_map_get does.
+/* Looks a key up and gives its value within a budget of `steps`, as vbr_map_get does.
 
        told = vbr_map_get_within(&map[0], 7, &value, 500); // at most 500 steps */
 VBR_NODISCARD vbr_answer vbr_map_get_within(vbr_map_handle *handle, uint64_t key, uint64_t *value,
@@ -791,7 +792,7 @@ VBR_NODISCARD vbr_answer vbr_map_get_within(vbr_map_handle *handle, uint64_t key
 VBR_NODISCARD static inline vbr_answer vbr_map_replace(vbr_map_handle *handle, uint64_t key, uint64_t value,
                                                        uint64_t *there) VBR_NOEXCEPT VBR_NONNULL_FIRST;
 
-/* Gives a key that is there another value within `steps` steps, as vbr_map_replace does.
+/* Gives a key that is there another value within a budget of `steps`, as vbr_map_replace does.
 
        told = vbr_map_replace_within(&map[0], 7, 71, &value, 500); // at most 500 steps */
 VBR_NODISCARD vbr_answer vbr_map_replace_within(vbr_map_handle *handle, uint64_t key, uint64_t value, uint64_t *there,
@@ -810,7 +811,7 @@ VBR_NODISCARD vbr_answer vbr_map_replace_within(vbr_map_handle *handle, uint64_t
 VBR_NODISCARD static inline vbr_answer vbr_map_put(vbr_map_handle *handle, uint64_t key, uint64_t value,
                                                    uint64_t *there) VBR_NOEXCEPT VBR_NONNULL_FIRST;
 
-/* Gives a key this value within `steps` steps, as vbr_map_put does.
+/* Gives a key this value within a budget of `steps`, as vbr_map_put does.
 
        told = vbr_map_put_within(&map[0], 7, 72, NULL, 500); // at most 500 steps */
 VBR_NODISCARD vbr_answer vbr_map_put_within(vbr_map_handle *handle, uint64_t key, uint64_t value, uint64_t *there,
@@ -830,7 +831,7 @@ VBR_NODISCARD vbr_answer vbr_map_put_within(vbr_map_handle *handle, uint64_t key
 VBR_NODISCARD static inline vbr_answer vbr_map_get_or_insert(vbr_map_handle *handle, uint64_t key, uint64_t value,
                                                              uint64_t *there) VBR_NOEXCEPT VBR_NONNULL_FIRST;
 
-/* Gives the value of a key, or inserts it, within `steps` steps, as vbr_map_get_or_insert does.
+/* Gives the value of a key, or inserts it, within a budget of `steps`, as vbr_map_get_or_insert does.
 
        told = vbr_map_get_or_insert_within(&map[0], 7, 73, &value, 500); // at most 500 steps */
 VBR_NODISCARD vbr_answer vbr_map_get_or_insert_within(vbr_map_handle *handle, uint64_t key, uint64_t value, uint64_t *there,
@@ -853,7 +854,7 @@ VBR_NODISCARD vbr_answer vbr_map_get_or_insert_within(vbr_map_handle *handle, ui
 VBR_NODISCARD static inline vbr_answer vbr_map_compare_exchange(vbr_map_handle *handle, uint64_t key, uint64_t expected,
                                                                 uint64_t value, uint64_t *there) VBR_NOEXCEPT VBR_NONNULL_FIRST;
 
-/* Gives a key another value if it has the one that is expected, within `steps` steps, as vbr_map_compare_exchange does.
+/* Gives a key another value if it has the one that is expected, within a budget of `steps`, as vbr_map_compare_exchange does.
 
        told = vbr_map_compare_exchange_within(&map[0], 7, 72, 74, NULL, 500); // at most 500 steps */
 VBR_NODISCARD vbr_answer vbr_map_compare_exchange_within(vbr_map_handle *handle, uint64_t key, uint64_t expected, uint64_t value,
@@ -873,7 +874,7 @@ VBR_NODISCARD vbr_answer vbr_map_compare_exchange_within(vbr_map_handle *handle,
 VBR_NODISCARD static inline vbr_answer vbr_map_remove_if(vbr_map_handle *handle, uint64_t key, uint64_t expected,
                                                          uint64_t *there) VBR_NOEXCEPT VBR_NONNULL_FIRST;
 
-/* Takes a key out if it has the value that is expected, within `steps` steps, as vbr_map_remove_if does.
+/* Takes a key out if it has the value that is expected, within a budget of `steps`, as vbr_map_remove_if does.
 
        told = vbr_map_remove_if_within(&map[0], 7, 75, &value, 500); // at most 500 steps */
 VBR_NODISCARD vbr_answer vbr_map_remove_if_within(vbr_map_handle *handle, uint64_t key, uint64_t expected, uint64_t *there,
@@ -890,7 +891,7 @@ VBR_NODISCARD vbr_answer vbr_map_remove_if_within(vbr_map_handle *handle, uint64
        if (vbr_map_has(&map[0], 5) == VBR_YES) there++; // 5 was there during the call */
 VBR_NODISCARD static inline vbr_answer vbr_map_has(vbr_map_handle *handle, uint64_t key) VBR_NOEXCEPT VBR_NONNULL;
 
-/* Looks a key up within `steps` steps, as vbr_map_has does.
+/* Looks a key up within a budget of `steps`, as vbr_map_has does.
 
        told = vbr_map_has_within(&map[0], 7, 500); // at most 500 steps */
 VBR_NODISCARD vbr_answer vbr_map_has_within(vbr_map_handle *handle, uint64_t key, uint32_t steps) VBR_NOEXCEPT VBR_NONNULL;
@@ -908,7 +909,7 @@ VBR_NODISCARD vbr_answer vbr_map_has_within(vbr_map_handle *handle, uint64_t key
 static inline void vbr_map_has_all(vbr_map_handle *handle, const uint64_t *keys, size_t count,
                                    vbr_answer *answers) VBR_NOEXCEPT VBR_NONNULL_FIRST;
 
-/* Looks keys up within `steps` steps for each key, as vbr_map_has_all does.
+/* Looks keys up within a budget of `steps` for each key, as vbr_map_has_all does.
 
        vbr_map_has_all_within(&map[0], wanted, 3, answers, 500); // at most 500 steps for each key */
 void vbr_map_has_all_within(vbr_map_handle *handle, const uint64_t *keys, size_t count, vbr_answer *answers,
@@ -934,7 +935,7 @@ typedef struct vbr_found {
 static inline void vbr_map_get_all(vbr_map_handle *handle, const uint64_t *keys, size_t count,
                                    vbr_found *found) VBR_NOEXCEPT VBR_NONNULL_FIRST;
 
-/* Looks keys up and gives their values within `steps` steps for each key, as vbr_map_get_all does.
+/* Looks keys up and gives their values within a budget of `steps` for each key, as vbr_map_get_all does.
 
        vbr_map_get_all_within(&map[0], wanted, 3, given, 500); // at most 500 steps for each key */
 void vbr_map_get_all_within(vbr_map_handle *handle, const uint64_t *keys, size_t count, vbr_found *found,
@@ -959,7 +960,7 @@ void vbr_map_get_all_within(vbr_map_handle *handle, const uint64_t *keys, size_t
 VBR_NODISCARD static inline vbr_answer vbr_map_next(vbr_map_handle *handle, vbr_cursor *cursor,
                                                     vbr_entry *entry) VBR_NOEXCEPT VBR_NONNULL;
 
-/* Gives the next entry of a walk within `steps` steps, as vbr_map_next does.
+/* Gives the next entry of a walk within a budget of `steps`, as vbr_map_next does.
 
        told = vbr_map_next_within(&map[0], &cursor, &entry, 5000); // at most 5000 steps */
 VBR_NODISCARD vbr_answer vbr_map_next_within(vbr_map_handle *handle, vbr_cursor *cursor, vbr_entry *entry,
@@ -1041,7 +1042,7 @@ uint32_t vbr_map_reserve(vbr_map_handle *handle, uint32_t wanted) VBR_NOEXCEPT V
 
 /* Reports, closes and renewals of maps */
 
-/* Gives up the slots of a handle, as vbr_map_give_slots_back does, and its pass; the last one of a map ends it with a report.
+/* Closes a handle; the last one of a map ends it, with a report.
    Parameters:
    - handle: it may be null, as an empty one.
    - entries, room: an array of `room` elements, where the entries, ascending by key, are written, after VBR_YES alone. Elements
@@ -1054,7 +1055,8 @@ uint32_t vbr_map_reserve(vbr_map_handle *handle, uint32_t wanted) VBR_NOEXCEPT V
    - VBR_NO_MEMORY: it is the last. Only then is memory needed, which is freed again.
    - VBR_LOST.
    - VBR_NO_ROOM: it is the last, and there are more entries than `room`: so many as report->live says.
-   Leaves: the handle empty. VBR_NO_MEMORY and VBR_NO_ROOM leave it full: close it again, drop it, or go on with it.
+   Leaves: the handle empty, and its slots given back, as by vbr_map_give_slots_back, and its pass. VBR_NO_MEMORY and VBR_NO_ROOM
+   leave it full: close it again, drop it, or go on with it.
 
        vbr_answer first = vbr_map_close(&map[0], entries, 8, &report); // VBR_NO: the other handle is open
        vbr_answer last = vbr_map_close(&map[1], entries, 8, &report);  // VBR_YES: report.live entries are in front of entries */
@@ -1109,7 +1111,7 @@ VBR_NODISCARD vbr_answer vbr_map_report_all(vbr_map_handle *handles, size_t coun
 VBR_NODISCARD vbr_answer vbr_map_renew_all(vbr_map_handle *handles, size_t count, uint32_t slots, uint32_t buckets,
                                            uint64_t last_epoch) VBR_NOEXCEPT VBR_NONNULL;
 
-/* Lets all handles go on over a fresh map, as vbr_map_renew_all does, with its keys spread by this seed.
+/* Lets all handles go on over a fresh map with its keys spread by this seed, as vbr_map_renew_all does otherwise.
    Parameters: handles, count, slots, buckets, last_epoch.
    - seed: as of vbr_open_seeded.
    Returns: what vbr_map_renew_all returns.
@@ -1166,7 +1168,7 @@ typedef struct vbr_incarnation {
        if (vbr_hold(&handle[0], &slot) == VBR_YES) beside[slot] = 7; // nobody else writes there */
 VBR_NODISCARD static inline vbr_answer vbr_hold(vbr_handle *handle, uint32_t *slot) VBR_NOEXCEPT VBR_NONNULL;
 
-/* Takes a slot in hand within `steps` steps, as vbr_hold does.
+/* Takes a slot in hand within a budget of `steps`, as vbr_hold does.
 
        told = vbr_hold_within(&handle[0], &slot, 500); // at most 500 steps */
 VBR_NODISCARD vbr_answer vbr_hold_within(vbr_handle *handle, uint32_t *slot, uint32_t steps) VBR_NOEXCEPT VBR_NONNULL;
@@ -1184,7 +1186,7 @@ VBR_NODISCARD vbr_answer vbr_hold_within(vbr_handle *handle, uint32_t *slot, uin
        if (vbr_map_hold(&map[0], &slot) == VBR_YES) beside[slot] = 7; // nobody else writes there */
 VBR_NODISCARD static inline vbr_answer vbr_map_hold(vbr_map_handle *handle, uint32_t *slot) VBR_NOEXCEPT VBR_NONNULL;
 
-/* Takes a slot in hand within `steps` steps, as vbr_map_hold does.
+/* Takes a slot in hand within a budget of `steps`, as vbr_map_hold does.
 
        told = vbr_map_hold_within(&map[0], &slot, 500); // at most 500 steps */
 VBR_NODISCARD vbr_answer vbr_map_hold_within(vbr_map_handle *handle, uint32_t *slot, uint32_t steps) VBR_NOEXCEPT VBR_NONNULL;
@@ -1225,7 +1227,7 @@ VBR_NODISCARD vbr_answer vbr_map_let_go(vbr_map_handle *handle) VBR_NOEXCEPT VBR
        if (vbr_insert_held(&handle[0], 5) == VBR_YES) added++; // 5 stands in this slot, with what was written beside it */
 VBR_NODISCARD static inline vbr_answer vbr_insert_held(vbr_handle *handle, uint64_t key) VBR_NOEXCEPT VBR_NONNULL;
 
-/* Adds a key within `steps` steps, as vbr_insert_held does.
+/* Adds a key within a budget of `steps`, as vbr_insert_held does.
 
        told = vbr_insert_held_within(&handle[0], 7, 500); // at most 500 steps */
 VBR_NODISCARD vbr_answer vbr_insert_held_within(vbr_handle *handle, uint64_t key, uint32_t steps) VBR_NOEXCEPT VBR_NONNULL;
@@ -1245,7 +1247,7 @@ VBR_NODISCARD vbr_answer vbr_insert_held_within(vbr_handle *handle, uint64_t key
 VBR_NODISCARD static inline vbr_answer vbr_map_insert_held(vbr_map_handle *handle, uint64_t key,
                                                            uint64_t value) VBR_NOEXCEPT VBR_NONNULL;
 
-/* Adds a key with its value within `steps` steps, as vbr_map_insert_held does.
+/* Adds a key with its value within a budget of `steps`, as vbr_map_insert_held does.
 
        told = vbr_map_insert_held_within(&map[0], 7, 71, 500); // at most 500 steps */
 VBR_NODISCARD vbr_answer vbr_map_insert_held_within(vbr_map_handle *handle, uint64_t key, uint64_t value,
@@ -1267,7 +1269,7 @@ VBR_NODISCARD vbr_answer vbr_map_insert_held_within(vbr_map_handle *handle, uint
 VBR_NODISCARD static inline vbr_answer vbr_map_replace_held(vbr_map_handle *handle, uint64_t key, const vbr_incarnation *at,
                                                             uint64_t value) VBR_NOEXCEPT VBR_NONNULL;
 
-/* Gives a key this value within `steps` steps, as vbr_map_replace_held does.
+/* Gives a key this value within a budget of `steps`, as vbr_map_replace_held does.
 
        told = vbr_map_replace_held_within(&map[0], 7, &at, 72, 500); // at most 500 steps */
 VBR_NODISCARD vbr_answer vbr_map_replace_held_within(vbr_map_handle *handle, uint64_t key, const vbr_incarnation *at, uint64_t value,
@@ -1288,13 +1290,13 @@ VBR_NODISCARD vbr_answer vbr_map_replace_held_within(vbr_map_handle *handle, uin
 VBR_NODISCARD static inline vbr_answer vbr_map_put_held(vbr_map_handle *handle, uint64_t key, uint64_t value,
                                                         uint64_t *there) VBR_NOEXCEPT VBR_NONNULL_FIRST;
 
-/* Gives a key this value within `steps` steps, as vbr_map_put_held does.
+/* Gives a key this value within a budget of `steps`, as vbr_map_put_held does.
 
        told = vbr_map_put_held_within(&map[0], 7, 73, &value, 500); // at most 500 steps */
 VBR_NODISCARD vbr_answer vbr_map_put_held_within(vbr_map_handle *handle, uint64_t key, uint64_t value, uint64_t *there,
                                                  uint32_t steps) VBR_NOEXCEPT VBR_NONNULL_FIRST;
 
-/* Looks a key up as vbr_has does, and says where it stands.
+/* Looks a key up and says where it stands.
    Parameters: handle, key.
    - at: where its entry is written, after VBR_YES alone.
    Returns:
@@ -1306,13 +1308,13 @@ VBR_NODISCARD vbr_answer vbr_map_put_held_within(vbr_map_handle *handle, uint64_
        if (vbr_get_entry(&handle[1], 5, &at) == VBR_YES) there++; // 5 stood in at.slot during the call */
 VBR_NODISCARD static inline vbr_answer vbr_get_entry(vbr_handle *handle, uint64_t key, vbr_incarnation *at) VBR_NOEXCEPT VBR_NONNULL;
 
-/* Looks a key up within `steps` steps, as vbr_get_entry does.
+/* Looks a key up within a budget of `steps`, as vbr_get_entry does.
 
        told = vbr_get_entry_within(&handle[1], 7, &at, 500); // at most 500 steps */
 VBR_NODISCARD vbr_answer vbr_get_entry_within(vbr_handle *handle, uint64_t key, vbr_incarnation *at,
                                               uint32_t steps) VBR_NOEXCEPT VBR_NONNULL;
 
-/* Looks a key up as vbr_map_get does, and says where it stands.
+/* Looks a key up and says where it stands.
    Parameters: handle, key.
    - at: where its entry is written, with its value, after VBR_YES alone.
    Returns:
@@ -1325,7 +1327,7 @@ VBR_NODISCARD vbr_answer vbr_get_entry_within(vbr_handle *handle, uint64_t key, 
 VBR_NODISCARD static inline vbr_answer vbr_map_get_entry(vbr_map_handle *handle, uint64_t key,
                                                          vbr_incarnation *at) VBR_NOEXCEPT VBR_NONNULL;
 
-/* Looks a key up within `steps` steps, as vbr_map_get_entry does.
+/* Looks a key up within a budget of `steps`, as vbr_map_get_entry does.
 
        told = vbr_map_get_entry_within(&map[1], 7, &at, 500); // at most 500 steps */
 VBR_NODISCARD vbr_answer vbr_map_get_entry_within(vbr_map_handle *handle, uint64_t key, vbr_incarnation *at,
@@ -1371,7 +1373,7 @@ VBR_NODISCARD vbr_answer vbr_map_is_still(vbr_map_handle *handle, const vbr_inca
 VBR_NODISCARD static inline vbr_answer vbr_remove_entry(vbr_handle *handle, uint64_t key,
                                                         const vbr_incarnation *at) VBR_NOEXCEPT VBR_NONNULL;
 
-/* Takes a key out within `steps` steps, as vbr_remove_entry does.
+/* Takes a key out within a budget of `steps`, as vbr_remove_entry does.
 
        told = vbr_remove_entry_within(&handle[0], 7, &at, 500); // at most 500 steps */
 VBR_NODISCARD vbr_answer vbr_remove_entry_within(vbr_handle *handle, uint64_t key, const vbr_incarnation *at,
@@ -1391,13 +1393,13 @@ VBR_NODISCARD vbr_answer vbr_remove_entry_within(vbr_handle *handle, uint64_t ke
 VBR_NODISCARD static inline vbr_answer vbr_map_remove_entry(vbr_map_handle *handle, uint64_t key,
                                                             const vbr_incarnation *at) VBR_NOEXCEPT VBR_NONNULL;
 
-/* Takes a key out within `steps` steps, as vbr_map_remove_entry does.
+/* Takes a key out within a budget of `steps`, as vbr_map_remove_entry does.
 
        told = vbr_map_remove_entry_within(&map[0], 7, &at, 500); // at most 500 steps */
 VBR_NODISCARD vbr_answer vbr_map_remove_entry_within(vbr_map_handle *handle, uint64_t key, const vbr_incarnation *at,
                                                      uint32_t steps) VBR_NOEXCEPT VBR_NONNULL;
 
-/* Gives the next key of a walk as vbr_next does, and says where it stands.
+/* Gives the next key of a walk and says where it stands.
    Parameters: handle.
    - cursor: where the walk stands.
    - key, at: where the key is written, and its entry, after VBR_YES alone.
@@ -1414,13 +1416,13 @@ VBR_NODISCARD vbr_answer vbr_map_remove_entry_within(vbr_map_handle *handle, uin
 VBR_NODISCARD static inline vbr_answer vbr_next_at(vbr_handle *handle, vbr_cursor *cursor, uint64_t *key,
                                                    vbr_incarnation *at) VBR_NOEXCEPT VBR_NONNULL;
 
-/* Gives the next key of a walk within `steps` steps, as vbr_next_at does.
+/* Gives the next key of a walk within a budget of `steps`, as vbr_next_at does.
 
        told = vbr_next_at_within(&handle[0], &cursor, &key, &at, 5000); // at most 5000 steps */
 VBR_NODISCARD vbr_answer vbr_next_at_within(vbr_handle *handle, vbr_cursor *cursor, uint64_t *key, vbr_incarnation *at,
                                             uint32_t steps) VBR_NOEXCEPT VBR_NONNULL;
 
-/* Gives the next key of a walk as vbr_map_next does, and says where it stands.
+/* Gives the next key of a walk and says where it stands.
    Parameters: handle.
    - cursor: where the walk stands.
    - key, at: where the key is written, and its entry with its value, after VBR_YES alone.
@@ -1437,13 +1439,13 @@ VBR_NODISCARD vbr_answer vbr_next_at_within(vbr_handle *handle, vbr_cursor *curs
 VBR_NODISCARD static inline vbr_answer vbr_map_next_at(vbr_map_handle *handle, vbr_cursor *cursor, uint64_t *key,
                                                        vbr_incarnation *at) VBR_NOEXCEPT VBR_NONNULL;
 
-/* Gives the next key of a walk within `steps` steps, as vbr_map_next_at does.
+/* Gives the next key of a walk within a budget of `steps`, as vbr_map_next_at does.
 
        told = vbr_map_next_at_within(&map[0], &cursor, &key, &at, 5000); // at most 5000 steps */
 VBR_NODISCARD vbr_answer vbr_map_next_at_within(vbr_map_handle *handle, vbr_cursor *cursor, uint64_t *key, vbr_incarnation *at,
                                                 uint32_t steps) VBR_NOEXCEPT VBR_NONNULL;
 
-/* Reports what is in a set as vbr_report_all does, and in which slots.
+/* Reports what is in a set and in which slots, as vbr_report_all does otherwise.
    Parameters: handles, count, report.
    - keys, slots, room: two arrays of `room` elements. keys[i] stands in slots[i].
    Returns: what vbr_report_all returns.
@@ -1454,7 +1456,7 @@ VBR_NODISCARD vbr_answer vbr_map_next_at_within(vbr_map_handle *handle, vbr_curs
 VBR_NODISCARD vbr_answer vbr_report_slots(vbr_handle *handles, size_t count, uint64_t *keys, uint32_t *slots, size_t room,
                                           vbr_report *report) VBR_NOEXCEPT VBR_NONNULL;
 
-/* Reports what is in a map as vbr_map_report_all does, and in which slots.
+/* Reports what is in a map and in which slots, as vbr_map_report_all does otherwise.
    Parameters: handles, count, report.
    - entries, slots, room: two arrays of `room` elements. entries[i] stands in slots[i].
    Returns: what vbr_map_report_all returns.

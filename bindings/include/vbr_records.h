@@ -267,7 +267,7 @@ VBR_NONNULL static inline void vbr_records_carry(vbr_records *records, vbr_recor
     *records = *fresh;
 }
 
-/* Renews a set as vbr_renew_all does, and carries its records over to the slots that its keys have then.
+/* Renews a set by vbr_renew_all and carries its records over to the slots that its keys have then.
    Parameters: handles, count, slots, buckets, last_epoch, records.
    - block: null, and calloc gives the memory of the fresh records; or another block than the old one, as vbr_records_open takes it.
    Returns: what vbr_renew_all returns, though not tested in that order.
@@ -292,7 +292,7 @@ VBR_NODISCARD static inline vbr_answer vbr_records_renew_all(vbr_handle *handles
     return told;
 }
 
-/* Renews a map as vbr_map_renew_all does, and carries its records over to the slots that its keys have then.
+/* Renews a map by vbr_map_renew_all and carries its records over to the slots that its keys have then.
    Parameters: handles, count, slots, buckets, last_epoch, records.
    - block: null, and calloc gives the memory of the fresh records; or another block than the old one, as vbr_records_open takes it.
    Returns: what vbr_map_renew_all returns, though not tested in that order.

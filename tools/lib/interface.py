@@ -181,7 +181,7 @@ def text_of_call(call):
         return f"{call.comment}\n{declared(call.name, call.given, 'static inline ')}\n{old}"
     if call.within is None:
         return f"{call.comment}\n{declared(call.name, call.given)}"
-    prose = f"{call.within} within `steps` steps{' for each key' if call.returns == 'void' else ''}, as {call.name} does."
+    prose = f"{call.within} within a budget of `steps`{' for each key' if call.returns == 'void' else ''}, as {call.name} does."
     example = "\n".join(f"       {it}" for it in call.example)
     within = f"{fill(prose, call.columns)}\n\n{example} */\n{declared(*call.export())}"
     return f"{call.comment}\n{declared(call.name, call.given, 'static inline ')}\n\n{within}"
