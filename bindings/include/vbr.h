@@ -11,10 +11,10 @@
    and docs/USING.md. This header needs C99 or C++11, or a later standard. It is tried with GCC and Clang.
 
    The comment of a call says what it does, and then has its parameters, its answers, and what it leaves. The answers of a call that is
-   made come first, and then its refusals, in the order in which they are tested. The list of answers says what a refusal means, and a call
-   what it adds. A refusal says that no key and no value was changed, and nothing written, unless the call says otherwise. Calls on keys,
-   walks, and calls by a slot take no memory and never wait. A call whose name ends in _within makes at most `steps` steps, in place of the
-   budget of the handle, and is the same otherwise.
+   made come first, and then its refusals, in the order in which they are tested; those for want of steps, a slot or an epoch come as the
+   call meets them. The list of answers says what a refusal means, and a call what it adds. A refusal says that no key and no value was
+   changed, and nothing written, unless the call says otherwise. Calls on keys, walks, and calls by a slot take no memory and never wait. A
+   call whose name ends in _within makes at most `steps` steps, in place of the budget of the handle, and is the same otherwise.
 
    No pointer is null, unless the call says so. Each is aligned for its type, and names as many elements as the number beside it says, or
    one. They are initialised. Meanwhile nobody else writes them, nor reads what the call writes. Nobody tests this: otherwise the behaviour
