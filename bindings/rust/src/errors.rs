@@ -234,6 +234,12 @@ impl From<OutOfSteps> for Refusal {
     }
 }
 
+impl From<KeysError> for OpenError {
+    fn from(error: KeysError) -> OpenError {
+        OpenError::Keys(error)
+    }
+}
+
 impl From<ShapeError> for OpenError {
     fn from(number: ShapeError) -> OpenError {
         OpenError::Shape(number)

@@ -1,7 +1,8 @@
 //! Going over all keys while other threads make calls.
-use crate::{HandleOf, Incarnation, Keys, Kind, OutOfSteps, PassOf, Steps};
+use crate::{HandleOf, Incarnation, Keys, Kind, LentBy, OutOfSteps, PassOf, Steps, Table, Turn};
 use core::fmt;
 use core::iter::FusedIterator;
+use core::ops::Deref;
 
 /// Where a walk over all keys stands: before the first key, after one, or at the end. [`PassOf::next`] takes it on, and no
 /// thread that makes calls holds it up.
@@ -136,8 +137,8 @@ impl<T: Kind> Iterator for IterAt<'_, T> {
 impl<T: Kind> FusedIterator for IterAt<'_, T> {}
 
 macro_rules! goes_over_its_table {
-    ($($of:ident)*) => {$(
-        impl<'h, T: Kind> IntoIterator for &'h $of<T> {
+    ($($of:ty $(, $by:ident: $bound:ty)?;)*) => {$(
+        impl<'h, T: Kind $(, $by: Deref<Target = $bound>)?> IntoIterator for &'h $of {
             type Item = Result<T::Item, OutOfSteps>;
             type IntoIter = Iter<'h, T>;
 
@@ -149,7 +150,21 @@ macro_rules! goes_over_its_table {
     )*};
 }
 
-goes_over_its_table! { PassOf HandleOf }
+goes_over_its_table! { PassOf<T>; HandleOf<T>; LentBy<T, B>, B: Table<T>; Turn<'_, T>; }
+
+/// A walk of its own from the same place.
+impl<T: Kind> Clone for Iter<'_, T> {
+    fn clone(&self) -> Self {
+        Iter { ..*self }
+    }
+}
+
+/// A walk of its own from the same place.
+impl<T: Kind> Clone for IterAt<'_, T> {
+    fn clone(&self) -> Self {
+        IterAt(self.0.clone())
+    }
+}
 
 impl<T: Kind> fmt::Debug for Iter<'_, T> {
     fn fmt(&self, f: &mut fmt::Formatter<'_>) -> fmt::Result {

@@ -66,24 +66,17 @@
 //! # Keys and values
 //!
 //! Named as types, `Set` and `Map` are those of `u64`. When one is opened, its types are what its calls are given: integers
-//! (literals without a type are `i32`, as everywhere), `char`, `bool`, `NonZero`, pairs of `u32`, [`ByBits`] for `f64`, and
-//! types of your own that say how they are made from bits ([`Bits`]). What comes out of a set was put in by calls of the same
+//! (literals without a type are `i32`, as everywhere), `char`, `bool`, `NonZero`, also in an `Option`, pairs of `u32`, arrays of
+//! up to eight bytes, addresses of IPv4, [`ByBits`] for `f64` and `f32`, a struct of your own around one of these ([`impl_bits!`]),
+//! and each other type that says how it is made from bits ([`Bits`]). What comes out of a set was put in by calls of the same
 //! type, so its bits always stand for a value.
 //!
 //! ```
-//! use vbr::{Bits, Map, MapHandle, Shape};
+//! use vbr::{impl_bits, Map, MapHandle, Shape};
 //!
 //! #[derive(Clone, Copy, Debug, PartialEq, Eq)]
 //! struct Frame(u32);
-//!
-//! impl Bits for Frame {
-//!     fn to_bits(self) -> u64 {
-//!         self.0.to_bits()
-//!     }
-//!     fn from_bits(bits: u64) -> Frame {
-//!         Frame(u32::from_bits(bits))
-//!     }
-//! }
+//! impl_bits!(Frame(u32));
 //!
 //! /// Which frame has a page, which is a file and a place in it.
 //! struct Index(MapHandle<(u32, u32), Frame>);

@@ -524,7 +524,11 @@ impl<T: Kind> fmt::Debug for Claim<'_, T> {
 ///
 /// let set = SharedSet::open_with(Shape::for_keys(8, 1), &[5, 7])?;
 /// // SAFETY: nothing else claims the one handle.
-/// assert_eq!(count(&unsafe { set.claim(0) }.turn())?, 2);
+/// let mut mine = unsafe { set.claim(0) };
+/// assert_eq!(count(&mine.turn())?, 2);
+/// for key in &mine.turn() {
+///     println!("{}", key?);
+/// }
 /// # Ok::<(), Box<dyn std::error::Error>>(())
 /// ```
 ///

@@ -14,6 +14,7 @@ of_sets_and_maps! {
     a_call_is_refused
     threads_grow_once
     a_loan_is_back_after_a_panic
+    a_loan_is_gone_over
 }
 
 /// Of one handle, so one that stayed on loan would leave the next call waiting.
@@ -47,6 +48,21 @@ fn calls_of_a_map() {
     assert_eq!((map.remove(7), map.remove(7)), (Ok(Some(90)), Ok(None)));
     assert!(map.lend().is_some());
     assert_eq!(map.close().expect("a report").entries, [(5, 74)]);
+}
+
+/// A loan of the statement lasts through its loop; a walk that is cloned goes on from the same place.
+fn a_loan_is_gone_over<K: Both>() {
+    let set = Table::<K>::open_with(Shape::for_keys(8, 1), &K::items(&[5, 7])).expect("a set");
+    let mut sum = 0;
+    for given in &set.lend_wait() {
+        assert!(set.lend().is_none());
+        sum += K::key(given.expect("steps"));
+    }
+    assert_eq!(sum, 5 + 7);
+    let mine = set.lend_wait();
+    let (mut walk, mut at) = (mine.iter(), mine.iter_at());
+    assert!(walk.next().is_some() && at.next().is_some());
+    assert!(walk.clone().eq(walk.clone()) && at.clone().count() == 1 && walk.count() == 1);
 }
 
 #[test]

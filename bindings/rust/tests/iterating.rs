@@ -295,7 +295,7 @@ fn walks_by_loans() {
     assert_eq!(mine.0.iter().collect::<Result<Vec<_>, _>>().expect("steps"), ORDER);
     assert!(mine.1.iter().map(|entry| entry.map(key_of)).eq(ORDER.map(Ok)));
     set.lend().expect("a free handle").remove(9).expect("steps");
-    for key in mine.0.iter() {
+    for key in &mine.0 {
         assert_eq!(mine.0.has(key.expect("steps")), Ok(true));
     }
     assert_eq!(mine.0.iter().count(), 8);

@@ -1,10 +1,11 @@
 //! Keys and values of each type that has `Bits`: their bits, which are worked by hand, come back, and keep the order of the type.
 use std::collections::HashSet;
 use std::fmt::Debug;
-use std::num::{NonZeroI32, NonZeroU64, NonZeroU8};
+use std::net::{Ipv4Addr, SocketAddrV4};
+use std::num::{NonZero, NonZeroI32, NonZeroU64, NonZeroU8};
 use std::panic::{catch_unwind, AssertUnwindSafe};
 use std::thread;
-use vbr::{Bits, ByBits, Compared, Map, MapHandle, OpenError, Set, Shape};
+use vbr::{impl_bits, Bits, ByBits, Compared, Map, MapHandle, OpenError, Set, Shape};
 
 /// Sees that these values, which ascend, have bits that ascend, and come back, from bits, a set and a map.
 fn comes_back<T: Bits + Ord>(values: &[T]) {
@@ -53,7 +54,32 @@ fn each_type_comes_back_in_its_order() {
     let (nan, tiny) = (f64::from_bits(0x7ff8_0000_0000_0001), f64::from_bits(1));
     let numbers = [-nan, f64::NEG_INFINITY, -1.5, -tiny, -0.0, 0.0, tiny, 1.5, f64::INFINITY, nan];
     comes_back(&numbers.map(ByBits));
+    let (nan, tiny) = (f32::from_bits(0x7fc0_0001), f32::from_bits(1));
+    let numbers = [-nan, f32::NEG_INFINITY, -1.5, -tiny, -0.0, 0.0, tiny, 1.5, f32::INFINITY, nan];
+    comes_back(&numbers.map(ByBits));
+    comes_back(&[None, NonZero::new(1_u8), NonZero::new(u8::MAX)]);
+    comes_back(&[None, NonZero::new(1_u64), NonZero::new(u64::MAX)]);
+    comes_back(&[i8::MIN, -1, 1, i8::MAX].map(NonZero::new));
+    comes_back(&[0, i64::MIN, -1, 1, i64::MAX].map(NonZero::new));
+    comes_back(&[[0_u8], [1], [255]]);
+    comes_back(&[[0_u8, 0, 1], [0, 1, 0], [2, 0, 0], [255, 255, 255]]);
+    comes_back(&[[1_u8, 2, 3, 4, 5, 6, 7], [1, 2, 3, 4, 5, 7, 6]]);
+    comes_back(&[(0, 0, 0, u16::MAX), (0, 0, 1, 0), (0, 2, 0, 0), (u16::MAX, 0, 0, 0)]);
+    comes_back(&[Ipv4Addr::UNSPECIFIED, Ipv4Addr::LOCALHOST, Ipv4Addr::BROADCAST]);
+    let at = |last, port| SocketAddrV4::new(Ipv4Addr::new(10, 0, 0, last), port);
+    comes_back(&[at(0, u16::MAX), at(1, 0), at(1, 80), at(2, 1)]);
+    comes_back(&[Degrees(-40), Degrees(0), Degrees(40)]);
+    comes_back(&[Seat((0, 9)), Seat((1, 0))]);
 }
+
+/// Structs around a field that has bits, as the macro gives them.
+#[derive(Clone, Copy, Debug, PartialEq, Eq, PartialOrd, Ord)]
+struct Degrees(i16);
+
+#[derive(Clone, Copy, Debug, PartialEq, Eq, PartialOrd, Ord)]
+struct Seat((u32, u32));
+
+impl_bits!(Degrees(i16), Seat((u32, u32)),);
 
 /// What is made of its bits gives others: they lose their last digit.
 #[derive(Clone, Copy, Debug, PartialEq, Eq)]
@@ -92,6 +118,13 @@ fn bits_that_are_worked_by_hand() {
     assert_eq!(((-1_i8).to_bits(), 0_i8.to_bits(), i64::MIN.to_bits(), 1_i64.to_bits()), (0x7f, 0x80, 0, (1 << 63) + 1));
     assert_eq!(((7_u32, 9_u32).to_bits(), [0, 0, 0, 0, 0, 0, 1, 2].to_bits()), ((7 << 32) + 9, 0x102));
     assert_eq!((ByBits(0.0).to_bits(), ByBits(-0.0).to_bits()), (1 << 63, (1 << 63) - 1));
+    assert_eq!((ByBits(0.0_f32).to_bits(), ByBits(-0.0_f32).to_bits()), (1 << 31, (1 << 31) - 1));
+    assert_eq!((NonZero::new(0_u64).to_bits(), NonZero::new(7_u64).to_bits()), (0, 7));
+    assert_eq!([0_i8, -128, -1, 1, 127].map(|it| NonZero::new(it).to_bits()), [0, 1, 0x80, 0x81, 0xff]);
+    assert_eq!(([1_u8, 2].to_bits(), (1_u16, 2_u16, 3_u16, 4_u16).to_bits()), (0x102, 0x0001_0002_0003_0004));
+    let local = SocketAddrV4::new(Ipv4Addr::LOCALHOST, 80);
+    assert_eq!((local.ip().to_bits(), Bits::to_bits(local)), (0x7f00_0001, 0x7f00_0001_0050));
+    assert_eq!((Degrees(-1).to_bits(), Seat((7, 9)).to_bits()), (0x7fff, (7 << 32) + 9));
 }
 
 #[test]
@@ -100,6 +133,7 @@ fn numbers_by_their_bits() {
     assert!(nan == nan && ByBits(0.0) != ByBits(-0.0) && ByBits(-0.0) < ByBits(0.0));
     assert_eq!(HashSet::from([nan, nan, ByBits(0.0), ByBits(-0.0)]).len(), 3);
     assert_eq!(f64::from(ByBits::from(1.5)).to_bits(), 1.5_f64.to_bits());
+    assert_eq!(f32::from(ByBits::from(1.5_f32)).to_bits(), 1.5_f32.to_bits());
 }
 
 /// What a program makes of bits by itself, of fewer bits than 64, and in an order of its own.
