@@ -25,15 +25,7 @@ impl<T: Kind> HandleOf<T> {
     ///
     /// [`ReportError::Mixed`], [`ReportError::Missing`] and [`ReportError::Memory`], tested in this order.
     pub fn report_all(handles: &mut [HandleOf<T>]) -> Result<T::Report, ReportError> {
-        let shared = handles.shared()?;
-        // SAFETY: it is there while one of its handles is open, and all are borrowed.
-        let slots = unsafe { shared.as_ref() }.slots;
-        let mut room = Room::<T>::of(slots).ok_or(ReportError::Memory)?;
-        let told = handles.with_raw(|all, count| {
-            // SAFETY: these are all handles of the set or map, and nothing else has one of them.
-            room.fill(|items, room, told| unsafe { T::REPORT_ALL(all, count, items, room, told) })
-        });
-        Ok(room.report(told.map_err(|_| ReportError::Memory)?))
+        handles.report()
     }
 
     /// Lets the handles go on over a fresh set of this shape, with the keys that were in it, or a map with the entries: at
@@ -87,6 +79,19 @@ pub(crate) trait All<T: Kind> {
             return Err(ReportError::Missing);
         }
         Ok(first)
+    }
+
+    /// Reports what is in the set.
+    fn report(&mut self) -> Result<T::Report, ReportError> {
+        let shared = self.shared()?;
+        // SAFETY: it is there while one of its handles is open, and these are.
+        let slots = unsafe { shared.as_ref() }.slots;
+        let mut room = Room::<T>::of(slots).ok_or(ReportError::Memory)?;
+        let told = self.with_raw(|all, count| {
+            // SAFETY: these are all handles of the set or map, and nothing else has one of them.
+            room.fill(|items, room, told| unsafe { T::REPORT_ALL(all, count, items, room, told) })
+        });
+        Ok(room.report(told.map_err(|_| ReportError::Memory)?))
     }
 
     /// Lets the handles go on over a fresh set of this shape, whose numbers are in range, and records with them.

@@ -1,6 +1,6 @@
 //! Calls of a set or a map itself, each by a loan that it makes and gives back.
 use crate::{
-    max_epoch, Bits, Compared, Entries, Keys, Kind, OutOfSteps, PassOf, Refusal, Shape, Table, MAX_BUCKETS, MAX_SLOTS,
+    max_epoch, Bits, Change, Compared, Entries, Keys, Kind, OutOfSteps, PassOf, Refusal, Shape, Table, MAX_BUCKETS, MAX_SLOTS,
 };
 
 /// How far [`Table::call`] lets a set or a map grow.
@@ -350,5 +350,39 @@ impl<K: Bits, V: Bits> Table<Entries<K, V>> {
     /// The same as for [`MapPass::fetch_update`](crate::MapPass::fetch_update). Nothing was changed then.
     pub fn fetch_update(&self, key: K, update: impl FnMut(V) -> Option<V>) -> Result<Option<V>, Refusal> {
         self.lend_wait().fetch_update(key, update)
+    }
+
+    /// Does with a key what `change` says of what is there, as [`MapPass::compute`](crate::MapPass::compute) does. `change` is asked
+    /// while a handle is on loan, so it makes no call of the map itself.
+    ///
+    /// ```
+    /// # use vbr::{Change, Map, Shape};
+    /// let map = Map::open_with(Shape::for_keys(8, 1), &[(5, 70)])?;
+    /// assert_eq!(map.compute(5, |_| Change::Remove)?, Some(70));
+    /// # Ok::<(), Box<dyn std::error::Error>>(())
+    /// ```
+    ///
+    /// # Errors
+    ///
+    /// The same as for [`MapPass::compute`](crate::MapPass::compute). Nothing was changed then.
+    pub fn compute(&self, key: K, change: impl FnMut(Option<V>) -> Change<V>) -> Result<Option<V>, Refusal> {
+        self.lend_wait().compute(key, change)
+    }
+
+    /// Takes a key out if `when` says yes of its value, as [`MapPass::remove_when`](crate::MapPass::remove_when) does. `when` is
+    /// asked while a handle is on loan, so it makes no call of the map itself.
+    ///
+    /// ```
+    /// # use vbr::{Map, Shape};
+    /// let map = Map::open_with(Shape::for_keys(8, 1), &[(5, 70)])?;
+    /// assert_eq!(map.remove_when(5, |value| value > 60)?, Some(70));
+    /// # Ok::<(), Box<dyn std::error::Error>>(())
+    /// ```
+    ///
+    /// # Errors
+    ///
+    /// [`OutOfSteps`]. Nothing was changed then.
+    pub fn remove_when(&self, key: K, when: impl FnMut(V) -> bool) -> Result<Option<V>, OutOfSteps> {
+        self.lend_wait().remove_when(key, when)
     }
 }

@@ -5,6 +5,35 @@ use crate::library::{
     vbr_map_remove_if_within, vbr_map_replace_within, with_value,
 };
 use crate::{order, Bits, Cursor, Entries, OutOfSteps, PassOf, Refusal, Steps};
+use core::fmt::Debug;
+use core::iter::FusedIterator;
+
+/// What is to become of a key, as the closure of [`compute`](PassOf::compute) says it.
+///
+/// ```
+/// # use vbr::{Change, MapPass, Refusal};
+/// /// Takes a token out of a bucket that was filled, and the bucket out of the map with its last one.
+/// fn take_token(buckets: &mut MapPass, client: u64) -> Result<bool, Refusal> {
+///     let before = buckets.compute(client, |tokens| match tokens {
+///         None => Change::Keep,
+///         Some(1) => Change::Remove,
+///         Some(tokens) => Change::Put(tokens - 1),
+///     })?;
+///     Ok(before.is_some())
+/// }
+/// # let mut buckets = vbr::Map::handles_with(vbr::Shape::for_keys(8, 1), &[(5, 2)])?.remove(0);
+/// # assert!(take_token(&mut buckets, 5)? && take_token(&mut buckets, 5)? && !take_token(&mut buckets, 5)?);
+/// # Ok::<(), Box<dyn std::error::Error>>(())
+/// ```
+#[derive(Clone, Copy, Debug, PartialEq, Eq, Hash)]
+pub enum Change<V = u64> {
+    /// It stays as it is, there or not.
+    Keep,
+    /// It gets this value, and is inserted if it is absent.
+    Put(V),
+    /// It is taken out if it is there.
+    Remove,
+}
 
 /// What a call did that changes an entry only if it has an expected value.
 ///
@@ -283,6 +312,135 @@ impl<K: Bits, V: Bits> PassOf<Entries<K, V>> {
         })
     }
 
+    /// Does with a key what `change` says, which is asked with the value that the key has, or with `None` if it is absent, and returns
+    /// that value.
+    ///
+    /// The change is made only if the key is still as `change` was told. If another call came in between, `change` is asked
+    /// again, with what that left. So of all calls of a key each is told of what the one before it left, and no change is lost.
+    /// Each call that it takes has the budget of the handle: a look-up first, and then one for each time that `change` is
+    /// asked and doesn't keep the key as it is.
+    ///
+    /// ```
+    /// # use vbr::{Change, Map, Shape};
+    /// let mut handle = Map::handles(Shape::for_keys(8, 1))?.remove(0);
+    /// let one_more = |count: Option<u64>| Change::Put(count.unwrap_or(0) + 1);
+    /// assert_eq!(handle.compute(5, one_more)?, None);
+    /// assert_eq!(handle.compute(5, one_more)?, Some(1));
+    /// assert_eq!(handle.compute(5, |_| Change::Keep)?, Some(2));
+    /// assert_eq!(handle.compute(5, |_| Change::Remove)?, Some(2));
+    /// assert_eq!(handle.get(5)?, None);
+    /// # Ok::<(), Box<dyn std::error::Error>>(())
+    /// ```
+    ///
+    /// # Errors
+    ///
+    /// [`Refusal::OutOfSteps`], and, if `change` said [`Change::Put`], [`Refusal::NoSlot`] and [`Refusal::EpochSpent`]. Nothing
+    /// was changed then.
+    #[inline]
+    pub fn compute(&mut self, key: K, change: impl FnMut(Option<V>) -> Change<V>) -> Result<Option<V>, Refusal> {
+        self.compute_within(key, change, self.steps())
+    }
+
+    /// As [`PassOf::compute`], each of whose calls has this budget.
+    ///
+    /// ```
+    /// # use vbr::{Change, Map, Refusal, Shape, Steps};
+    /// let mut handle = Map::handles(Shape::for_keys(8, 1))?.remove(0);
+    /// assert_eq!(handle.compute_within(5, |_| Change::Put(70), Steps::new(1)), Err(Refusal::OutOfSteps));
+    /// # Ok::<(), vbr::OpenError>(())
+    /// ```
+    ///
+    /// # Errors
+    ///
+    /// The same as for [`PassOf::compute`].
+    #[inline]
+    pub fn compute_within(
+        &mut self,
+        key: K,
+        mut change: impl FnMut(Option<V>) -> Change<V>,
+        steps: Steps,
+    ) -> Result<Option<V>, Refusal> {
+        let mut seen = self.bits_within(key, steps)?;
+        loop {
+            let before = seen.map(V::from_bits);
+            let told = match (change(before), seen) {
+                (Change::Keep, _) | (Change::Remove, None) => return Ok(before),
+                (Change::Remove, Some(bits)) => self.remove_bits_within(key, bits, steps)?,
+                (Change::Put(value), Some(bits)) => self.exchange_bits_within(key, bits, value, steps)?,
+                // where other bits are there, the next exchange tells which
+                (Change::Put(value), None) => self
+                    .get_or_insert_within(key, value, steps)?
+                    .map_or(Compared::Equal, |there| Compared::Other(there.to_bits())),
+            };
+            seen = match told {
+                Compared::Equal => return Ok(before),
+                Compared::Other(now) => Some(now),
+                Compared::Absent => None,
+            };
+        }
+    }
+
+    /// Takes a key out if `when` says yes of the value that it has, and returns that value; `None` if the key is absent, or `when`
+    /// said no, and then nothing was changed.
+    ///
+    /// It is taken out only with a value of which `when` said yes: if it has another one meanwhile, `when` is asked again, with
+    /// that. Each call that it takes has the budget of the handle.
+    ///
+    /// ```
+    /// # use vbr::{Map, Shape};
+    /// let mut logins = Map::handles_with(Shape::for_keys(8, 1), &[(5, 70)])?.remove(0);
+    /// assert_eq!(logins.remove_when(5, |until| until < 60)?, None);
+    /// assert_eq!(logins.remove_when(5, |until| until < 80)?, Some(70));
+    /// assert_eq!(logins.remove_when(5, |_| true)?, None);
+    /// # Ok::<(), Box<dyn std::error::Error>>(())
+    /// ```
+    ///
+    /// # Errors
+    ///
+    /// [`OutOfSteps`]. Nothing was changed then.
+    #[inline]
+    pub fn remove_when(&mut self, key: K, when: impl FnMut(V) -> bool) -> Result<Option<V>, OutOfSteps> {
+        self.remove_when_within(key, when, self.steps())
+    }
+
+    /// As [`PassOf::remove_when`], each of whose calls has this budget.
+    ///
+    /// ```
+    /// # use vbr::{Map, OutOfSteps, Shape, Steps};
+    /// let mut handle = Map::handles_with(Shape::for_keys(8, 1), &[(5, 70)])?.remove(0);
+    /// assert_eq!(handle.remove_when_within(5, |_| true, Steps::new(1)), Err(OutOfSteps));
+    /// assert_eq!(handle.remove_when_within(5, |_| true, Steps::new(100)), Ok(Some(70)));
+    /// # Ok::<(), vbr::OpenError>(())
+    /// ```
+    ///
+    /// # Errors
+    ///
+    /// The same as for [`PassOf::remove_when`].
+    #[inline]
+    pub fn remove_when_within(&mut self, key: K, when: impl FnMut(V) -> bool, steps: Steps) -> Result<Option<V>, OutOfSteps> {
+        let seen = self.bits_within(key, steps)?;
+        self.remove_seen_within(key, seen, when, steps)
+    }
+
+    /// The same of a key that was seen with a value of these bits, or absent.
+    #[inline]
+    fn remove_seen_within(
+        &mut self,
+        key: K,
+        mut seen: Option<u64>,
+        mut when: impl FnMut(V) -> bool,
+        steps: Steps,
+    ) -> Result<Option<V>, OutOfSteps> {
+        while let Some(bits) = seen.filter(|&bits| when(V::from_bits(bits))) {
+            seen = match self.remove_bits_within(key, bits, steps)? {
+                Compared::Equal => return Ok(Some(V::from_bits(bits))),
+                Compared::Other(now) => Some(now),
+                Compared::Absent => None,
+            };
+        }
+        Ok(None)
+    }
+
     /// Gives a key the value that `update` makes from the one that it has, and returns the old one; `None` if the key is
     /// absent, or `update` makes none, and then nothing was changed.
     ///
@@ -327,19 +485,17 @@ impl<K: Bits, V: Bits> PassOf<Entries<K, V>> {
         mut update: impl FnMut(V) -> Option<V>,
         steps: Steps,
     ) -> Result<Option<V>, Refusal> {
-        let mut seen = self.bits_within(key, steps)?;
-        while let Some(bits) = seen {
-            let before = V::from_bits(bits);
-            let Some(value) = update(before) else {
-                return Ok(None);
-            };
-            match self.exchange_bits_within(key, bits, value, steps)? {
-                Compared::Equal => return Ok(Some(before)),
-                Compared::Other(now) => seen = Some(now),
-                Compared::Absent => seen = None,
-            }
-        }
-        Ok(None)
+        let mut has_changed = false;
+        let before = self.compute_within(
+            key,
+            |seen| {
+                let value = seen.and_then(&mut update);
+                has_changed = value.is_some();
+                value.map_or(Change::Keep, Change::Put)
+            },
+            steps,
+        )?;
+        Ok(before.filter(|_| has_changed))
     }
 
     /// Goes over all entries while other threads make calls, as [`PassOf::iter`] does, takes out those for which `keep` says no,
@@ -361,20 +517,45 @@ impl<K: Bits, V: Bits> PassOf<Entries<K, V>> {
     ///
     /// [`OutOfSteps`], as for [`PassOf::iter`] or a remove. What was taken out before stays out.
     pub fn retain(&mut self, mut keep: impl FnMut(K, V) -> bool) -> Result<u64, OutOfSteps> {
-        let (mut cursor, mut count) = (Cursor::first(), 0);
-        while let Some((key, value)) = self.walk_on(&mut cursor, self.steps())? {
-            let mut seen = Some(value.to_bits()); // where other bits are there, the first remove tells which
-            while let Some(bits) = seen.filter(|&bits| !keep(key, V::from_bits(bits))) {
-                seen = match self.remove_bits_within(key, bits, self.steps())? {
-                    Compared::Other(now) => Some(now),
-                    Compared::Absent => None,
-                    Compared::Equal => {
-                        count += 1;
-                        None
-                    }
-                };
-            }
+        let (mut cursor, mut count, steps) = (Cursor::first(), 0, self.steps());
+        while let Some((key, value)) = self.walk_on(&mut cursor, steps)? {
+            // where other bits are there than the value has, the first remove tells which
+            let taken = self.remove_seen_within(key, Some(value.to_bits()), |value| !keep(key, value), steps)?;
+            count += u64::from(taken.is_some());
         }
         Ok(count)
+    }
+
+    /// Goes over the keys while other threads make calls, as [`PassOf::iter`] does over the entries.
+    ///
+    /// ```
+    /// # use vbr::{Map, Shape};
+    /// let handle = Map::handles_with(Shape::for_keys(8, 1), &[(5, 70), (7, 71)])?.remove(0);
+    /// assert_eq!(handle.keys().sum::<Result<u64, _>>()?, 12);
+    /// # Ok::<(), Box<dyn std::error::Error>>(())
+    /// ```
+    ///
+    /// # Errors
+    ///
+    /// As an item, as for [`PassOf::iter`].
+    pub fn keys(&self) -> impl FusedIterator<Item = Result<K, OutOfSteps>> + Clone + Debug + '_ {
+        self.iter().map(|entry| entry.map(|(key, _)| key))
+    }
+
+    /// Goes over the values while other threads make calls, as [`PassOf::iter`] does over the entries: of a value that several keys
+    /// have it gives each.
+    ///
+    /// ```
+    /// # use vbr::{Map, Shape};
+    /// let handle = Map::handles_with(Shape::for_keys(8, 1), &[(5, 70), (7, 71)])?.remove(0);
+    /// assert_eq!(handle.values().sum::<Result<u64, _>>()?, 141);
+    /// # Ok::<(), Box<dyn std::error::Error>>(())
+    /// ```
+    ///
+    /// # Errors
+    ///
+    /// As an item, as for [`PassOf::iter`].
+    pub fn values(&self) -> impl FusedIterator<Item = Result<V, OutOfSteps>> + Clone + Debug + '_ {
+        self.iter().map(|entry| entry.map(|(_, value)| value))
     }
 }

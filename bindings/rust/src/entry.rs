@@ -1,11 +1,13 @@
 //! A key of a map, with what to do if it is there and if it isn't.
-use crate::{Bits, Compared, MapPass, Refusal};
+use crate::{Bits, Change, MapPass, Refusal};
 use core::cell::LazyCell;
 
 /// A key of a map, there or not, as [`MapPass::entry`](crate::MapPass::entry) names it. It makes no call, and holds nobody
 /// up: its methods say what to do, and their calls do it, at one moment for all threads.
 ///
-/// They return the value, and not a reference to it, since other threads may change it at any time.
+/// They return the value, and not a reference to it, since other threads may change it at any time. So there is no entry either
+/// that is known to be occupied or vacant: [`MapPass::compute`](crate::MapPass::compute) asks what to do with what is there, and
+/// asks again if that has changed.
 ///
 /// ```
 /// use vbr::{MapPass, Refusal};
@@ -97,6 +99,24 @@ impl<'p, K: Bits, V: Bits> Entry<'p, K, V> {
             Some(value) => Ok(value),
             None => self.or_insert(make()),
         }
+    }
+
+    /// The same with a value that is made of the key if that is absent.
+    ///
+    /// ```
+    /// # use vbr::{Map, Shape};
+    /// let mut handle = Map::handles_with(Shape::for_keys(8, 1), &[(5, 70)])?.remove(0);
+    /// assert_eq!(handle.entry(5).or_insert_with_key(|key| key * 10)?, 70);
+    /// assert_eq!(handle.entry(6).or_insert_with_key(|key| key * 10)?, 60);
+    /// # Ok::<(), Box<dyn std::error::Error>>(())
+    /// ```
+    ///
+    /// # Errors
+    ///
+    /// The same as for [`get_or_insert`](crate::MapPass::get_or_insert). Nothing was inserted then.
+    pub fn or_insert_with_key(self, make: impl FnOnce(K) -> V) -> Result<V, Refusal> {
+        let key = self.key;
+        self.or_insert_with(|| make(key))
     }
 
     /// The same with the default value.
@@ -210,22 +230,36 @@ impl<K: Bits, V: Bits, F: FnMut(&mut V)> ModifiedEntry<'_, K, V, F> {
     /// The same as for [`ModifiedEntry::or_insert`]. Nothing was changed then.
     pub fn or_insert_with(self, make: impl FnOnce() -> V) -> Result<V, Refusal> {
         let ModifiedEntry { entry: Entry { pass, key }, mut modify } = self;
-        let (mut seen, absent) = (pass.bits_within(key, pass.steps())?, LazyCell::new(make));
-        loop {
-            seen = if let Some(bits) = seen {
-                let mut value = V::from_bits(bits);
-                modify(&mut value);
-                match pass.exchange_bits_within(key, bits, value, pass.steps())? {
-                    Compared::Equal => return Ok(value),
-                    Compared::Other(now) => Some(now),
-                    Compared::Absent => None,
-                }
-            } else {
-                match pass.get_or_insert(key, *absent)? {
-                    None => return Ok(*absent),
-                    there => there.map(V::to_bits), // where other bits are there, the exchange tells which
-                }
-            };
-        }
+        let (absent, mut told) = (LazyCell::new(make), None);
+        pass.compute(key, |seen| {
+            let value = seen.map_or_else(
+                || *absent,
+                |mut value| {
+                    modify(&mut value);
+                    value
+                },
+            );
+            told = Some(value);
+            Change::Put(value)
+        })?;
+        Ok(told.unwrap_or_else(|| *absent)) // it was asked
+    }
+
+    /// The same with a value that is made of the key if that is absent, once at most.
+    ///
+    /// ```
+    /// # use vbr::{Map, Shape};
+    /// let mut handle = Map::handles_with(Shape::for_keys(8, 1), &[(5, 70)])?.remove(0);
+    /// assert_eq!(handle.entry(6).and_modify(|value| *value += 1).or_insert_with_key(|key| key * 10)?, 60);
+    /// assert_eq!(handle.entry(6).and_modify(|value| *value += 1).or_insert_with_key(|key| key * 10)?, 61);
+    /// # Ok::<(), Box<dyn std::error::Error>>(())
+    /// ```
+    ///
+    /// # Errors
+    ///
+    /// The same as for [`ModifiedEntry::or_insert`]. Nothing was changed then.
+    pub fn or_insert_with_key(self, make: impl FnOnce(K) -> V) -> Result<V, Refusal> {
+        let key = self.entry.key;
+        self.or_insert_with(|| make(key))
     }
 }

@@ -1,5 +1,6 @@
 //! Why a set or a map isn't opened, a call isn't answered, and a handle isn't closed.
-use crate::{Handle, HandleOf, Kind, ShapeError, Table};
+use crate::{Handle, HandleOf, Keys, Kind, ShapeError, Table};
+use alloc::vec::Vec;
 use core::error::Error;
 use core::fmt;
 
@@ -201,6 +202,57 @@ pub enum ReportError {
     Missing,
     /// There is no memory for the report.
     Memory,
+    /// From [`Table::report_timeout`]: a handle was still on loan when the time was over.
+    Lent,
+}
+
+/// Why a set or a map doesn't lend handles ([`Table::from_handles`]), with the handles, as they were.
+///
+/// ```
+/// # use vbr::{ReportError, Set, Shape};
+/// let mut handles = Set::handles_with(Shape::for_keys(8, 2), &[5])?;
+/// let kept = handles.pop();
+/// let error = Set::from_handles(handles).unwrap_err();
+/// assert_eq!(error.why(), ReportError::Missing);
+/// let mut handles = error.into_handles();
+/// handles.extend(kept);
+/// assert!(Set::from_handles(handles)?.contains(5)?);
+/// # Ok::<(), Box<dyn std::error::Error>>(())
+/// ```
+pub struct LendError<T: Kind = Keys> {
+    pub(crate) why: ReportError,
+    pub(crate) handles: Vec<HandleOf<T>>,
+}
+
+// SAFETY: a reference to it gives nothing of a handle.
+unsafe impl<T: Kind> Sync for LendError<T> {}
+
+impl<T: Kind> LendError<T> {
+    /// Why: [`ReportError::Mixed`], [`ReportError::Missing`], or [`ReportError::Memory`], tested in this order.
+    ///
+    /// ```
+    /// # use vbr::{ReportError, Set};
+    /// assert_eq!(Set::<u64>::from_handles(vec![]).unwrap_err().why(), ReportError::Missing);
+    /// ```
+    #[must_use]
+    pub fn why(&self) -> ReportError {
+        self.why
+    }
+
+    /// The handles, in the order that they had.
+    ///
+    /// ```
+    /// # use vbr::{Set, Shape};
+    /// let mut handles = Set::handles(Shape::for_keys(8, 2))?;
+    /// handles.truncate(1);
+    /// let mut handles = Set::from_handles(handles).unwrap_err().into_handles();
+    /// assert!(handles[0].insert(5)?);
+    /// # Ok::<(), Box<dyn std::error::Error>>(())
+    /// ```
+    #[must_use]
+    pub fn into_handles(self) -> Vec<HandleOf<T>> {
+        self.handles
+    }
 }
 
 /// Why the handles of a set or a map are not renewed. They stay as they were, and go on.
@@ -258,6 +310,7 @@ impl From<ReportError> for RenewError {
             ReportError::Mixed => RenewError::Mixed,
             ReportError::Missing => RenewError::Missing,
             ReportError::Memory => RenewError::Memory,
+            ReportError::Lent => RenewError::Lent,
         }
     }
 }
@@ -314,6 +367,7 @@ impl fmt::Display for ReportError {
             ReportError::Mixed => "the handles are of different sets or maps",
             ReportError::Missing => "there are fewer handles than were opened",
             ReportError::Memory => "there is no memory for the report",
+            ReportError::Lent => "a handle was on loan until the time was over",
         })
     }
 }
@@ -328,6 +382,21 @@ impl fmt::Display for RenewError {
             RenewError::Memory => "there is no memory for the fresh set or map",
             RenewError::Lent => "a handle was on loan until the time was over",
         })
+    }
+}
+
+impl<T: Kind> fmt::Display for LendError<T> {
+    fn fmt(&self, f: &mut fmt::Formatter<'_>) -> fmt::Result {
+        f.write_str(match self.why {
+            ReportError::Memory => "there is no memory for a set or map that lends its handles",
+            _ => return self.why.fmt(f),
+        })
+    }
+}
+
+impl<T: Kind> fmt::Debug for LendError<T> {
+    fn fmt(&self, f: &mut fmt::Formatter<'_>) -> fmt::Result {
+        f.debug_struct("LendError").field("why", &self.why).field("handles", &self.handles.len()).finish()
     }
 }
 
@@ -360,3 +429,5 @@ impl<H> Error for CloseError<H> {}
 impl Error for ReportError {}
 
 impl Error for RenewError {}
+
+impl<T: Kind> Error for LendError<T> {}

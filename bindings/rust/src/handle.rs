@@ -257,7 +257,7 @@ impl<T: Kind> DerefMut for HandleOf<T> {
 
 impl<T: Kind> fmt::Debug for HandleOf<T> {
     fn fmt(&self, f: &mut fmt::Formatter<'_>) -> fmt::Result {
-        f.debug_struct(T::NAMES[1]).finish_non_exhaustive()
+        self.show(T::NAMES[1], f)
     }
 }
 

@@ -136,6 +136,102 @@ impl<T: Kind> Iterator for IterAt<'_, T> {
 
 impl<T: Kind> FusedIterator for IterAt<'_, T> {}
 
+/// A walk over all keys of a set, or over all entries of a map, that takes out what it gives, as [`PassOf::drain`] begins it.
+/// If an item is [`OutOfSteps`], nothing was taken for it, and the next item is of a call from the same place, as for [`Iter`]. After
+/// the last key it gives `None` for good. Once it is dropped it takes no more out.
+///
+/// ```
+/// # use vbr::{Drain, Entries, OutOfSteps};
+/// fn some_of(entries: Drain<'_, Entries>) -> Result<Vec<(u64, u64)>, OutOfSteps> {
+///     entries.take(1).collect()
+/// }
+/// # let mut handle = vbr::Map::handles_with(vbr::Shape::for_keys(8, 1), &[(5, 70), (7, 71)])?.remove(0);
+/// # assert_eq!(some_of(handle.drain())?.len(), 1);
+/// # assert_eq!(handle.iter().count(), 1);
+/// # Ok::<(), Box<dyn std::error::Error>>(())
+/// ```
+#[must_use = "it takes nothing out before it is asked for a key"]
+pub struct Drain<'p, T: Kind = Keys> {
+    pass: &'p mut PassOf<T>,
+    cursor: Cursor,
+}
+
+/// Taking all keys out.
+impl<T: Kind> PassOf<T> {
+    /// Goes over all keys while other threads make calls, as [`PassOf::iter`] does, takes each out, and gives those that it took; of
+    /// a map with the value that the key had when it was taken. A key that is inserted meanwhile is taken or not. Each call that
+    /// it takes has the budget of the handle.
+    ///
+    /// ```
+    /// # use vbr::{Map, Shape};
+    /// let mut jobs = Map::handles_with(Shape::for_keys(8, 1), &[(5, 'a'), (7, 'b')])?.remove(0);
+    /// let mut taken = jobs.drain().collect::<Result<Vec<_>, _>>()?;
+    /// taken.sort();
+    /// assert_eq!(taken, [(5, 'a'), (7, 'b')]);
+    /// assert_eq!(jobs.iter().count(), 0);
+    /// # Ok::<(), Box<dyn std::error::Error>>(())
+    /// ```
+    ///
+    /// # Errors
+    ///
+    /// As an item, [`OutOfSteps`]. What was given before is taken out.
+    pub fn drain(&mut self) -> Drain<'_, T> {
+        Drain { pass: self, cursor: Cursor::first() }
+    }
+
+    /// Takes out each key that is there all the while, as [`PassOf::drain`] does, and returns how many keys it took out. If no
+    /// other thread makes calls the set is empty then; to give slots and epochs back renew it, or open another one.
+    ///
+    /// ```
+    /// # use vbr::{Set, Shape};
+    /// let mut handle = Set::handles_with(Shape::for_keys(8, 1), &[5, 7])?.remove(0);
+    /// assert_eq!((handle.clear()?, handle.clear()?), (2, 0));
+    /// # Ok::<(), Box<dyn std::error::Error>>(())
+    /// ```
+    ///
+    /// # Errors
+    ///
+    /// [`OutOfSteps`], as for [`PassOf::iter`] or a remove. What was taken out before stays out.
+    pub fn clear(&mut self) -> Result<u64, OutOfSteps> {
+        self.drain().try_fold(0, |count, taken| taken.map(|_| count + 1))
+    }
+}
+
+impl<T: Kind> Drain<'_, T> {
+    fn take_next(&mut self) -> Result<Option<T::Item>, OutOfSteps> {
+        let Drain { pass, cursor } = self;
+        loop {
+            let before = *cursor;
+            let Some(item) = pass.walk_on(cursor, pass.steps())? else { return Ok(None) };
+            match T::take(pass, item) {
+                Ok(None) => {} // another thread took it out
+                Err(OutOfSteps) => {
+                    *cursor = before;
+                    return Err(OutOfSteps);
+                }
+                taken => return taken,
+            }
+        }
+    }
+}
+
+impl<T: Kind> Iterator for Drain<'_, T> {
+    type Item = Result<T::Item, OutOfSteps>;
+
+    #[inline]
+    fn next(&mut self) -> Option<Self::Item> {
+        self.take_next().transpose()
+    }
+}
+
+impl<T: Kind> FusedIterator for Drain<'_, T> {}
+
+impl<T: Kind> fmt::Debug for Drain<'_, T> {
+    fn fmt(&self, f: &mut fmt::Formatter<'_>) -> fmt::Result {
+        f.debug_struct("Drain").field("cursor", &self.cursor).finish_non_exhaustive()
+    }
+}
+
 macro_rules! goes_over_its_table {
     ($($of:ty $(, $by:ident: $bound:ty)?;)*) => {$(
         impl<'h, T: Kind $(, $by: Deref<Target = $bound>)?> IntoIterator for &'h $of {

@@ -4,7 +4,7 @@ use crate::boxed::boxed;
 use crate::records::Words;
 use crate::reporting::Unreported;
 use crate::waiting::Waiters;
-use crate::{HandleOf, Keys, Kind, OpenError, PassOf, RenewError, Shape, Steps, Table};
+use crate::{HandleOf, Keys, Kind, PassOf, RenewError, ReportError, Shape, Steps, Table};
 use std::cell::{Cell, UnsafeCell};
 use std::fmt;
 use std::ops::{Deref, DerefMut};
@@ -16,7 +16,7 @@ use std::time::Instant;
 /// The handles of one set or map, which it lends.
 pub(crate) struct Lender<T: Kind> {
     places: Box<[Place<T>]>,
-    /// How many handles may be lent: all, or 0 during a renewal. It is never more than there are.
+    /// How many handles may be lent: all, or 0 during a pause. It is never more than there are.
     lends: AtomicUsize,
     waiters: Waiters,
     /// Apart from what a borrower reads, so that a set is small enough for an error.
@@ -42,8 +42,9 @@ pub(crate) struct SharedShape {
     steps: AtomicU32,
 }
 
-/// A renewal: while it has its turn no handle is lent, and it takes each that is free. At its end all are lent again.
-struct Renewal<'l, T: Kind> {
+/// A pause of the loans, for a call of all handles: while it has its turn no handle is lent, and it takes each that is free. At its
+/// end all are lent again.
+struct Pause<'l, T: Kind> {
     of: &'l Lender<T>,
     has_turn: bool,
     taken: usize,
@@ -66,18 +67,32 @@ thread_local! {
 }
 
 impl<T: Kind> Lender<T> {
-    /// Keeps the handles of one set or map.
-    pub(crate) fn of(handles: Vec<HandleOf<T>>, shape: Shape) -> Result<Lender<T>, OpenError> {
+    /// Keeps all handles of one set or map, which is opened so; gives them back if there is no memory.
+    pub(crate) fn of(handles: Vec<HandleOf<T>>, shape: Shape) -> Result<Lender<T>, Vec<HandleOf<T>>> {
         let mut places = Vec::new();
-        places.try_reserve_exact(handles.len()).map_err(|_| OpenError::Memory)?;
+        if places.try_reserve_exact(handles.len()).is_err() {
+            return Err(handles);
+        }
+        let made = Made { shape: SharedShape::of(shape), renewals: AtomicUsize::new(0) };
+        let (Some(waiters), Some(made)) = (Waiters::none(), boxed(made)) else { return Err(handles) };
         let free = |handle| Place { is_lent: AtomicBool::new(false), handle: UnsafeCell::new(handle) };
         places.extend(handles.into_iter().map(free));
-        Ok(Lender {
-            lends: AtomicUsize::new(places.len()),
-            places: places.into_boxed_slice(),
-            waiters: Waiters::none().ok_or(OpenError::Memory)?,
-            made: boxed(Made { shape: SharedShape::of(shape), renewals: AtomicUsize::new(0) }).ok_or(OpenError::Memory)?,
-        })
+        Ok(Lender { lends: AtomicUsize::new(places.len()), places: places.into_boxed_slice(), waiters, made })
+    }
+
+    /// The handles, whether they are lent or not.
+    pub(crate) fn into_handles(self) -> impl Iterator<Item = HandleOf<T>> {
+        self.places.into_vec().into_iter().map(|it| it.handle.into_inner())
+    }
+
+    /// The first handle, whether it is lent or not.
+    pub(crate) fn first(&mut self) -> &mut HandleOf<T> {
+        self.places[0].handle.get_mut()
+    }
+
+    /// How many handles are lent, as far as this thread sees.
+    pub(crate) fn lent(&self) -> usize {
+        self.places.iter().filter(|it| it.is_lent.load(Ordering::Relaxed)).count()
     }
 
     pub(crate) fn shape(&self) -> &SharedShape {
@@ -149,7 +164,7 @@ impl<T: Kind> Lender<T> {
     ) -> Result<(), RenewError> {
         shape.check_numbers()?;
         let shape = shape.opened().with_handles(self.count());
-        let mut mine = Renewal { of: self, has_turn: false, taken: 0 };
+        let mut mine = self.pause();
         let is_to_be_made = self.waiters.wait_for_all(deadline, || {
             if self.is_lending() && is_made() {
                 return Some(false);
@@ -165,13 +180,25 @@ impl<T: Kind> Lender<T> {
         Ok(())
     }
 
+    /// Reports what is in the set, once all loans are back, if they are before the deadline.
+    pub(crate) fn report(&self, deadline: Option<Instant>) -> Result<T::Report, ReportError> {
+        let mut mine = self.pause();
+        self.waiters.wait_for_all(deadline, || mine.takes_all().then_some(())).ok_or(ReportError::Lent)?;
+        mine.report()
+    }
+
+    /// A pause that hasn't begun.
+    fn pause(&self) -> Pause<'_, T> {
+        Pause { of: self, has_turn: false, taken: 0 }
+    }
+
     /// Whether no renewal is under way; what the last one made can be read then.
     fn is_lending(&self) -> bool {
         self.lends.load(Ordering::Acquire) > 0
     }
 }
 
-impl<T: Kind> Renewal<'_, T> {
+impl<T: Kind> Pause<'_, T> {
     /// Whether it has all handles now.
     fn takes_all(&mut self) -> bool {
         let Lender { places, lends, .. } = self.of;
@@ -184,7 +211,7 @@ impl<T: Kind> Renewal<'_, T> {
     }
 }
 
-impl<T: Kind> All<T> for Renewal<'_, T> {
+impl<T: Kind> All<T> for Pause<'_, T> {
     fn count(&self) -> usize {
         self.taken
     }
@@ -196,7 +223,7 @@ impl<T: Kind> All<T> for Renewal<'_, T> {
     }
 }
 
-impl<T: Kind> Drop for Renewal<'_, T> {
+impl<T: Kind> Drop for Pause<'_, T> {
     fn drop(&mut self) {
         if self.has_turn {
             self.of.lends.store(self.of.count(), Ordering::Release);
@@ -398,6 +425,6 @@ impl<T: Kind, B: Deref<Target = Table<T>>> Drop for LentBy<T, B> {
 
 impl<T: Kind, B: Deref<Target = Table<T>>> fmt::Debug for LentBy<T, B> {
     fn fmt(&self, f: &mut fmt::Formatter<'_>) -> fmt::Result {
-        f.debug_struct("Lent").field("number", &self.number).finish_non_exhaustive()
+        f.debug_struct("Lent").field("number", &self.number).field("pass", &&**self).finish_non_exhaustive()
     }
 }

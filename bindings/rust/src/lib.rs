@@ -60,8 +60,9 @@
 //! `contains_key` of a map.
 //!
 //! A call that takes no slot (look-ups, removes, walks) is refused for one reason alone, so its error is [`OutOfSteps`]; `?` makes a
-//! [`Refusal`] of it. There is no `FromIterator` and no `Extend`, since each opening and each insert may be refused: insert what an
-//! iterator gives by a loop with `?`, or by `try_for_each`. Handles, passes and reports are gone over by `for` loops.
+//! [`Refusal`] of it. There is no `FromIterator` and no `Extend`, since each opening and each insert may be refused:
+//! [`PassOf::try_extend`] puts in what an iterator gives, [`Pass::insert_all`] and its kin what a slice has, and each says how far it
+//! came ([`Stopped`]). Handles, loans, turns, passes and reports are gone over by `for` loops.
 //!
 //! # Keys and values
 //!
@@ -92,8 +93,8 @@
 //! [`Map`] has a value beside each key. It is opened, used and closed as a [`Set`], and what is said here of sets and their
 //! handles holds for maps and theirs too. [`MapPass::replace`], [`MapPass::put`], [`MapPass::compare_exchange`] and
 //! [`MapPass::fetch_update`] change a value at one moment, so nobody finds the key absent. [`MapPass::get_or_insert`] and
-//! [`MapPass::remove_if`] do one thing or another, depending on what is there; [`MapPass::entry`] says the same in the form
-//! of `HashMap`, and [`MapPass::retain`] takes out what is no longer wanted. [`Table`], [`HandleOf`] and [`PassOf`] have the
+//! [`MapPass::remove_if`] do one thing or another, depending on what is there, and [`MapPass::compute`] whatever a closure says
+//! of it; [`MapPass::entry`] has the form of `HashMap`, and [`MapPass::retain`] takes out what is no longer wanted. [`Table`], [`HandleOf`] and [`PassOf`] have the
 //! calls of both, for either [`Kind`].
 //!
 //! ```
@@ -131,10 +132,12 @@
 //!
 //! Each call has the budget of its handle, [`Steps::AMPLE`] unless the shape gave another one ([`Shape::with_steps`]). Most
 //! have a form beside them that takes one for itself: `has_within` beside `has`, and so on. `contains` and `contains_key` have
-//! none, as they are other names of `has`; nor have [`MapPass::entry`], `retain`, and calls of a table itself.
+//! none, as they are other names of `has`; nor have [`MapPass::entry`], `retain`, `drain`, `clear`, batches that change a set, and
+//! calls of a table itself.
 //!
-//! `fetch_update`, `retain`, loops over keys, and what [`MapPass::entry`] begins make several calls, and each of these has the
-//! budget. If other threads change the same key again and again, `fetch_update`, `retain` and `and_modify` go on for as long.
+//! `compute`, `fetch_update`, `retain`, loops over keys, batches, and what [`MapPass::entry`] begins make several calls, and each
+//! of these has the budget. If other threads change the same key again and again, `compute`, `fetch_update`, `remove_when`, `retain`
+//! and `and_modify` go on for as long.
 //! In short buckets the ample one is spent only if others disturb a call more than a hundred times, so most programs never
 //! name one. A refused call made no call: give it up, or make it again.
 //!
@@ -275,6 +278,7 @@ mod calling;
 mod changing;
 mod entry;
 mod errors;
+mod extending;
 mod handle;
 mod holding;
 mod iterating;
@@ -297,12 +301,13 @@ mod waiting;
 
 pub use bits::{Bits, ByBits};
 pub use calling::Growth;
-pub use changing::Compared;
+pub use changing::{Change, Compared};
 pub use entry::{Entry, ModifiedEntry};
-pub use errors::{CloseError, KeysError, OpenError, OutOfSteps, Refusal, RenewError, ReportError, Unclosed};
+pub use errors::{CloseError, KeysError, LendError, OpenError, OutOfSteps, Refusal, RenewError, ReportError, Unclosed};
+pub use extending::Stopped;
 pub use handle::HandleOf;
 pub use holding::{Held, Incarnation};
-pub use iterating::{Cursor, Iter, IterAt};
+pub use iterating::{Cursor, Drain, Iter, IterAt};
 pub use kind::{Entries, Keys, Kind};
 pub use lending::{Lent, LentBy, OwnedLent};
 pub use map::{Map, MapHandle, MapPass, MapReport};

@@ -1,6 +1,6 @@
 //! The calls of the library, and which of them are those of a set and which those of a map.
 use crate::reporting::Contents;
-use crate::{order, Bits, Compared, Cursor, Entries, Keys, MapReport, OutOfSteps, Refusal, Report};
+use crate::{order, Bits, Compared, Cursor, Entries, Keys, Kind, MapReport, OutOfSteps, PassOf, Refusal, Report};
 use core::cell::UnsafeCell;
 use core::ffi::{c_int, c_void};
 use core::ptr::null_mut;
@@ -287,6 +287,16 @@ pub(crate) trait Calls<Item, Told> {
 
     /// What the last close tells.
     fn report(contents: Contents<Item>) -> Told;
+
+    /// Puts an item in, in the place of the one with its key if there is one, and says whether there was none.
+    fn put(pass: &mut PassOf<Self>, item: Item) -> Result<bool, Refusal>
+    where
+        Self: Kind;
+
+    /// Takes out the key of an item, and gives what is taken.
+    fn take(pass: &mut PassOf<Self>, item: Item) -> Result<Option<Item>, OutOfSteps>
+    where
+        Self: Kind;
 }
 
 #[allow(clippy::type_complexity, reason = "a call has the type that it has in C")]
@@ -354,6 +364,16 @@ impl<K: Bits> Calls<K, Report<K>> for Keys<K> {
 
     fn report(Contents { items: keys, epoch, marked, free }: Contents<K>) -> Report<K> {
         Report { keys, epoch, marked, free }
+    }
+
+    #[inline]
+    fn put(pass: &mut PassOf<Self>, key: K) -> Result<bool, Refusal> {
+        pass.insert(key)
+    }
+
+    #[inline]
+    fn take(pass: &mut PassOf<Self>, key: K) -> Result<Option<K>, OutOfSteps> {
+        Ok(pass.remove(key)?.then_some(key))
     }
 }
 
@@ -423,6 +443,16 @@ impl<K: Bits, V: Bits> Calls<(K, V), MapReport<K, V>> for Entries<K, V> {
     fn report(Contents { items: entries, epoch, marked, free }: Contents<(K, V)>) -> MapReport<K, V> {
         MapReport { entries, epoch, marked, free }
     }
+
+    #[inline]
+    fn put(pass: &mut PassOf<Self>, (key, value): (K, V)) -> Result<bool, Refusal> {
+        Ok(pass.put(key, value)?.is_none())
+    }
+
+    #[inline]
+    fn take(pass: &mut PassOf<Self>, (key, _): (K, V)) -> Result<Option<(K, V)>, OutOfSteps> {
+        Ok(pass.remove(key)?.map(|value| (key, value)))
+    }
 }
 
 /// The answer of a call that may take a slot.
@@ -473,7 +503,7 @@ pub(crate) fn compared<E>(
 }
 
 /// How many keys a call of the library is given at once: some of its batches.
-const TOGETHER: usize = 64;
+pub(crate) const TOGETHER: usize = 64;
 
 /// The answers of look-ups of several keys, each of which `told` makes of what the library wrote for its key. It asks for as many
 /// answers as keys.

@@ -170,6 +170,12 @@ impl<T: Kind> PassOf<T> {
     /// As [`PassOf::has_all`] does.
     #[inline]
     pub fn has_all_within(&self, keys: &[T::Key], answers: &mut [Result<bool, OutOfSteps>], steps: Steps) {
+        self.has_each(keys, answers, steps);
+    }
+
+    /// The same of keys of any type with the same bits.
+    #[inline]
+    pub(crate) fn has_each<K: Bits>(&self, keys: &[K], answers: &mut [Result<bool, OutOfSteps>], steps: Steps) {
         // SAFETY: as for `has_within`; there is room for as many answers as keys.
         let call = |keys: &[u64], told: &mut [i32]| unsafe {
             T::HAS_ALL(self.raw(), keys.as_ptr(), keys.len(), told.as_mut_ptr(), steps.count());
@@ -492,8 +498,21 @@ impl<T: Kind> PassOf<T> {
     }
 }
 
+impl<T: Kind> PassOf<T> {
+    /// What a handle shows of itself, by this name. It makes no step.
+    pub(crate) fn show(&self, name: &str, f: &mut fmt::Formatter<'_>) -> fmt::Result {
+        f.debug_struct(name)
+            .field("slots", &self.slots())
+            .field("buckets", &self.buckets())
+            .field("epoch", &self.epoch())
+            .field("last_epoch", &self.last_epoch())
+            .field("balance", &self.balance())
+            .finish_non_exhaustive()
+    }
+}
+
 impl<T: Kind> fmt::Debug for PassOf<T> {
     fn fmt(&self, f: &mut fmt::Formatter<'_>) -> fmt::Result {
-        f.debug_struct(T::NAMES[2]).finish_non_exhaustive()
+        self.show(T::NAMES[2], f)
     }
 }

@@ -1,7 +1,11 @@
 //! A set or a map, which gives its handles or lends them.
+use crate::all::All;
 use crate::lending::Lender;
 use crate::reporting::Unreported;
-use crate::{CloseError, HandleOf, Kind, Lent, LentBy, OpenError, OwnedLent, RenewError, Shape, Unclosed};
+use crate::{
+    CloseError, HandleOf, Kind, LendError, Lent, LentBy, OpenError, OwnedLent, PassOf, RenewError, ReportError, Shape,
+    Unclosed,
+};
 use std::fmt;
 use std::sync::Arc;
 use std::time::{Duration, Instant};
@@ -65,7 +69,8 @@ impl<T: Kind> Table<T> {
     ///
     /// [`OpenError::Shape`], which is tested first, [`OpenError::Keys`] and [`OpenError::Memory`]. Nothing is kept then.
     pub fn open_with(shape: Shape, items: &[T::Item]) -> Result<Table<T>, OpenError> {
-        Ok(Table { lender: Lender::of(HandleOf::open(shape, items)?, shape)? })
+        let handles = HandleOf::open(shape, items)?;
+        Ok(Table { lender: Lender::of(handles, shape).map_err(|_| OpenError::Memory)? })
     }
 
     /// Opens an empty set, and gives the handles that the shape is for: one for each thread, which owns it.
@@ -142,6 +147,66 @@ impl<T: Kind> Table<T> {
     /// The same as for [`Table::open_with`].
     pub fn handles_with(shape: Shape, items: &[T::Item]) -> Result<Vec<HandleOf<T>>, OpenError> {
         HandleOf::open(shape, items)
+    }
+
+    /// Keeps handles that were owned, and lends them: all handles of a set, in any order. Each keeps its budget. The opposite is
+    /// [`Table::into_handles`].
+    ///
+    /// ```
+    /// # use vbr::{Set, Shape};
+    /// let mut handles = Set::handles(Shape::for_keys(8, 2))?;
+    /// assert_eq!(handles[1].insert_all(&[5, 7])?, 2); // while one thread fills it
+    /// let set = Set::from_handles(handles)?;
+    /// assert!(set.contains(5)?);
+    /// # Ok::<(), Box<dyn std::error::Error>>(())
+    /// ```
+    ///
+    /// # Errors
+    ///
+    /// [`LendError`], which has the handles, as they were.
+    pub fn from_handles(mut handles: Vec<HandleOf<T>>) -> Result<Table<T>, LendError<T>> {
+        if let Err(why) = handles.shared() {
+            return Err(LendError { why, handles });
+        }
+        let first = &handles[0];
+        let shape = Shape::new(first.slots(), first.buckets(), first.last_epoch()).with_handles(handles.len());
+        let lender = Lender::of(handles, shape);
+        Ok(Table { lender: lender.map_err(|handles| LendError { why: ReportError::Memory, handles })? })
+    }
+
+    /// The handles, one for each thread to own, those of loans that were forgotten too. The opposite is [`Table::from_handles`].
+    ///
+    /// ```
+    /// # use vbr::{Set, Shape};
+    /// let set = Set::open_with(Shape::for_keys(8, 2), &[5, 7])?;
+    /// let mut handles = set.into_handles()?;
+    /// assert_eq!((handles.len(), handles[1].remove(5)?), (2, true));
+    /// # Ok::<(), Box<dyn std::error::Error>>(())
+    /// ```
+    ///
+    /// # Errors
+    ///
+    /// [`CloseError::Memory`], with the set as it was: there is no memory for the vector.
+    pub fn into_handles(self) -> Result<Vec<HandleOf<T>>, CloseError<Table<T>>> {
+        let mut handles = Vec::new();
+        if handles.try_reserve_exact(self.handle_count()).is_err() {
+            return Err(CloseError::Memory(Unclosed(self)));
+        }
+        handles.extend(self.lender.into_handles());
+        Ok(handles)
+    }
+
+    /// The pass of a handle, without a loan, for whoever has the set alone: to fill it, or to look into it, before threads share
+    /// it or after. A map's value is read by [`get`](crate::Map::get), and changed by [`compute`](crate::Map::compute).
+    ///
+    /// ```
+    /// # use vbr::{Map, Shape};
+    /// let mut map = Map::open(Shape::for_keys(8, 2))?;
+    /// map.pass_mut().put_all(&[(5, 70), (7, 71)])?;
+    /// # Ok::<(), Box<dyn std::error::Error>>(())
+    /// ```
+    pub fn pass_mut(&mut self) -> &mut PassOf<T> {
+        self.lender.first()
     }
 
     /// How many slots the set has.
@@ -350,6 +415,46 @@ impl<T: Kind> Table<T> {
         self.lender.renew(shape, Instant::now().checked_add(limit), None)
     }
 
+    /// Reports what is in the set, as a close does, and the set goes on. No handle is lent meanwhile, and it waits until all loans are
+    /// back, as [`Table::renew`] does: so a thread that has one itself waits for ever, and so does one that comes after a loan was
+    /// forgotten. It takes the memory of a close. [`PassOf::iter`] goes over the keys while other threads make calls.
+    ///
+    /// ```
+    /// # use vbr::{Set, Shape};
+    /// let set = Set::open_with(Shape::for_keys(8, 2), &[5, 7])?;
+    /// assert_eq!(set.report()?.keys, [5, 7]);
+    /// assert!(set.insert(6)?); // it goes on
+    /// assert_eq!(set.report()?.keys, [5, 6, 7]);
+    /// # Ok::<(), Box<dyn std::error::Error>>(())
+    /// ```
+    ///
+    /// # Errors
+    ///
+    /// [`ReportError::Memory`].
+    pub fn report(&self) -> Result<T::Report, ReportError> {
+        self.lender.report(None)
+    }
+
+    /// As [`Table::report`], or [`ReportError::Lent`] if not all loans were back when the time was over.
+    ///
+    /// ```
+    /// # use std::time::Duration;
+    /// # use vbr::{ReportError, Set, Shape};
+    /// let set = Set::open_with(Shape::for_keys(8, 2), &[5, 7])?;
+    /// let mine = set.lend().expect("two are free");
+    /// assert_eq!(set.report_timeout(Duration::from_millis(1)), Err(ReportError::Lent));
+    /// drop(mine);
+    /// assert_eq!(set.report_timeout(Duration::from_secs(1))?.keys, [5, 7]);
+    /// # Ok::<(), Box<dyn std::error::Error>>(())
+    /// ```
+    ///
+    /// # Errors
+    ///
+    /// [`ReportError::Memory`] and [`ReportError::Lent`].
+    pub fn report_timeout(&self, limit: Duration) -> Result<T::Report, ReportError> {
+        self.lender.report(Instant::now().checked_add(limit))
+    }
+
     /// Closes all handles, those of loans that were forgotten too, and reports what was in the set.
     ///
     /// ```
@@ -396,8 +501,23 @@ impl<T: Kind> Table<T> {
     }
 }
 
+/// As [`Table::from_handles`].
+impl<T: Kind> TryFrom<Vec<HandleOf<T>>> for Table<T> {
+    type Error = LendError<T>;
+
+    fn try_from(handles: Vec<HandleOf<T>>) -> Result<Table<T>, LendError<T>> {
+        Table::from_handles(handles)
+    }
+}
+
 impl<T: Kind> fmt::Debug for Table<T> {
     fn fmt(&self, f: &mut fmt::Formatter<'_>) -> fmt::Result {
-        f.debug_struct(T::NAMES[0]).finish_non_exhaustive()
+        f.debug_struct(T::NAMES[0])
+            .field("slots", &self.slots())
+            .field("buckets", &self.buckets())
+            .field("last_epoch", &self.last_epoch())
+            .field("handles", &self.handle_count())
+            .field("lent", &self.lender.lent())
+            .finish_non_exhaustive()
     }
 }

@@ -376,8 +376,14 @@ fn names() {
         let handle = Table::<K>::handles(Shape::for_keys(8, 1)).expect("a set").remove(0);
         format!("{set:?} {handle:?} {:?} {lent:?}", &*lent)
     }
-    assert_eq!(names::<Keys>(), "Set { .. } Handle { .. } Pass { .. } Lent { number: 0, .. }");
-    assert_eq!(names::<Entries>(), "Map { .. } MapHandle { .. } MapPass { .. } Lent { number: 0, .. }");
+    let shown = |[table, handle, pass]: [&str; 3]| {
+        let numbers = "slots: 72, buckets: 8, epoch: 1, last_epoch: 549755813887, balance: 0, ..";
+        let table = format!("{table} {{ slots: 72, buckets: 8, last_epoch: 549755813887, handles: 1, lent: 1, .. }}");
+        let pass = format!("{pass} {{ {numbers} }}");
+        format!("{table} {handle} {{ {numbers} }} {pass} Lent {{ number: 0, pass: {pass}, .. }}")
+    };
+    assert_eq!(names::<Keys>(), shown(["Set", "Handle", "Pass"]));
+    assert_eq!(names::<Entries>(), shown(["Map", "MapHandle", "MapPass"]));
 }
 
 /// The names of sets and of maps serve as types without a parameter, and as paths to calls.

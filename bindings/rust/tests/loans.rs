@@ -11,7 +11,9 @@ use std::sync::atomic::{compiler_fence, AtomicBool, AtomicU32, AtomicU64, Orderi
 use std::sync::Arc;
 use std::thread;
 use std::time::{Duration, Instant};
-use vbr::{Keys, Lent, LentBy, OwnedLent, Pass, RenewError, Set, Shape, ShapeError, Table, MAX_EPOCH};
+use vbr::{
+    HandleOf, Keys, Lent, LentBy, OwnedLent, Pass, RenewError, ReportError, Set, Shape, ShapeError, Steps, Table, MAX_EPOCH,
+};
 
 const SOME: u64 = 64;
 const AT_LAST: Duration = Duration::from_secs(600);
@@ -30,6 +32,9 @@ of_sets_and_maps! {
     a_renewal_that_is_refused
     none_is_lent_while_a_renewal_waits
     renewals_while_others_wait
+    reports_while_others_insert
+    a_report_that_waits
+    handles_that_are_lent_and_owned
 }
 
 fn lending<K: Both>(handles: usize, keys: &[u64]) -> Table<K> {
@@ -370,6 +375,89 @@ fn renewals_while_others_wait<K: Both>() {
     mem::forget(set.lend());
     assert_eq!(set.renew_timeout(Shape::for_keys(8, 3), Duration::ZERO), Err(RenewError::Lent));
     assert!(set.lend().is_some() && keys_of(Arc::into_inner(set).expect("no loan is left")).is_empty());
+}
+
+/// Each thread inserts keys in their order, so each report has the first ones of each, and what a thread was answered before it.
+fn reports_while_others_insert<K: Both>() {
+    const EACH: u64 = 2_000;
+    let set = Table::<K>::open(Shape::for_keys(3 * EACH as u32, 2)).expect("a set");
+    let done = [(); 3].map(|()| AtomicU64::new(0));
+    thread::scope(|scope| {
+        for thread in 0..3 {
+            let (set, done) = (&set, &done[thread as usize]);
+            scope.spawn(move || {
+                for key in 0..EACH {
+                    assert_eq!(K::insert(&mut set.lend_wait(), thread * EACH + key), Ok(true));
+                    done.store(key + 1, Ordering::Release);
+                }
+            });
+        }
+        let mut is_over = false;
+        while !is_over {
+            let before: Vec<_> = done.iter().map(|it| it.load(Ordering::Acquire)).collect();
+            let keys = K::report(set.report().expect("memory")).keys;
+            is_over = keys.len() as u64 == 3 * EACH;
+            for (thread, before) in before.into_iter().enumerate() {
+                let own: Vec<u64> = keys.iter().filter(|&&key| key / EACH == thread as u64).map(|key| key % EACH).collect();
+                assert!(own.len() as u64 >= before && own.iter().copied().eq(0..own.len() as u64));
+            }
+        }
+    });
+    assert_eq!(keys_of(set).len() as u64, 3 * EACH);
+}
+
+fn a_report_that_waits<K: Both>() {
+    let set = lending::<K>(2, &[7]);
+    let mut kept = set.lend().expect("two are free");
+    assert_eq!(set.report_timeout(Duration::from_millis(5)), Err(ReportError::Lent));
+    thread::scope(|scope| {
+        let reports = scope.spawn(|| K::report(set.report().expect("memory")).keys);
+        while set.lend().is_some() {
+            thread::yield_now(); // until it has begun
+        }
+        let waits = scope.spawn(|| set.lend_wait().has(8));
+        assert_eq!(K::insert(&mut kept, 8), Ok(true));
+        scope.spawn(move || drop(kept));
+        assert_eq!(reports.join().expect("a thread that ends"), [7, 8]);
+        assert_eq!(waits.join().expect("a thread that ends"), Ok(true));
+    });
+    mem::forget(set.lend());
+    assert_eq!(set.report_timeout(Duration::ZERO), Err(ReportError::Lent));
+    assert!(set.lend().is_some() && keys_of(set) == [7, 8]);
+}
+
+/// Handles that were owned are lent, with what they hold and the budgets that they have, and owned again, and renewed in either place.
+fn handles_that_are_lent_and_owned<K: Both>() {
+    let shape = Shape::new(200, 16, 1_000).with_handles(3).with_seed(7);
+    let mut handles: Vec<HandleOf<K>> = Table::handles_with(shape, &K::items(&[1, 2])).expect("a set");
+    handles[1].set_steps(Steps::new(500));
+    handles.rotate_left(1);
+    let last = handles.pop();
+    let error = Table::from_handles(handles).expect_err("one is missing");
+    assert_eq!((error.why(), error.to_string()), (ReportError::Missing, "there are fewer handles than were opened".into()));
+    let mut handles = error.into_handles();
+    handles.extend(Table::handles(Shape::for_keys(8, 1)).expect("another set"));
+    let error = Table::from_handles(handles).expect_err("one is of another set");
+    assert_eq!(error.why(), ReportError::Mixed);
+    let mut handles = error.into_handles();
+    handles.truncate(2);
+    handles.extend(last);
+    let mut set = Table::try_from(handles).expect("a set");
+    assert_eq!((set.slots(), set.buckets(), set.last_epoch(), set.handle_count()), (200, 16, 1_000, 3));
+    {
+        let mut loans = [set.lend(), set.lend(), set.lend()].map(|it| it.expect("three are free"));
+        assert!(loans.iter().any(|it| it.steps() == Steps::new(500)) && K::insert(&mut loans[2], 3) == Ok(true));
+    }
+    assert_eq!(K::insert(set.pass_mut(), 4), Ok(true));
+    assert_eq!(set.renew(Shape::for_keys(1_000, 3)), Ok(()));
+    assert_eq!((set.lend_wait().seed(), set.slots()), (7, 1_192));
+    mem::forget(set.lend());
+    let mut handles = set.into_handles().expect("memory");
+    assert_eq!((handles.len(), K::insert(&mut handles[2], 5)), (3, Ok(true)));
+    assert_eq!(HandleOf::renew_all(&mut handles, Shape::for_keys(8, 3)), Ok(()));
+    let set = Table::from_handles(handles).expect("a set");
+    assert_eq!((set.slots(), set.lend().is_some()), (200, true));
+    assert_eq!(keys_of(set), [1, 2, 3, 4, 5]);
 }
 
 /// Loans go to other threads, and those with a share wherever a task goes; a pass is taken from either, and from a handle.

@@ -115,6 +115,7 @@ of_sets_and_maps! {
     a_close_that_the_library_refuses
     a_set_that_lends_its_handles_closes_all_or_none
     a_set_that_lends_its_handles_is_renewed_or_not
+    handles_that_are_lent_or_not
     a_set_that_processes_share
     a_process_that_dies_in_a_report
 }
@@ -250,6 +251,26 @@ fn a_set_that_lends_its_handles_is_renewed_or_not<K: Both>() {
     }
     let report = K::report(set.close().expect("memory"));
     assert_eq!((report.keys, report.free), (vec![1, 2], wanted.slots - 2));
+}
+
+/// They change their owner, or stay as they are; so does a set that is refused a report.
+fn handles_that_are_lent_or_not<K: Both>() {
+    let mut handles = Table::<K>::handles_with(Shape::for_keys(1_000, 3), &K::items(&[1, 2])).expect("a set");
+    for blocks in 0..3 {
+        let error = granted(blocks, || Table::from_handles(handles)).expect_err("no memory");
+        assert_eq!(error.why(), ReportError::Memory);
+        handles = error.into_handles();
+        assert!(handles.len() == 3 && handles.iter().all(|it| it.has(2) == Ok(true)));
+    }
+    let set = granted(3, || Table::from_handles(handles)).expect("memory for the places, the shape, and who waits");
+    assert_eq!(refused(|| set.report()).err(), Some(ReportError::Memory));
+    assert_eq!(refused_in_the_library(|| set.report()).err(), Some(ReportError::Memory));
+    let Err(CloseError::Memory(unclosed)) = refused(|| set.into_handles()) else {
+        panic!("handles without memory");
+    };
+    let set = unclosed.into_table();
+    assert!([(); 3].map(|()| set.lend()).iter().flatten().all(|it| it.has(2) == Ok(true)));
+    assert_eq!(granted(1, || set.into_handles()).expect("memory for the vector").len(), 3);
 }
 
 /// What the library notes of a mapping is there for the next one of that size, so each kind has sizes of its own.

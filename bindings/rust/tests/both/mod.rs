@@ -1,6 +1,6 @@
 //! Tests that are made of sets and of maps, by one text: in a map each key has the value that [`value_of`] says.
 #![allow(dead_code, reason = "each test uses some of it")]
-use vbr::{Entries, Keys, Kind, MapReport, OutOfSteps, PassOf, Refusal, Report, Steps};
+use vbr::{Entries, Keys, Kind, MapReport, OutOfSteps, PassOf, Refusal, Report, Steps, Stopped};
 
 /// The value that a map has with a key in these tests.
 pub fn value_of(key: u64) -> u64 {
@@ -40,6 +40,7 @@ pub trait Both: Kind<Key = u64> {
     fn insert_within(pass: &mut PassOf<Self>, key: u64, steps: Steps) -> Result<bool, Refusal>;
     fn remove_within(pass: &mut PassOf<Self>, key: u64, steps: Steps) -> Result<bool, OutOfSteps>;
     fn retain(pass: &mut PassOf<Self>, keep: impl FnMut(u64) -> bool) -> Result<u64, OutOfSteps>;
+    fn insert_all(pass: &mut PassOf<Self>, keys: &[u64]) -> Result<usize, Stopped<Self::Item>>;
     fn report(told: Self::Report) -> Told;
 
     fn insert(pass: &mut PassOf<Self>, key: u64) -> Result<bool, Refusal> {
@@ -76,6 +77,10 @@ impl Both for Keys {
         pass.retain(keep)
     }
 
+    fn insert_all(pass: &mut PassOf<Keys>, keys: &[u64]) -> Result<usize, Stopped> {
+        pass.insert_all(keys)
+    }
+
     fn report(told: Report) -> Told {
         let room = told.keys.capacity();
         Told { epoch: told.epoch, marked: told.marked, free: told.free, keys: told.keys, room }
@@ -101,6 +106,10 @@ impl Both for Entries {
 
     fn retain(pass: &mut PassOf<Entries>, mut keep: impl FnMut(u64) -> bool) -> Result<u64, OutOfSteps> {
         pass.retain(|key, value| keep(key_of((key, value))))
+    }
+
+    fn insert_all(pass: &mut PassOf<Entries>, keys: &[u64]) -> Result<usize, Stopped<(u64, u64)>> {
+        pass.try_insert_all(&Self::items(keys))
     }
 
     fn report(told: MapReport) -> Told {
