@@ -187,6 +187,14 @@ impl<T: Kind> Lender<T> {
         mine.report()
     }
 
+    /// How many keys are in the set, once all loans are back, if they are before the deadline.
+    pub(crate) fn key_count(&self, deadline: Option<Instant>) -> Option<u64> {
+        let mut mine = self.pause();
+        self.waiters.wait_for_all(deadline, || mine.takes_all().then_some(()))?;
+        let sum: i64 = (0..mine.count()).map(|place| mine.at(place).balance()).sum();
+        Some(sum.unsigned_abs()) // all balances add up to the number of keys
+    }
+
     /// A pause that hasn't begun.
     fn pause(&self) -> Pause<'_, T> {
         Pause { of: self, has_turn: false, taken: 0 }

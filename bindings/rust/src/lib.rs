@@ -161,8 +161,9 @@
 //! ```
 //!
 //! Between the calls of [`PassOf::next`], which has a [`Cursor`] in place of an iterator, the handle itself makes other calls
-//! too. No call says how many keys are in the set at one moment while threads run: add up the balances of the handles
-//! ([`PassOf::balance`]), count the keys that a walk gives, or read a report.
+//! too. No call says how many keys are in the set at one moment while threads are in calls: add up the balances of the handles
+//! ([`PassOf::balance`]), count the keys that a walk gives, or read a report. A table that lends its handles waits until all are back,
+//! and counts then ([`Table::key_count`]).
 //!
 //! # Threads
 //!

@@ -253,6 +253,43 @@ impl<T: Kind> Table<T> {
         self.lender.count()
     }
 
+    /// How many keys are in the set, at one moment. No handle is lent meanwhile, and it waits until all loans are back, as
+    /// [`Table::renew`] does: so a thread that has one itself waits for ever, and so does one that comes after a loan was forgotten. It
+    /// adds up the balances of the handles ([`PassOf::balance`]), and goes over no key.
+    ///
+    /// It is right over renewals. For a number that is read often, and off by what is under way, let each thread tell the balance of
+    /// its handle.
+    ///
+    /// ```
+    /// # use vbr::{Map, Shape};
+    /// let map = Map::open_with(Shape::for_keys(8, 2), &[(5, 70), (7, 71)])?;
+    /// map.remove(5)?;
+    /// assert_eq!(map.key_count(), 1);
+    /// map.renew(Shape::for_keys(100, 2))?;
+    /// assert_eq!(map.key_count(), 1);
+    /// # Ok::<(), Box<dyn std::error::Error>>(())
+    /// ```
+    #[doc(alias = "len")]
+    pub fn key_count(&self) -> u64 {
+        self.lender.key_count(None).unwrap_or_default() // without a deadline the wait ends with all handles
+    }
+
+    /// As [`Table::key_count`], or `None` if not all loans were back when the time was over.
+    ///
+    /// ```
+    /// # use std::time::Duration;
+    /// # use vbr::{Set, Shape};
+    /// let set = Set::open_with(Shape::for_keys(8, 2), &[5, 7])?;
+    /// let mine = set.lend().expect("two are free");
+    /// assert_eq!(set.key_count_timeout(Duration::from_millis(1)), None);
+    /// drop(mine);
+    /// assert_eq!(set.key_count_timeout(Duration::from_secs(1)), Some(2));
+    /// # Ok::<(), Box<dyn std::error::Error>>(())
+    /// ```
+    pub fn key_count_timeout(&self, limit: Duration) -> Option<u64> {
+        self.lender.key_count(Instant::now().checked_add(limit))
+    }
+
     /// Lends a free handle, or returns `None` if each was lent at some moment of the call, or the set is being renewed. It
     /// tries each handle at most once, takes no lock and no memory, and never waits: [`Table::lend_wait`] does.
     ///

@@ -34,6 +34,7 @@ of_sets_and_maps! {
     renewals_while_others_wait
     reports_while_others_insert
     a_report_that_waits
+    keys_that_are_counted
     handles_that_are_lent_and_owned
 }
 
@@ -404,6 +405,37 @@ fn reports_while_others_insert<K: Both>() {
         }
     });
     assert_eq!(keys_of(set).len() as u64, 3 * EACH);
+}
+
+/// Threads move keys, an insert first and then a remove, so at any moment at most three more are there; renewals change no number.
+fn keys_that_are_counted<K: Both>() {
+    let set = lending::<K>(3, &[1, 2, 3, 4]);
+    assert_eq!(set.key_count(), 4);
+    assert_eq!(K::remove(&mut set.lend_wait(), 4), Ok(true));
+    assert_eq!(set.key_count(), 3);
+    thread::scope(|scope| {
+        for thread in 1..4 {
+            let set = &set;
+            scope.spawn(move || {
+                for _ in 0..1_000 {
+                    for (from, to) in [(thread, thread + 10), (thread + 10, thread)] {
+                        assert_eq!(K::insert(&mut set.lend_wait(), to), Ok(true));
+                        assert_eq!(K::remove(&mut set.lend_wait(), from), Ok(true));
+                    }
+                }
+            });
+        }
+        for round in 0..200 {
+            let count = set.key_count();
+            assert!((3..=6).contains(&count), "{count} keys");
+            if round % 10 == 0 {
+                assert_eq!(set.renew(Shape::for_keys(100 + round, 3)), Ok(()));
+            }
+        }
+    });
+    assert_eq!(set.key_count_timeout(AT_LAST), Some(3));
+    mem::forget(set.lend());
+    assert_eq!((set.key_count_timeout(Duration::ZERO), keys_of(set).len()), (None, 3));
 }
 
 fn a_report_that_waits<K: Both>() {
