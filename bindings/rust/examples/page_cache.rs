@@ -317,7 +317,7 @@ struct Played {
 /// Plays all requests by so many threads, and sees that at the end the index has just the pages of the frames, and the disk, after
 /// one more checkpoint, all changes that were asked for, and no others.
 fn play(threads: usize, slots: u32) -> Result<Played, Box<dyn Error>> {
-    let shape = Shape { slots, last_epoch: LAST_EPOCH, ..Shape::for_keys(FRAMES as u32, threads) };
+    let shape = Shape::for_keys(FRAMES as u32, threads).with_slots(slots).with_last_epoch(LAST_EPOCH);
     let cache = Cache::new();
     let mut workers: Vec<_> = (0..threads).map(|_| Worker::new(&cache)).collect();
     let mut handles = Map::handles(shape)?;

@@ -19,7 +19,7 @@ use vbr::{Entries, Incarnation, Map, MapHandle, OutOfSteps, Records, Refusal, Sh
 const THREADS: usize = 4;
 const OWNERS: u32 = 16;
 const WIDE: Shape = Shape::for_keys(OWNERS, THREADS);
-const NARROW: Shape = Shape { slots: OWNERS + 5, ..WIDE };
+const NARROW: Shape = WIDE.with_slots(OWNERS + 5);
 const LARGER: Shape = Shape::for_keys(2 * OWNERS, THREADS);
 const TURNS: u32 = 25_000;
 

@@ -1,6 +1,7 @@
 //! A key of a map, with what to do if it is there and if it isn't.
 use crate::{Bits, Change, MapPass, Refusal};
 use core::cell::LazyCell;
+use core::fmt;
 
 /// A key of a map, there or not, as [`MapPass::entry`](crate::MapPass::entry) names it. It makes no call, and holds nobody
 /// up: its methods say what to do, and their calls do it, at one moment for all threads.
@@ -22,9 +23,8 @@ use core::cell::LazyCell;
 /// assert_eq!(count(&mut words, *b"    once")?, 2);
 /// # Ok::<(), Box<dyn std::error::Error>>(())
 /// ```
-#[derive(Debug)]
 #[must_use = "nothing is done before it is said what to insert"]
-pub struct Entry<'p, K: Bits = u64, V: Bits = u64> {
+pub struct Entry<'p, K = u64, V = u64> {
     pass: &'p mut MapPass<K, V>,
     key: K,
 }
@@ -165,9 +165,8 @@ impl<'p, K: Bits, V: Bits> Entry<'p, K, V> {
 /// assert_eq!(modified.or_insert(1)?, 140);
 /// # Ok::<(), Box<dyn std::error::Error>>(())
 /// ```
-#[derive(Debug)]
 #[must_use = "nothing is done before it is said what to insert"]
-pub struct ModifiedEntry<'p, K: Bits, V: Bits, F: FnMut(&mut V)> {
+pub struct ModifiedEntry<'p, K, V, F> {
     entry: Entry<'p, K, V>,
     modify: F,
 }
@@ -261,5 +260,17 @@ impl<K: Bits, V: Bits, F: FnMut(&mut V)> ModifiedEntry<'_, K, V, F> {
     pub fn or_insert_with_key(self, make: impl FnOnce(K) -> V) -> Result<V, Refusal> {
         let key = self.entry.key;
         self.or_insert_with(|| make(key))
+    }
+}
+
+impl<K: Bits, V: Bits> fmt::Debug for Entry<'_, K, V> {
+    fn fmt(&self, f: &mut fmt::Formatter<'_>) -> fmt::Result {
+        f.debug_struct("Entry").field("key", &self.key).finish_non_exhaustive()
+    }
+}
+
+impl<K: Bits, V: Bits, F> fmt::Debug for ModifiedEntry<'_, K, V, F> {
+    fn fmt(&self, f: &mut fmt::Formatter<'_>) -> fmt::Result {
+        f.debug_struct("ModifiedEntry").field("key", &self.entry.key).finish_non_exhaustive()
     }
 }

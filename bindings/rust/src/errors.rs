@@ -69,15 +69,24 @@ pub struct OutOfSteps;
 
 /// Why a call gave no answer. It made no call then.
 ///
+/// These are all the reasons that there are, so a program can match each, and the compiler says which it left out. A call that takes
+/// no slot is refused for one of them alone, and so by [`OutOfSteps`].
+///
 /// ```
 /// # use vbr::{Refusal, Set, Shape, Steps};
 /// let mut handle = Set::handles_with(Shape::new(1, 1, 100), &[5])?.remove(0);
 /// assert_eq!(handle.insert(6), Err(Refusal::NoSlot));
 /// assert_eq!(handle.insert_within(6, Steps::new(1)), Err(Refusal::OutOfSteps));
+/// let what_helps = |refusal| match refusal {
+///     Refusal::OutOfSteps => "make the call again",
+///     Refusal::NoSlot => "remove keys, or renew to more slots",
+///     Refusal::EpochSpent => "renew",
+///     Refusal::Held => "drop what is held",
+/// };
+/// assert_eq!(what_helps(Refusal::EpochSpent), "renew");
 /// # Ok::<(), Box<dyn std::error::Error>>(())
 /// ```
 #[derive(Clone, Copy, Debug, PartialEq, Eq, Hash)]
-#[non_exhaustive]
 pub enum Refusal {
     /// The budget is spent. Make the call again, with twice the budget if that may have been too small:
     /// [`Steps::AMPLE`](crate::Steps::AMPLE) is enough in short buckets, unless others disturb the call more than a hundred

@@ -22,7 +22,7 @@ use core::ops::Deref;
 /// assert!(handle.is_still(&at));
 /// # Ok::<(), Box<dyn std::error::Error>>(())
 /// ```
-pub struct Incarnation<T: Kind = Keys> {
+pub struct Incarnation<T = Keys> {
     pub(crate) stands: Stands,
     kind: PhantomData<fn() -> T>,
 }

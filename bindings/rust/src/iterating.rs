@@ -79,7 +79,7 @@ impl Cursor {
 /// # Ok::<(), Box<dyn std::error::Error>>(())
 /// ```
 #[must_use = "a walk makes no call before it is asked for a key"]
-pub struct Iter<'h, T: Kind = Keys> {
+pub struct Iter<'h, T = Keys> {
     pass: &'h PassOf<T>,
     cursor: Cursor,
     steps: Steps,
@@ -116,7 +116,7 @@ impl<T: Kind> FusedIterator for Iter<'_, T> {}
 /// # Ok::<(), Box<dyn std::error::Error>>(())
 /// ```
 #[must_use = "a walk makes no call before it is asked for a key"]
-pub struct IterAt<'h, T: Kind = Keys>(Iter<'h, T>);
+pub struct IterAt<'h, T = Keys>(Iter<'h, T>);
 
 impl<'h, T: Kind> IterAt<'h, T> {
     pub(crate) fn new(pass: &'h PassOf<T>, steps: Steps) -> IterAt<'h, T> {
@@ -151,7 +151,7 @@ impl<T: Kind> FusedIterator for IterAt<'_, T> {}
 /// # Ok::<(), Box<dyn std::error::Error>>(())
 /// ```
 #[must_use = "it takes nothing out before it is asked for a key"]
-pub struct Drain<'p, T: Kind = Keys> {
+pub struct Drain<'p, T = Keys> {
     pass: &'p mut PassOf<T>,
     cursor: Cursor,
 }

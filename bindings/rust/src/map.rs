@@ -7,7 +7,20 @@ use alloc::vec::{self, Vec};
 use core::slice;
 
 /// A map from keys to values of any types that have [`Bits`]. [`Map::open`] opens one that lends its handles, and [`Map::handles`]
-/// gives the handles of a new map to their owners. Its calls are those of a [`Table`].
+/// gives the handles of a new map to their owners.
+///
+/// | To | Calls |
+/// |---|---|
+/// | open and end | [`open`](Map::open), [`open_with`](Map::open_with), [`close`](Map::close), [`end`](Map::end) |
+/// | look up, by a loan for it alone | [`get`](Map::get), [`contains_key`](Map::contains_key), [`has`](Map::has) |
+/// | change, by a loan for it alone | [`try_insert`](Map::try_insert), [`put`](Map::put), [`replace`](Map::replace), [`get_or_insert`](Map::get_or_insert), [`compare_exchange`](Map::compare_exchange), [`fetch_update`](Map::fetch_update), [`compute`](Map::compute), [`remove`](Map::remove), [`remove_if`](Map::remove_if), [`remove_when`](Map::remove_when) |
+/// | call, and grow if need be | [`call`](Map::call) |
+/// | borrow a handle | [`lend`](Map::lend), [`lend_wait`](Map::lend_wait), [`lend_timeout`](Map::lend_timeout), [`lend_owned`](Map::lend_owned), [`lend_owned_wait`](Map::lend_owned_wait), [`lend_owned_timeout`](Map::lend_owned_timeout) |
+/// | own handles | [`handles`](Map::handles), [`handles_with`](Map::handles_with), [`into_handles`](Map::into_handles), [`from_handles`](Map::from_handles), [`pass_mut`](Map::pass_mut) |
+/// | see to all | [`renew`](Map::renew), [`renew_timeout`](Map::renew_timeout), [`report`](Map::report), [`report_timeout`](Map::report_timeout), [`key_count`](Map::key_count), [`key_count_timeout`](Map::key_count_timeout) |
+/// | read its shape | [`slots`](Map::slots), [`buckets`](Map::buckets), [`last_epoch`](Map::last_epoch), [`handle_count`](Map::handle_count) |
+///
+/// They are calls of a [`Table`]. A loan and a handle have more, those of a [`MapPass`].
 ///
 /// A key keeps its value until it is removed or gets another one: [`MapPass::try_insert`] leaves the value of a key that is there,
 /// and [`MapPass::replace`] and [`MapPass::put`] change it at one moment.
@@ -44,8 +57,17 @@ pub type Map<K = u64, V = u64> = Table<Entries<K, V>>;
 /// ```
 pub type MapHandle<K = u64, V = u64> = HandleOf<Entries<K, V>>;
 
-/// The pass of a handle to a map: the calls of [`PassOf`], and [`MapPass::get`], and those that insert, remove and
-/// change an entry.
+/// The pass of a handle to a map: the right of one thread at a time to make calls.
+///
+/// | To | Calls |
+/// |---|---|
+/// | look up | [`get`](MapPass::get), [`get_all`](MapPass::get_all), [`contains_key`](MapPass::contains_key), [`has`](MapPass::has), [`has_all`](MapPass::has_all) |
+/// | change | [`try_insert`](MapPass::try_insert), [`put`](MapPass::put), [`replace`](MapPass::replace), [`remove`](MapPass::remove) |
+/// | do what depends on what is there | [`get_or_insert`](MapPass::get_or_insert), [`compare_exchange`](MapPass::compare_exchange), [`remove_if`](MapPass::remove_if), [`remove_when`](MapPass::remove_when), [`fetch_update`](MapPass::fetch_update), [`compute`](MapPass::compute), [`entry`](MapPass::entry) |
+/// | change many | [`try_insert_all`](MapPass::try_insert_all), [`put_all`](MapPass::put_all), [`try_extend`](MapPass::try_extend), [`retain`](MapPass::retain), [`drain`](MapPass::drain), [`clear`](MapPass::clear) |
+/// | go over entries | [`iter`](MapPass::iter), [`keys`](MapPass::keys), [`values`](MapPass::values), [`next`](MapPass::next), [`iter_at`](MapPass::iter_at), [`next_at`](MapPass::next_at) |
+/// | name entries, and hold slots | [`get_entry`](MapPass::get_entry), [`is_still`](MapPass::is_still), [`remove_entry`](MapPass::remove_entry), [`hold`](MapPass::hold) |
+/// | see to slots and epochs | [`reserve`](MapPass::reserve), [`give_slots_back`](MapPass::give_slots_back), [`epoch`](MapPass::epoch), [`balance`](MapPass::balance) |
 ///
 /// ```
 /// # use vbr::{MapPass, OutOfSteps};
@@ -314,5 +336,12 @@ impl<'r, K, V> IntoIterator for &'r MapReport<K, V> {
 
     fn into_iter(self) -> slice::Iter<'r, (K, V)> {
         self.iter()
+    }
+}
+
+/// The entries.
+impl<K, V> From<MapReport<K, V>> for Vec<(K, V)> {
+    fn from(report: MapReport<K, V>) -> Vec<(K, V)> {
+        report.entries
     }
 }

@@ -43,7 +43,7 @@ use core::{ptr, slice};
 /// is_sync::<vbr::Pass>();
 /// ```
 #[repr(transparent)]
-pub struct PassOf<T: Kind> {
+pub struct PassOf<T> {
     kind: PhantomData<T>,
     /// The handle as the library has it, the only one of the slice.
     raw: [UnsafeCell<Raw>],

@@ -209,7 +209,7 @@ macro_rules! record {
 ///
 /// The records are those of one set or map. With a pass of another one a call reads and writes records of slots that aren't its own: what
 /// it gives is a record, and may be any.
-pub struct Records<R: Record> {
+pub struct Records<R> {
     words: Words,
     kind: PhantomData<fn() -> R>,
 }

@@ -6,7 +6,19 @@ use alloc::vec::{self, Vec};
 use core::slice;
 
 /// A set of keys of any type that has [`Bits`]. [`Set::open`] opens one that lends its handles, and [`Set::handles`] gives the
-/// handles of a new set to their owners. Its calls are those of a [`Table`].
+/// handles of a new set to their owners.
+///
+/// | To | Calls |
+/// |---|---|
+/// | open and end | [`open`](Set::open), [`open_with`](Set::open_with), [`close`](Set::close), [`end`](Set::end) |
+/// | call, by a loan for it alone | [`insert`](Set::insert), [`remove`](Set::remove), [`contains`](Set::contains), [`has`](Set::has) |
+/// | call, and grow if need be | [`call`](Set::call) |
+/// | borrow a handle | [`lend`](Set::lend), [`lend_wait`](Set::lend_wait), [`lend_timeout`](Set::lend_timeout), [`lend_owned`](Set::lend_owned), [`lend_owned_wait`](Set::lend_owned_wait), [`lend_owned_timeout`](Set::lend_owned_timeout) |
+/// | own handles | [`handles`](Set::handles), [`handles_with`](Set::handles_with), [`into_handles`](Set::into_handles), [`from_handles`](Set::from_handles), [`pass_mut`](Set::pass_mut) |
+/// | see to all | [`renew`](Set::renew), [`renew_timeout`](Set::renew_timeout), [`report`](Set::report), [`report_timeout`](Set::report_timeout), [`key_count`](Set::key_count), [`key_count_timeout`](Set::key_count_timeout) |
+/// | read its shape | [`slots`](Set::slots), [`buckets`](Set::buckets), [`last_epoch`](Set::last_epoch), [`handle_count`](Set::handle_count) |
+///
+/// They are calls of a [`Table`]. A loan and a handle have more, those of a [`Pass`].
 ///
 /// Named as a type, `Set` is a set of `u64`; when one is opened, its keys have the type that its calls are given.
 ///
@@ -46,7 +58,16 @@ pub type Set<K = u64> = Table<Keys<K>>;
 /// ```
 pub type Handle<K = u64> = HandleOf<Keys<K>>;
 
-/// The pass of a handle to a set: the calls of [`PassOf`], and those that insert and remove keys.
+/// The pass of a handle to a set: the right of one thread at a time to make calls.
+///
+/// | To | Calls |
+/// |---|---|
+/// | look up | [`contains`](Pass::contains), [`has`](Pass::has), [`has_all`](Pass::has_all) |
+/// | change | [`insert`](Pass::insert), [`remove`](Pass::remove) |
+/// | change many | [`insert_all`](Pass::insert_all), [`try_extend`](Pass::try_extend), [`retain`](Pass::retain), [`drain`](Pass::drain), [`clear`](Pass::clear) |
+/// | go over keys | [`iter`](Pass::iter), [`next`](Pass::next), [`iter_at`](Pass::iter_at), [`next_at`](Pass::next_at) |
+/// | name entries, and hold slots | [`get_entry`](Pass::get_entry), [`is_still`](Pass::is_still), [`remove_entry`](Pass::remove_entry), [`hold`](Pass::hold) |
+/// | see to slots and epochs | [`reserve`](Pass::reserve), [`give_slots_back`](Pass::give_slots_back), [`epoch`](Pass::epoch), [`balance`](Pass::balance) |
 ///
 /// ```
 /// # use vbr::{Pass, Refusal};
@@ -246,5 +267,12 @@ impl<'r, K> IntoIterator for &'r Report<K> {
 
     fn into_iter(self) -> slice::Iter<'r, K> {
         self.iter()
+    }
+}
+
+/// The keys.
+impl<K> From<Report<K>> for Vec<K> {
+    fn from(report: Report<K>) -> Vec<K> {
+        report.keys
     }
 }

@@ -39,10 +39,14 @@ use core::fmt;
 ///
 /// let shape = Shape::for_keys(1_024, 2); // for up to 1,024 keys, and two handles
 /// assert_eq!((shape.slots, shape.buckets, shape.handles), (1_024 + 2 * 64, 1_024, 2));
-/// let small = Shape { last_epoch: 100, ..shape }.with_steps(Steps::new(5_000));
-/// assert_eq!(small.steps, Some(Steps::new(5_000)));
+/// let small = shape.with_last_epoch(100).with_steps(Steps::new(5_000));
+/// assert_eq!((small.last_epoch, small.steps), (100, Some(Steps::new(5_000))));
 /// ```
+///
+/// More fields may come, so a shape is made by [`Shape::new`] or [`Shape::for_keys`], and changed by what begins with `with`; its fields
+/// can be read and set.
 #[derive(Clone, Copy, Debug, PartialEq, Eq, Hash)]
+#[non_exhaustive]
 #[must_use = "a shape is nothing before a set or a map is opened or renewed with it"]
 pub struct Shape {
     /// From 1 to [`MAX_SLOTS`].
@@ -89,6 +93,39 @@ impl Shape {
         Shape::new(slots, buckets, MAX_EPOCH).with_handles(handles)
     }
 
+    /// The same shape with so many slots.
+    ///
+    /// ```
+    /// # use vbr::Shape;
+    /// let shape = Shape::for_keys(1_000, 2).with_slots(1_000); // without those that handles may keep
+    /// assert_eq!((shape.slots, shape.buckets), (1_000, 1_024));
+    /// ```
+    pub const fn with_slots(self, slots: u32) -> Shape {
+        Shape { slots, ..self }
+    }
+
+    /// The same shape with so many buckets.
+    ///
+    /// ```
+    /// # use vbr::Shape;
+    /// let shape = Shape::for_keys(1_000, 2).with_buckets(2_048); // half as long, for 8 KiB
+    /// assert_eq!((shape.slots, shape.buckets), (1_128, 2_048));
+    /// ```
+    pub const fn with_buckets(self, buckets: u32) -> Shape {
+        Shape { buckets, ..self }
+    }
+
+    /// The same shape with this last epoch.
+    ///
+    /// ```
+    /// # use vbr::{max_epoch, Shape};
+    /// let shape = Shape::for_keys(1_000, 2);
+    /// assert_eq!(shape.with_last_epoch(max_epoch(shape.slots)).check(), Ok(()));
+    /// ```
+    pub const fn with_last_epoch(self, last_epoch: u64) -> Shape {
+        Shape { last_epoch, ..self }
+    }
+
     /// The same shape for so many handles.
     ///
     /// ```
@@ -132,13 +169,24 @@ impl Shape {
     ///
     /// let shape = Shape::for_keys(1_000, 1).with_seed(7);
     /// let mut handles = Set::handles_with(shape, &[2, 5, 9])?;
-    /// Handle::renew_all(&mut handles, Shape { seed: None, ..shape })?;
+    /// Handle::renew_all(&mut handles, shape.without_seed())?;
     /// assert_eq!(handles[0].seed(), 7); // it was kept
     /// Handle::renew_all(&mut handles, shape.with_seed(random_seed()))?;
     /// # Ok::<(), Box<dyn std::error::Error>>(())
     /// ```
     pub const fn with_seed(self, seed: u64) -> Shape {
         Shape { seed: Some(seed), ..self }
+    }
+
+    /// The same shape without a seed: an opening draws one, and a renewal keeps that of its set.
+    ///
+    /// ```
+    /// # use vbr::Shape;
+    /// let shape = Shape::for_keys(1_000, 1);
+    /// assert_eq!(shape.with_seed(7).without_seed(), shape);
+    /// ```
+    pub const fn without_seed(self) -> Shape {
+        Shape { seed: None, ..self }
     }
 
     /// The first of its numbers that is out of range, as an opening tests them.

@@ -81,3 +81,17 @@ impl Default for Steps {
         Steps::AMPLE
     }
 }
+
+/// As [`Steps::new`].
+impl From<u32> for Steps {
+    fn from(count: u32) -> Steps {
+        Steps::new(count)
+    }
+}
+
+/// As [`Steps::count`].
+impl From<Steps> for u32 {
+    fn from(steps: Steps) -> u32 {
+        steps.count()
+    }
+}

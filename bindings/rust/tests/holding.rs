@@ -239,8 +239,8 @@ fn renewals_of_records() {
     }
     let larger = Shape::for_keys(65, 2);
     assert_eq!(records.renew(&map, larger), Err(RenewError::Shape(ShapeError::Slots(larger.slots))));
-    assert_eq!(records.renew(&map, Shape { slots: 63, ..small }), Err(RenewError::Slots));
-    for shape in [small, Shape { slots: 64, buckets: 7, ..small }, small.with_seed(7)] {
+    assert_eq!(records.renew(&map, small.with_slots(63)), Err(RenewError::Slots));
+    for shape in [small, small.with_slots(64).with_buckets(7), small.with_seed(7)] {
         records.renew(&map, shape).expect("memory");
         for key in 0..64 {
             assert_eq!(records.read(&map.lend_wait(), key), Ok(Some([key; 5])));

@@ -219,7 +219,7 @@ fn what_threads_leave_alone_and_what_they_change<K: Both>() {
     let lasting: Vec<_> = (0..LASTING).map(|round| key_of_round(WRITERS, round)).collect();
     let keys = (LASTING + WRITERS * (BEHIND + 1)) as u32;
     for buckets in [1, 16, 256] {
-        let shape = Shape { buckets, last_epoch: MAX_EPOCH, ..Shape::for_keys(keys, (WRITERS + WALKERS) as usize) };
+        let shape = Shape::for_keys(keys, (WRITERS + WALKERS) as usize).with_buckets(buckets);
         let mut handles = open::<K>(shape, (WRITERS + WALKERS) as usize, &lasting);
         let writers: Vec<_> = (0..WRITERS).map(|_| Writer::default()).collect();
         let walks: Vec<_> = (0..WALKERS).map(|_| AtomicU64::new(0)).collect();

@@ -30,7 +30,7 @@ fn given_and_kept<K: Both>() {
         let mut handles = open::<K>(shape, 2, &keys);
         assert_eq!([handles[0].seed(), handles[1].seed()], [told; 2]);
         assert_eq!(walk(&handles[0]), walk(&open::<K>(shape, 1, &keys)[0]));
-        HandleOf::renew_all(&mut handles, Shape { seed: None, ..shape }).expect("a fresh one");
+        HandleOf::renew_all(&mut handles, shape.without_seed()).expect("a fresh one");
         assert_eq!(handles[1].seed(), told);
         let before = walk(&handles[1]);
         HandleOf::renew_all(&mut handles, shape.with_seed(12_345)).expect("a fresh one");
@@ -51,7 +51,7 @@ fn chosen_keys<K: Both>() {
     let mut keys: Vec<u64> = (0..2_000_u64).map(|number| (number * number * 1_000_003).wrapping_mul(INVERSE)).collect();
     keys.sort_unstable();
     let last = keys[keys.len() - 1];
-    let shape = Shape { buckets: BUCKETS, ..Shape::for_keys(2_000, 1) };
+    let shape = Shape::for_keys(2_000, 1).with_buckets(BUCKETS);
     assert_eq!(open::<K>(shape.with_seed(0), 1, &keys)[0].has_within(last, Steps::new(5 * 1_999)), Err(OutOfSteps));
     let spread = &open::<K>(shape, 1, &keys)[0];
     assert!(keys.iter().all(|&key| spread.has_within(key, Steps::new(5 * 64 + 11)) == Ok(true)));

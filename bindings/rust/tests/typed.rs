@@ -191,14 +191,22 @@ fn reports_of_any_layout() {
         let report = map.close().expect("a report");
         assert_eq!(report.entries, entries);
         assert_eq!(report.entries.capacity(), entries.len());
-        assert!(report.iter().eq(entries) && (&report).into_iter().eq(entries) && report.into_iter().eq(entries.to_vec()));
+        assert!(
+            report.iter().eq(entries) && (&report).into_iter().eq(entries) && report.clone().into_iter().eq(entries.to_vec())
+        );
+        assert_eq!(Vec::from(report), entries);
     }
     told(&[(1_u8, 'a'), (2, 'b'), (3, 'c')]);
     told(&[(1_u64, false), (2, true)]);
     told(&[((1, 1), [1_u8; 8]), ((1, 2), [2; 8])]);
     told::<u64, u64>(&[]);
     let keys = Set::open_with(Shape::for_keys(8, 1), &[false, true]).expect("a set").close().expect("a report");
-    assert!(keys.iter().eq(&[false, true]) && (&keys).into_iter().eq(&[false, true]) && keys.into_iter().eq([false, true]));
+    assert!(
+        keys.iter().eq(&[false, true])
+            && (&keys).into_iter().eq(&[false, true])
+            && keys.clone().into_iter().eq([false, true])
+    );
+    assert_eq!(Vec::from(keys), [false, true]);
 }
 
 /// One whose bits are given back by a panic: it is not the crate's fault, and nothing is freed twice or kept.
