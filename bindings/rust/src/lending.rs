@@ -3,7 +3,7 @@ use crate::all::All;
 use crate::boxed::boxed;
 use crate::records::Words;
 use crate::reporting::Unreported;
-use crate::waiting::Waiters;
+use crate::waiting::{Ticket, Waiters};
 use crate::{HandleOf, Keys, Kind, PassOf, RenewError, ReportError, Shape, Steps, Table};
 use std::cell::{Cell, UnsafeCell};
 use std::fmt;
@@ -11,6 +11,7 @@ use std::ops::{Deref, DerefMut};
 use std::ptr::NonNull;
 use std::sync::atomic::{AtomicBool, AtomicU32, AtomicU64, AtomicUsize, Ordering};
 use std::sync::Arc;
+use std::task::Waker;
 use std::time::Instant;
 
 /// The handles of one set or map, which it lends.
@@ -128,6 +129,18 @@ impl<T: Kind> Lender<T> {
     #[inline]
     pub(crate) fn take_until(&self, deadline: impl FnOnce() -> Option<Instant>) -> Option<usize> {
         self.take().or_else(|| self.waiters.wait(deadline(), || self.take()))
+    }
+
+    /// Lends a handle to a task and returns its number, or has the task woken once one may be free.
+    pub(crate) fn poll_take(&self, ticket: &mut Option<Ticket>, waker: &Waker) -> Option<usize> {
+        let number = self.take().or_else(|| self.waiters.try_or_wait(ticket, waker, || self.take()))?;
+        self.waiters.leave(ticket, true);
+        Some(number)
+    }
+
+    /// Lets a task wait no longer, which was lent nothing.
+    pub(crate) fn leave(&self, ticket: &mut Option<Ticket>) {
+        self.waiters.leave(ticket, false);
     }
 
     /// Closes all handles, and reports what was in the set. If memory is refused they stay as they were, and are all to be lent:

@@ -180,8 +180,8 @@
 //!
 //! Threads that come and go, or are more than the handles, borrow those of a [`Set`] that lends them: [`Set::lend`](Table::lend)
 //! gives a free handle or none, [`lend_wait`](Table::lend_wait) and [`lend_timeout`](Table::lend_timeout) wait for one, and
-//! [`lend_owned`](Table::lend_owned) and its kin give a loan with a share of the set, for tasks. A loan makes all calls of its
-//! handle, by the [`Pass`], and goes back when it is dropped.
+//! [`lend_owned`](Table::lend_owned) and its kin give a loan with a share of the set, for tasks. Tasks of any runtime await one by
+//! [`lend_async`](Table::lend_async). A loan makes all calls of its handle, by the [`Pass`], and goes back when it is dropped.
 //!
 //! ```
 //! use std::sync::Arc;
@@ -298,6 +298,7 @@ mod set;
 mod shape;
 mod steps;
 mod table;
+mod tasks;
 mod waiting;
 
 pub use bits::{Bits, ByBits};
@@ -319,6 +320,7 @@ pub use set::{Handle, Pass, Report, Set};
 pub use shape::{random_seed, Shape, ShapeError};
 pub use steps::Steps;
 pub use table::Table;
+pub use tasks::LendAsync;
 
 /// The greatest number of slots.
 ///

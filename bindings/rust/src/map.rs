@@ -15,7 +15,7 @@ use core::slice;
 /// | look up, by a loan for it alone | [`get`](Map::get), [`contains_key`](Map::contains_key), [`has`](Map::has) |
 /// | change, by a loan for it alone | [`try_insert`](Map::try_insert), [`put`](Map::put), [`replace`](Map::replace), [`get_or_insert`](Map::get_or_insert), [`compare_exchange`](Map::compare_exchange), [`fetch_update`](Map::fetch_update), [`compute`](Map::compute), [`remove`](Map::remove), [`remove_if`](Map::remove_if), [`remove_when`](Map::remove_when) |
 /// | call, and grow if need be | [`call`](Map::call) |
-/// | borrow a handle | [`lend`](Map::lend), [`lend_wait`](Map::lend_wait), [`lend_timeout`](Map::lend_timeout), [`lend_owned`](Map::lend_owned), [`lend_owned_wait`](Map::lend_owned_wait), [`lend_owned_timeout`](Map::lend_owned_timeout) |
+/// | borrow a handle | [`lend`](Map::lend), [`lend_wait`](Map::lend_wait), [`lend_timeout`](Map::lend_timeout), [`lend_owned`](Map::lend_owned), [`lend_owned_wait`](Map::lend_owned_wait), [`lend_owned_timeout`](Map::lend_owned_timeout), [`lend_async`](Map::lend_async), [`lend_owned_async`](Map::lend_owned_async) |
 /// | own handles | [`handles`](Map::handles), [`handles_with`](Map::handles_with), [`into_handles`](Map::into_handles), [`from_handles`](Map::from_handles), [`pass_mut`](Map::pass_mut) |
 /// | see to all | [`renew`](Map::renew), [`renew_timeout`](Map::renew_timeout), [`report`](Map::report), [`report_timeout`](Map::report_timeout), [`key_count`](Map::key_count), [`key_count_timeout`](Map::key_count_timeout) |
 /// | read its shape | [`slots`](Map::slots), [`buckets`](Map::buckets), [`last_epoch`](Map::last_epoch), [`handle_count`](Map::handle_count) |

@@ -13,7 +13,7 @@ use core::slice;
 /// | open and end | [`open`](Set::open), [`open_with`](Set::open_with), [`close`](Set::close), [`end`](Set::end) |
 /// | call, by a loan for it alone | [`insert`](Set::insert), [`remove`](Set::remove), [`contains`](Set::contains), [`has`](Set::has) |
 /// | call, and grow if need be | [`call`](Set::call) |
-/// | borrow a handle | [`lend`](Set::lend), [`lend_wait`](Set::lend_wait), [`lend_timeout`](Set::lend_timeout), [`lend_owned`](Set::lend_owned), [`lend_owned_wait`](Set::lend_owned_wait), [`lend_owned_timeout`](Set::lend_owned_timeout) |
+/// | borrow a handle | [`lend`](Set::lend), [`lend_wait`](Set::lend_wait), [`lend_timeout`](Set::lend_timeout), [`lend_owned`](Set::lend_owned), [`lend_owned_wait`](Set::lend_owned_wait), [`lend_owned_timeout`](Set::lend_owned_timeout), [`lend_async`](Set::lend_async), [`lend_owned_async`](Set::lend_owned_async) |
 /// | own handles | [`handles`](Set::handles), [`handles_with`](Set::handles_with), [`into_handles`](Set::into_handles), [`from_handles`](Set::from_handles), [`pass_mut`](Set::pass_mut) |
 /// | see to all | [`renew`](Set::renew), [`renew_timeout`](Set::renew_timeout), [`report`](Set::report), [`report_timeout`](Set::report_timeout), [`key_count`](Set::key_count), [`key_count_timeout`](Set::key_count_timeout) |
 /// | read its shape | [`slots`](Set::slots), [`buckets`](Set::buckets), [`last_epoch`](Set::last_epoch), [`handle_count`](Set::handle_count) |

@@ -1,11 +1,14 @@
-//! Threads that wait for a loan to be given back.
+//! Threads and tasks that wait for a loan to be given back.
 use crate::boxed::boxed;
+use std::collections::VecDeque;
 use std::ffi::{c_int, c_long};
+use std::mem;
 use std::sync::atomic::{compiler_fence, AtomicUsize, Ordering};
 use std::sync::{Condvar, Mutex, MutexGuard, OnceLock, PoisonError};
+use std::task::Waker;
 use std::time::{Duration, Instant};
 
-/// The threads that wait. A thread that gives something back makes no atomic exchange for them: it stores what it gives back,
+/// Those that wait, threads and tasks. A thread that gives something back makes no atomic exchange for them: it stores what it gives back,
 /// and then loads how many wait. So that one of the two sees the other, who begins to wait has all threads pass a memory
 /// barrier.
 pub(crate) struct Waiters {
@@ -16,9 +19,34 @@ pub(crate) struct Waiters {
 
 #[derive(Default)]
 struct Sleepers {
-    /// How many of those that wait do so for more than one thing.
-    lock: Mutex<usize>,
+    lock: Mutex<Kinds>,
     given_back: Condvar,
+}
+
+/// Those that wait, beside the threads that wait for one thing.
+#[derive(Default)]
+struct Kinds {
+    /// How many threads wait for more than one thing.
+    for_all: usize,
+    /// Tasks that wait for one thing, by their numbers, the first to be woken first.
+    tasks: VecDeque<(u64, Waker)>,
+    /// The number of the last task that began to wait.
+    last: u64,
+}
+
+impl Kinds {
+    /// Takes out the waker of the task with this number, if it wasn't woken.
+    fn task(&mut self, number: u64) -> Option<Waker> {
+        let place = self.tasks.iter().position(|task| task.0 == number)?;
+        self.tasks.remove(place).map(|(_, waker)| waker)
+    }
+}
+
+/// That a task waits.
+pub(crate) struct Ticket {
+    number: u64,
+    /// Whether each thread that gives something back sees that it waits.
+    is_seen: bool,
 }
 
 /// How long a thread sleeps at most before it looks again, if the system has no such barrier.
@@ -44,18 +72,68 @@ impl Waiters {
 
     #[cold]
     fn wake_one_that_waits(&self) {
-        let guard = self.guard();
-        if *guard > 0 {
+        let mut guard = self.guard();
+        if guard.for_all > 0 {
             self.sleepers.given_back.notify_all();
         } else {
             self.sleepers.given_back.notify_one();
         }
+        let task = guard.tasks.pop_front();
+        drop(guard); // a waker is the program's own, so it is woken without the lock
+        if let Some((_, waker)) = task {
+            waker.wake();
+        }
     }
 
-    /// Wakes all threads that wait.
+    /// Wakes all that wait.
     pub(crate) fn wake_all(&self) {
-        let _guard = self.guard();
+        let mut guard = self.guard();
         self.sleepers.given_back.notify_all();
+        let tasks = mem::take(&mut guard.tasks);
+        drop(guard);
+        for (_, waker) in tasks {
+            waker.wake();
+        }
+    }
+
+    /// What `take` gives to a task, or `None`, and then the task is woken once something is given back. The ticket is of this task:
+    /// hand it in at each try, and to [`Waiters::leave`] at the end.
+    #[cold]
+    pub(crate) fn try_or_wait<T>(
+        &self,
+        ticket: &mut Option<Ticket>,
+        waker: &Waker,
+        take: impl FnOnce() -> Option<T>,
+    ) -> Option<T> {
+        let own = waker.clone();
+        let mut guard = self.guard();
+        let &mut Ticket { number, is_seen } = ticket.get_or_insert_with(|| {
+            self.count.fetch_add(1, Ordering::SeqCst);
+            guard.last += 1;
+            Ticket { number: guard.last, is_seen: fence_all_threads() }
+        });
+        let (taken, before) = (take(), guard.task(number));
+        if taken.is_none() && is_seen {
+            guard.tasks.push_back((number, own));
+        }
+        drop(guard);
+        drop(before); // it is the program's own, so it is dropped without the lock
+        if taken.is_none() && !is_seen {
+            waker.wake_by_ref(); // the task looks again, as a thread does after a nap
+        }
+        taken
+    }
+
+    /// Lets a task wait no longer. If it was woken, and took nothing, another one is woken in its place.
+    pub(crate) fn leave(&self, ticket: &mut Option<Ticket>, has_taken: bool) {
+        let Some(Ticket { number, .. }) = ticket.take() else { return };
+        let mut guard = self.guard();
+        self.count.fetch_sub(1, Ordering::Relaxed);
+        let own = guard.task(number);
+        drop(guard);
+        if own.is_none() && !has_taken {
+            self.wake_one_that_waits();
+        }
     }
 
     /// What `take` gives, as soon as it gives something; `None` if it gives nothing until the deadline. No two threads are in such a
@@ -69,18 +147,18 @@ impl Waiters {
     #[cold]
     pub(crate) fn wait_for_all<T>(&self, deadline: Option<Instant>, take: impl FnMut() -> Option<T>) -> Option<T> {
         let mut guard = self.guard();
-        *guard += 1;
+        guard.for_all += 1;
         let (taken, mut guard) = self.wait_by(guard, deadline, take);
-        *guard -= 1;
+        guard.for_all -= 1;
         taken
     }
 
     fn wait_by<'w, T>(
         &'w self,
-        mut guard: MutexGuard<'w, usize>,
+        mut guard: MutexGuard<'w, Kinds>,
         deadline: Option<Instant>,
         mut take: impl FnMut() -> Option<T>,
-    ) -> (Option<T>, MutexGuard<'w, usize>) {
+    ) -> (Option<T>, MutexGuard<'w, Kinds>) {
         self.count.fetch_add(1, Ordering::SeqCst);
         let nap = if fence_all_threads() { Duration::MAX } else { NAP };
         let taken = loop {
@@ -96,7 +174,7 @@ impl Waiters {
         (taken, guard)
     }
 
-    fn guard(&self) -> MutexGuard<'_, usize> {
+    fn guard(&self) -> MutexGuard<'_, Kinds> {
         self.sleepers.lock.lock().unwrap_or_else(PoisonError::into_inner)
     }
 }
