@@ -357,14 +357,26 @@ impl<K: Bits, V: Bits> PassOf<Entries<K, V>> {
     pub fn compute_within(
         &mut self,
         key: K,
-        mut change: impl FnMut(Option<V>) -> Change<V>,
+        change: impl FnMut(Option<V>) -> Change<V>,
         steps: Steps,
     ) -> Result<Option<V>, Refusal> {
+        Ok(self.change_within(key, change, steps)?.0)
+    }
+
+    /// The same, with the change that was made.
+    #[inline]
+    pub(crate) fn change_within(
+        &mut self,
+        key: K,
+        mut change: impl FnMut(Option<V>) -> Change<V>,
+        steps: Steps,
+    ) -> Result<(Option<V>, Change<V>), Refusal> {
         let mut seen = self.bits_within(key, steps)?;
         loop {
             let before = seen.map(V::from_bits);
-            let told = match (change(before), seen) {
-                (Change::Keep, _) | (Change::Remove, None) => return Ok(before),
+            let made = change(before);
+            let told = match (made, seen) {
+                (Change::Keep, _) | (Change::Remove, None) => Compared::Equal,
                 (Change::Remove, Some(bits)) => self.remove_bits_within(key, bits, steps)?,
                 (Change::Put(value), Some(bits)) => self.exchange_bits_within(key, bits, value, steps)?,
                 // where other bits are there, the next exchange tells which
@@ -373,7 +385,7 @@ impl<K: Bits, V: Bits> PassOf<Entries<K, V>> {
                     .map_or(Compared::Equal, |there| Compared::Other(there.to_bits())),
             };
             seen = match told {
-                Compared::Equal => return Ok(before),
+                Compared::Equal => return Ok((before, made)),
                 Compared::Other(now) => Some(now),
                 Compared::Absent => None,
             };
@@ -485,17 +497,11 @@ impl<K: Bits, V: Bits> PassOf<Entries<K, V>> {
         mut update: impl FnMut(V) -> Option<V>,
         steps: Steps,
     ) -> Result<Option<V>, Refusal> {
-        let mut has_changed = false;
-        let before = self.compute_within(
-            key,
-            |seen| {
-                let value = seen.and_then(&mut update);
-                has_changed = value.is_some();
-                value.map_or(Change::Keep, Change::Put)
-            },
-            steps,
-        )?;
-        Ok(before.filter(|_| has_changed))
+        let change = |seen: Option<V>| seen.and_then(&mut update).map_or(Change::Keep, Change::Put);
+        Ok(match self.change_within(key, change, steps)? {
+            (before, Change::Put(_)) => before,
+            _ => None,
+        })
     }
 
     /// Goes over all entries while other threads make calls, as [`PassOf::iter`] does, takes out those for which `keep` says no,

@@ -190,6 +190,7 @@ impl<K: Bits, V: Bits, F: FnMut(&mut V)> ModifiedEntry<'_, K, V, F> {
     ///
     /// The same as for [`compare_exchange`](crate::MapPass::compare_exchange) and
     /// [`get_or_insert`](crate::MapPass::get_or_insert). Nothing was changed then.
+    #[inline]
     pub fn or_insert(self, value: V) -> Result<V, Refusal> {
         self.or_insert_with(|| value)
     }
@@ -227,21 +228,23 @@ impl<K: Bits, V: Bits, F: FnMut(&mut V)> ModifiedEntry<'_, K, V, F> {
     /// # Errors
     ///
     /// The same as for [`ModifiedEntry::or_insert`]. Nothing was changed then.
+    #[inline]
     pub fn or_insert_with(self, make: impl FnOnce() -> V) -> Result<V, Refusal> {
         let ModifiedEntry { entry: Entry { pass, key }, mut modify } = self;
-        let (absent, mut told) = (LazyCell::new(make), None);
-        pass.compute(key, |seen| {
-            let value = seen.map_or_else(
-                || *absent,
-                |mut value| {
+        let absent = LazyCell::new(make);
+        let change = |seen: Option<V>| {
+            Change::Put(match seen {
+                None => *absent,
+                Some(mut value) => {
                     modify(&mut value);
                     value
-                },
-            );
-            told = Some(value);
-            Change::Put(value)
-        })?;
-        Ok(told.unwrap_or_else(|| *absent)) // it was asked
+                }
+            })
+        };
+        match pass.change_within(key, change, pass.steps())?.1 {
+            Change::Put(value) => Ok(value),
+            Change::Keep | Change::Remove => Ok(*absent), // it isn't asked for
+        }
     }
 
     /// The same with a value that is made of the key if that is absent, once at most.
