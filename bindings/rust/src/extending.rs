@@ -123,8 +123,8 @@ impl<K: Bits> PassOf<Keys<K>> {
     /// own, with the budget of the handle.
     ///
     /// In a set of 131,072 slots or more the keys are looked up first, 64 at a time, as [`PassOf::has_all`] does, so that they wait
-    /// for memory together, and those that are there aren't inserted. With random keys and a million in the set that took 0.43
-    /// of the time of as many inserts.
+    /// for memory together, and those that are there aren't inserted. With random keys and a million in the set that took about
+    /// 0.4 of the time of as many inserts.
     ///
     /// ```
     /// # use vbr::{Set, Shape};
