@@ -5,4 +5,3 @@ pub mod Linking
 pub mod HeldCosts
 pub mod HeldInserts
 pub mod HeldSlots
-pub mod Inserts

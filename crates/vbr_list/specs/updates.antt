@@ -10,3 +10,4 @@ pub mod Settling
 pub mod Replacing
 pub mod Holding
 pub mod HeldStores
+pub mod Updating

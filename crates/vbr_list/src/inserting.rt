@@ -1,17 +1,15 @@
 //! Inserts.
 ghost use Rattle.std.specs.Prelude.{◌≡◌, None};
 ghost use Rattle.vbr_machine.specs.declared.history.Op.TheVariants.{Insert};
-ghost use Rattle.vbr_slots.specs.steps.Calls.{Took};
 ghost use Rattle.vbr_slots.specs.views.Views.{IsOf};
-ghost use Rattle.vbr_list.specs.calls.CallBounds.{Calls, CallsAs, CallsInsert, BoundsOfInsert};
-ghost use Rattle.vbr_list.specs.calls.Told.{stored_in};
+ghost use Rattle.vbr_list.specs.calls.CallBounds.{Calls, CallsInsert};
 
-use crate::call::begin;
-use crate::preparing::Prepared;
+use crate::outcome::changed_in;
+use crate::storing::store_by;
 use crate::wanted::Wanted;
-use vbr_at_table::{Refusal, give_back};
-use vbr_slots::{Pass, Slots, Stepper};
-use vbr_words::{Entries, Nodes};
+use vbr_at_table::Refusal;
+use vbr_slots::{Pass, Slots};
+use vbr_words::Entries;
 
 /// Adds a key to the set, in at most `budget` steps, and returns whether it was absent. It takes a slot
 /// only once it has found the key absent, and traverses anew with it. The call takes effect at one
@@ -31,12 +29,13 @@ pub fn insert(slots: &Slots, pass: &mut Pass, key: u64, budget: u32) -> Result<b
     ensures { Calls Insert pass.old pass.new key budget result }
 {
     slots.kind();
-    pass.during(
+    let answer = pass.during(
         |stepper|
             requires own { IsOf stepper.old.trace slots.now }
             requires empty_hand { stepper.old.hand ≡ None }
-        { insert_by(slots, stepper, key, 0, budget) },
-    )
+        { store_by(slots, stepper, key, 0, Wanted::Absent, false, budget) },
+    );
+    changed_in(answer)
 }
 
 /// Like [`insert`], at a table whose nodes have values: puts an entry, a key with its value, into the
@@ -56,42 +55,11 @@ pub fn insert_entry(
 {
     pass.law();
     slots.kind();
-    pass.during(
+    let answer = pass.during(
         |stepper|
             requires own { IsOf stepper.old.trace slots.now }
             requires empty_hand { stepper.old.hand ≡ None }
-        { insert_by(slots, stepper, key, value, budget) },
-    )
-}
-
-// The insert of a key, with its value if nodes have values, and the number of steps made. With a slot
-// in hand it searches anew, and links the slot, or gives it back if the key has come meanwhile.
-fn insert_by<N: Nodes>(
-    slots: &Slots<N>,
-    stepper: &mut Stepper,
-    key: u64,
-    value: u64,
-    budget: u32,
-) -> (Result<bool, Refusal>, u32)
-    requires own { IsOf stepper.old.trace slots.now }
-    requires empty_hand { stepper.old.hand ≡ None }
-    ensures took { Took stepper.old.trace stepper.new.trace result.1 }
-    ensures calls { CallsAs (stored_in stepper.old.trace key value)
-        (BoundsOfInsert stepper.old stepper.new key budget)
-        stepper.old stepper.new budget result.0 }
-{
-    let mut call = begin!(slots, stepper, key, budget, 0);
-    call.at.law();
-    let hand = match call.prepare(Wanted::Absent, false) {
-        Ok(Prepared::Ready(hand)) => hand,
-        Ok(Prepared::Answered(_)) => return (Ok(false), call.used),
-        Err(refusal) => return (Err(refusal), call.used),
-    };
-    match call.store_held(value, Wanted::Absent, false, hand) {
-        Ok(_) => (Ok(true), call.used),
-        Err((back, why)) => {
-            give_back(&mut call.at, back);
-            (why.denied(), call.used)
-        }
-    }
+        { store_by(slots, stepper, key, value, Wanted::Absent, false, budget) },
+    );
+    changed_in(answer)
 }

@@ -1,6 +1,6 @@
 //! What a call did that changes a key only if what is there is as it is wanted.
 ghost use Rattle.std.specs.Prelude.{◌≡◌};
-ghost use Rattle.vbr_list.specs.updates.Outcomes.{is_changed, there_in, there_of};
+ghost use Rattle.vbr_list.specs.updates.Outcomes.{changed_in, is_changed, there_in, there_of};
 
 use vbr_at_table::Refusal;
 
@@ -41,6 +41,17 @@ pub(crate) fn there_in(answer: Result<Outcome, Refusal>) -> Result<Option<u64>, 
 {
     match answer {
         Ok(outcome) => Ok(outcome.there()),
+        Err(refusal) => Err(refusal),
+    }
+}
+
+/// Whether an answered call changed what was there.
+#[inline(always)]
+pub(crate) fn changed_in(answer: Result<Outcome, Refusal>) -> Result<bool, Refusal>
+    ensures { result ≡ changed_in answer }
+{
+    match answer {
+        Ok(outcome) => Ok(outcome.is_changed()),
         Err(refusal) => Err(refusal),
     }
 }

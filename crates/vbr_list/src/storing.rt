@@ -4,7 +4,7 @@ ghost use Rattle.std.specs.Prelude.{◌≡◌, ◌+◌, ◌≤◌, false, true, 
 ghost use Rattle.vbr_slots.specs.steps.Calls.{Took};
 ghost use Rattle.vbr_slots.specs.views.Views.{IsOf};
 ghost use Rattle.vbr_at_table.specs.hands.KeptSlots.{TakesNoSlot};
-ghost use Rattle.vbr_list.specs.updates.HeldStores.{KeepsUnstored, StoresWanted, answer_unlinked, answer_unstored};
+ghost use Rattle.vbr_list.specs.updates.HeldStores.{KeepsUnstored, StoresWanted, answer_unstored};
 ghost use Rattle.vbr_list.specs.updates.Inserting.{CountsWithin, HasHandAndRoom};
 ghost use Rattle.vbr_list.specs.calls.Pieces.{IsSameCall, pass_in, trace_in};
 ghost use Rattle.vbr_list.specs.updates.Preparing.{GivesOrInserts};
@@ -12,6 +12,7 @@ ghost use Rattle.vbr_list.specs.updates.Replacing.{HasUnused};
 ghost use Rattle.vbr_list.specs.updates.Outcomes.{ChangedAsWanted, ChangedIfExpected, there_in};
 ghost use Rattle.vbr_list.specs.updates.Settling.{LeavesInHand, LinksNode, MaySettle};
 ghost use Rattle.vbr_list.specs.updates.Storing.{CallsStore};
+ghost use Rattle.vbr_list.specs.updates.Updating.{CallsUpdate, MayUpdate};
 ghost use Rattle.vbr_list.specs.updates.Wanted.{wants};
 ghost use Rattle.vbr_list.specs.traversals.Traversing.{LocatesFor};
 ghost use Rattle.vbr_list.specs.declared.wanted.Wanted.TheVariants.{Absent, Anything, Present, Value};
@@ -46,17 +47,6 @@ impl Unstored {
     {
         match self {
             Unstored::Otherwise(there) => Ok(Outcome::Unchanged(there)),
-            Unstored::OutOfSteps { used } => Err(Refusal::OutOfSteps { used }),
-        }
-    }
-
-    // The answer of an insert.
-    #[inline(always)]
-    pub(crate) fn denied(self) -> Result<bool, Refusal>
-        ensures { result ≡ answer_unlinked self }
-    {
-        match self {
-            Unstored::Otherwise(_) => Ok(false),
             Unstored::OutOfSteps { used } => Err(Refusal::OutOfSteps { used }),
         }
     }
@@ -198,7 +188,7 @@ pub fn replace(
         |stepper|
             requires own { IsOf stepper.old.trace slots.now }
             requires empty_hand { stepper.old.hand ≡ None }
-        { store_by(slots, stepper, key, value, Wanted::Present, budget) },
+        { store_by(slots, stepper, key, value, Wanted::Present, true, budget) },
     );
     there_in(answer)
 }
@@ -220,7 +210,7 @@ pub fn put(
         |stepper|
             requires own { IsOf stepper.old.trace slots.now }
             requires empty_hand { stepper.old.hand ≡ None }
-        { store_by(slots, stepper, key, value, Wanted::Anything, budget) },
+        { store_by(slots, stepper, key, value, Wanted::Anything, true, budget) },
     );
     there_in(answer)
 }
@@ -242,7 +232,7 @@ pub fn get_or_insert(
         |stepper|
             requires own { IsOf stepper.old.trace slots.now }
             requires empty_hand { stepper.old.hand ≡ None }
-        { store_by(slots, stepper, key, value, Wanted::Absent, budget) },
+        { store_by(slots, stepper, key, value, Wanted::Absent, true, budget) },
     );
     there_in(answer)
 }
@@ -267,37 +257,49 @@ pub fn compare_exchange(
         |stepper|
             requires own { IsOf stepper.old.trace slots.now }
             requires empty_hand { stepper.old.hand ≡ None }
-        { store_by(slots, stepper, key, value, Wanted::Value(expected), budget) },
+        {
+            store_by(
+                slots,
+                stepper,
+                key,
+                value,
+                Wanted::Value(expected),
+                true,
+                budget,
+            )
+        },
     )
 }
 
-// Like `store`, but the pass counts no step; also returns the number of steps. With a slot in hand it
-// searches anew, and stores by it, or gives it back if the key's state has changed from the wanted one
-// meanwhile.
+/// Like `store`, but the pass counts no step; also returns the number of steps. If it gives nothing, it
+/// is an insert. With a slot in hand it searches anew, and stores by it, or gives it back if the key's
+/// state has changed from the wanted one meanwhile.
 #[inline(always)]
-fn store_by(
-    slots: &Slots<Entries>,
+pub(crate) fn store_by<N: Nodes>(
+    slots: &Slots<N>,
     stepper: &mut Stepper,
     key: u64,
     value: u64,
     wanted: Wanted,
+    gives: bool,
     budget: u32,
 ) -> (Result<Outcome, Refusal>, u32)
     requires own { IsOf stepper.old.trace slots.now }
     requires empty_hand { stepper.old.hand ≡ None }
+    requires asked { MayUpdate gives N.VALUES wanted }
     ensures took { Took stepper.old.trace stepper.new.trace result.1 }
-    ensures calls { CallsStore stepper.old stepper.new key value wanted budget (there_in result.0) }
+    ensures calls { CallsUpdate gives stepper.old stepper.new key value wanted budget result.0 }
     ensures changed { IfOk result.0 (ChangedAsWanted (wants wanted)) }
 {
     slots.kind();
     let mut call = begin!(slots, stepper, key, budget, 0);
     call.at.law();
-    let hand = match call.prepare(wanted, true) {
+    let hand = match call.prepare(wanted, gives) {
         Ok(Prepared::Ready(hand)) => hand,
         Ok(Prepared::Answered(there)) => return (Ok(Outcome::Unchanged(there)), call.used),
         Err(refusal) => return (Err(refusal), call.used),
     };
-    match call.store_held(value, wanted, true, hand) {
+    match call.store_held(value, wanted, gives, hand) {
         Ok(there) => (Ok(Outcome::Changed(there)), call.used),
         Err((back, why)) => {
             give_back(&mut call.at, back);

@@ -1,26 +1,16 @@
 -- The steps of an insert, and what its refusals say.
 use Rattle.vbr_list.proofs.Names.{◌≡◌, ◌≢◌, ℕ, ◌+◌, ◌-◌, ◌<◌, ◌≤◌, true, false, List, [], ◌∷◌, length, Result, Ok}
 use Rattle.vbr_list.proofs.Names.{Err, inl, inr, refl, sym, ◌∙◌, subst, arith, IfOk, IfErr, is_err}
-use Rattle.vbr_list.proofs.Names.{Begins, counts_on, CountsSteps, EpochSpent, Ghosts, had_grown, had_on, in_need_after}
-use Rattle.vbr_list.proofs.Names.{IsRun, IsSame, none_in_need}
-use Rattle.vbr_list.proofs.Names.{IsSpent, LeavesRoom, Made, made_on, missed_after, needed_after, NoSlot}
+use Rattle.vbr_list.proofs.Names.{counts_on, CountsSteps, EpochSpent, Ghosts, had_grown, had_on, in_need_after}
+use Rattle.vbr_list.proofs.Names.{none_in_need}
+use Rattle.vbr_list.proofs.Names.{IsSpent, LeavesRoom, missed_after, needed_after, NoSlot}
 use Rattle.vbr_list.proofs.Names.{OutOfSteps, PassView, Quiet, Refusal, shared_taken, shares_more}
 use Rattle.vbr_list.proofs.Names.{slots_kept_on, some_grown, Start, TakesNoSlot, took_all, TookWithin, Trace}
 use Rattle.vbr_list.proofs.Names.{TriesNoFlag, TriesOnlyWhere, TriesWhereEmpty}
-use Rattle.vbr_machine.specs.declared.history.Call.{Call as ListedCall}
-use Rattle.vbr_list.specs.updates.Inserting.{CountsWithin, InsertShowsSpent, Prepares, RunsShort, TakesNone}
-use Rattle.vbr_list.specs.updates.Wanted.{WasWantedFor}
-use Rattle.vbr_list.specs.declared.wanted.Wanted.TheVariants.{Absent}
+use Rattle.vbr_list.specs.updates.Inserting.{CountsWithin, InsertShowsSpent, Prepares, TakesNone}
 use Rattle.vbr_list.specs.calls.Pieces.{GoesOn, IsSameCall, pass_in, trace_in}
-use Rattle.vbr_list.specs.calls.Refusals.{IsRefusedInsert}
 use Rattle.vbr_list.specs.declared.call.PendingCall.{PendingCall}
 use Rattle.vbr_list.proofs.pieces.Going.{call_on, counts_step, within_call}
-
--- a refusal for want of steps, and no other
-abbrev pub InsertIsShort : PassView → PassView → ℕ → ℕ → Refusal → Type 0
-InsertIsShort p q before budget (OutOfSteps used) = RunsShort p.trace q.trace before used budget
-InsertIsShort p q before budget NoSlot = ⊥
-InsertIsShort p q before budget (EpochSpent epoch) = ⊥
 
 -- more steps after those that are within the budget
 pub within_on : {p q r : Trace} {a b c budget : ℕ} → CountsWithin p q a b budget → CountsSteps q r b c → b ≤ c →
@@ -122,19 +112,6 @@ takes_gone {c = c} {d = d} gone r quiet refusal none =
     (some_grown (pass_in c) (pass_in d) gone.goes.hand.takes_no_slot.grows) (steps_gone gone) quiet refusal
     (subst P gone.call.budget none)
 
--- a refusal after no steps is one of the whole call
-pub refused_first : (p q : PassView) (key budget : ℕ) (refusal : Refusal) → TakesNone p q 0 budget refusal →
-    WasWantedFor Absent p.trace q.trace key refusal → IsRefusedInsert p q key budget refusal
-refused_first p q key budget (OutOfSteps used) x so =
-    record { took = took_all x.counts.counts; within = x.counts.within.1; short = x.short }
-refused_first p q key budget NoSlot x so = record { absent = so; empty = x.empty; still = x.still; outside = x.outside }
-refused_first p q key budget (EpochSpent epoch) x so =
-    record {
-      absent = so;
-      spent = x.spent;
-      room = record { steps = x.since; room = x.room; took = took_all x.counts.counts };
-    }
-
 -- what shows that the epoch is spent, with what is left of the budget
 pub spent_rest : (p q : PassView) (used budget epoch : ℕ) → used ≤ budget → IsSpent q epoch →
     LeavesRoom p q (budget - used) → InsertShowsSpent p q used budget epoch
@@ -163,29 +140,3 @@ if_failed x e p = grind arith
 pub if_went : {T E : Type 0} {P : T → Type 0} (x : Result T E) → is_err x ≡ false → IfOk x P → (value : T) × P value
 if_went (Ok value) e p = (value, p)
 if_went (Err error) e p = absurd (cc)
-
-pub each_since : {A E : Type 0} (p q r : Trace) (then told : A → ListedCall) (answer : Result A E) → Quiet p q →
-    ((reply : A) → then reply ≡ told reply) → IfOk answer (λ reply. Made (then reply) q r) →
-    IfOk answer (λ reply. Made (told reply) p r)
-each_since p q r then told (Ok reply) quiet same made =
-    subst (λ (call : ListedCall). Made call p r) (same reply) (made_on quiet made)
-each_since p q r then told (Err error) quiet same made = tt
-
-pub each_same : {A E : Type 0} (p q : Trace) (told : A → ListedCall) (answer : Result A E) →
-    IfOk answer (λ reply. Made (told reply) p q) → IfErr answer (λ _. Quiet p q) → IsSame p q
-each_same p q told answer made quiet = grind arith
-
--- the pass has seen more, answer or not
-pub each_seen : {A E : Type 0} (p q : Trace) (told : A → ListedCall) (answer : Result A E) →
-    IfOk answer (λ reply. Made (told reply) p q) → IfErr answer (λ _. Quiet p q) →
-    Begins p.seen q.seen × (IsRun p.start p.passes p.seen → IsRun q.start q.passes q.seen)
-each_seen p q told (Ok reply) made quiet = (made.seen, λ _. made.is_run)
-each_seen p q told (Err error) made quiet = (quiet.seen, quiet.is_run)
-
--- a call that was prepared is refused for want of steps
-pub refused_second : (p q r : PassView) {b budget : ℕ} (key : ℕ) → CountsWithin p.trace q.trace 0 b budget →
-    (refusal : Refusal) → InsertIsShort q r b budget refusal → IsRefusedInsert p r key budget refusal
-refused_second p q r key x (OutOfSteps used) y =
-    record { took = took_all (counts_on x.counts y.counts.counts); within = y.counts.within.1; short = y.short }
-refused_second p q r key x NoSlot y = absurd y
-refused_second p q r key x (EpochSpent epoch) y = absurd y

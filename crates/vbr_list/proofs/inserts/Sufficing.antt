@@ -1,16 +1,14 @@
 -- The steps of an insert: of a slot, and of a pass that was alone.
-use Rattle.vbr_list.proofs.Names.{◌≡◌, ◌≢◌, ℕ, ◌+◌, ◌*◌, ◌<◌, ◌≤◌, List, [], Result, Ok, Err, sym, subst, arith, IfErr}
+use Rattle.vbr_list.proofs.Names.{◌≡◌, ◌≢◌, ℕ, ◌<◌, ◌≤◌, List, [], Result, Ok, Err, sym, subst, arith, IfErr}
 use Rattle.vbr_list.proofs.Names.{IfOk, OnOk}
 use Rattle.vbr_list.proofs.Names.{alone_gained, Begins, gained, gained_on, gained_since, Ghosts, IsAlone, more_lost}
-use Rattle.vbr_list.proofs.Names.{most_to_take, most_to_take_among, none_lost, NoSlot, PassView, Quiet, Refusal}
-use Rattle.vbr_list.proofs.Names.{some_grown, Start, steps_to_take_among, steps_to_value, TookWithin, Trace}
-use Rattle.vbr_list.specs.calls.Budgets.{IsAnsweredOrSpent, LacksSteps, enough_to_insert, enough_to_look_up}
+use Rattle.vbr_list.proofs.Names.{most_to_take, most_to_take_among, none_lost, PassView, Quiet, Refusal}
+use Rattle.vbr_list.proofs.Names.{some_grown, Start, steps_to_take_among, TookWithin, Trace}
+use Rattle.vbr_list.specs.calls.Budgets.{LacksSteps, enough_to_look_up}
 use Rattle.vbr_list.specs.calls.Budgets.{enough_to_search}
-use Rattle.vbr_list.specs.calls.Budgets.{insert_costs, listed_for}
-use Rattle.vbr_list.specs.traversals.Disturbed.{disturbed, enough_among, enough_to_insert_among, enough_to_search_among}
-use Rattle.vbr_list.specs.traversals.Disturbed.{insert_costs_among, steps_for_slot}
-use Rattle.vbr_list.specs.updates.Inserting.{TakesNone}
-use Rattle.vbr_list.proofs.inserts.Preparing.{InsertIsShort}
+use Rattle.vbr_list.specs.calls.Budgets.{listed_for}
+use Rattle.vbr_list.specs.traversals.Disturbed.{disturbed, enough_among, enough_to_search_among}
+use Rattle.vbr_list.specs.traversals.Disturbed.{steps_for_slot}
 use Rattle.vbr_list.specs.calls.Pieces.{GoesOn, pass_in, trace_in}
 use Rattle.vbr_list.specs.declared.call.PendingCall.{PendingCall}
 use Rattle.vbr_list.proofs.traversals.Disturbing.{undisturbed}
@@ -56,15 +54,6 @@ lacks_more m n budget refusal le short = grind arith
 pub lacks : (n budget : ℕ) (refusal : Refusal) → budget < n → LacksSteps n budget refusal
 lacks n budget refusal short = grind arith
 
-pub never_refused : (pool : List ℕ) (p q : PassView) (before budget : ℕ) (refusal : Refusal) →
-    InsertIsShort p q before budget refusal → refusal ≡ NoSlot → pool ≡ []
-never_refused pool p q before budget refusal x e = grind arith
-
--- only an empty own pool has no slot
-pub had_no_slot : (p q : PassView) (before budget : ℕ) (refusal : Refusal) → TakesNone p q before budget refusal →
-    refusal ≡ NoSlot → p.pool ≡ []
-had_no_slot p q before budget refusal x e = grind arith
-
 -- what is so of a pass that was disturbed so often, and takes a slot in so many steps, is so of one that was alone
 pub lone : (P : ℕ → ℕ → Type 0) (p : PassView) (q : Trace) (key : ℕ) →
     P (disturbed p.trace q key) (steps_for_slot p q) → IsAlone p.trace q → P 0 (most_to_take p.trace.start p.pool)
@@ -73,32 +62,18 @@ lone P p q key x alone = subst (P 0) (slot_alone p q alone) (undisturbed (λ t. 
 pub took_more : {p q : Trace} {m n : ℕ} → TookWithin p q m → m ≤ n → TookWithin p q n
 took_more x le = record { steps = x.steps; within = (let few = x.within in omega (arith, few, le)); took = x.took }
 
-pub lone_lacks : (p : PassView) (q : Trace) (key budget : ℕ) (refusal : Refusal) →
-    LacksSteps (enough_to_insert_among (listed_for p.trace key) (disturbed p.trace q key) (steps_for_slot p q)) budget
-    refusal → IsAlone p.trace q → LacksSteps (enough_to_insert p key) budget refusal
-lone_lacks p q key budget refusal short alone =
-    lacks_more _ (enough_to_insert p key) budget refusal (omega arith)
-    (lone (λ t taking. LacksSteps (enough_to_insert_among (listed_for p.trace key) t taking) budget refusal) p q key
-    short alone)
+pub lone_lacks : (most : ℕ → ℕ → ℕ) (p : PassView) (q : Trace) (key budget : ℕ) (refusal : Refusal) {least : ℕ} →
+    LacksSteps (most (disturbed p.trace q key) (steps_for_slot p q)) budget refusal →
+    most 0 (most_to_take p.trace.start p.pool) ≤ least → IsAlone p.trace q → LacksSteps least budget refusal
+lone_lacks most p q key budget refusal {least} short le alone =
+    lacks_more (most 0 (most_to_take p.trace.start p.pool)) least budget refusal le
+    (lone (λ t taking. LacksSteps (most t taking) budget refusal) p q key short alone)
 
-pub lone_costs : (p : PassView) (q : Trace) (key : ℕ) →
-    TookWithin p.trace q
-    (insert_costs_among (listed_for p.trace key) (disturbed p.trace q key) (steps_for_slot p q)
-    (steps_to_value p.trace.start.shape.values)) → IsAlone p.trace q → TookWithin p.trace q (insert_costs p key)
-lone_costs p q key x alone =
-    took_more (lone
-    (λ t taking.
-    TookWithin p.trace q
-    (insert_costs_among (listed_for p.trace key) t taking (steps_to_value p.trace.start.shape.values))) p q key x alone)
-    (omega arith)
-
--- with slots in the own pool an insert that has steps enough is answered, or the epoch is spent
-pub answered_or_spent : {A : Type 0} (p q : PassView) (budget n : ℕ) (answer : Result A Refusal) → p.pool ≢ [] →
-    IsAlone p.trace q.trace → 18 * n + 82 ≤ budget → IfErr answer (λ refusal. refusal ≡ NoSlot → p.pool ≡ []) →
-    IfErr answer
-    (λ refusal. IsAlone p.trace q.trace → LacksSteps (18 * n + most_to_take p.trace.start p.pool + 14) budget refusal) →
-    IsAnsweredOrSpent answer
-answered_or_spent p q budget n answer some alone enough none few = grind arith
+pub lone_costs : (most : ℕ → ℕ → ℕ) (p : PassView) (q : Trace) (key : ℕ) {least : ℕ} →
+    TookWithin p.trace q (most (disturbed p.trace q key) (steps_for_slot p q)) →
+    most 0 (most_to_take p.trace.start p.pool) ≤ least → IsAlone p.trace q → TookWithin p.trace q least
+lone_costs most p q key x le alone =
+    took_more (lone (λ t taking. TookWithin p.trace q (most t taking)) p q key x alone) le
 
 -- what a call took that was disturbed so often, it took alone
 pub took_alone : (most : ℕ → ℕ) {p q : Trace} (key : ℕ) {least : ℕ} → TookWithin p q (most (disturbed p q key)) →

@@ -1,11 +1,10 @@
 -- Pieces one after another: they make no call, their steps add up, and the slot in hand stays.
-use Rattle.vbr_list.proofs.Names.{◌≡◌, ℕ, ◌+◌, ◌≤◌, Result, Ok, Err, refl, sym, ap, ◌∙◌, subst, arith, inl, inr, ◌⊎◌}
+use Rattle.vbr_list.proofs.Names.{◌≡◌, ℕ, ◌+◌, ◌≤◌, Result, Ok, Err, refl, sym, ◌∙◌, subst, arith, inl, inr, ◌⊎◌}
 use Rattle.vbr_list.proofs.Names.{IfOk}
-use Rattle.vbr_list.proofs.Names.{AtTable, counts_none, counts_on, CountsSteps, Dimensions, Ghosts, IsOf, IsSame}
+use Rattle.vbr_list.proofs.Names.{AtTable, counts_none, counts_on, CountsSteps, Ghosts, IsOf, IsSame}
 use Rattle.vbr_list.proofs.Names.{IsSameTable, Keeps, KeepsIn, KeepsOwn, Know, LeavesRoom, PassView, PIECE, Quiet}
-use Rattle.vbr_list.proofs.Names.{quiet_on, quiet_refl, ReadsIn, Start, TableView, TakesNoSlot, Took, took_all}
+use Rattle.vbr_list.proofs.Names.{quiet_on, quiet_refl, ReadsIn, TableView, TakesNoSlot, Took, took_all}
 use Rattle.vbr_list.proofs.Names.{TookWithin, Trace}
-use Rattle.vbr_words.specs.Buckets.{bucket_of}
 use Rattle.vbr_list.specs.calls.Pieces.{Goes, GoesOn, IsSameCall, Settles, Tries, pass_in, trace_in}
 use Rattle.vbr_list.specs.declared.call.PendingCall.{PendingCall}
 use Rattle.vbr_list.proofs.pieces.KeptHands.{hand_refl, hand_on, own_kept}
@@ -59,13 +58,6 @@ pub room_left : {p q : PassView} (used budget : ℕ) → CountsSteps p.trace q.t
     used + PIECE ≤ budget
 room_left used budget counts left =
     let x = (took_all counts).made in let y = left.took.made in let room = left.room in omega (arith, x, y, room)
-
--- the bucket of a key is that of the table's shape
-pub bucket_is : (a b : Start) (shape : Dimensions) (bucket key : ℕ) → a ≡ b → shape ≡ b.shape →
-    bucket ≡ bucket_of shape key → bucket ≡ bucket_of a.shape key
-unfolding bucket_of
-bucket_is a b shape bucket key e g f =
-    f ∙ ap (λ (s : Dimensions). bucket_of s key) g ∙ ap (λ (start : Start). bucket_of start.shape key) (sym e)
 
 -- the pass stays the same one at the same table from piece to piece
 pub table_on : {N : Type 0} {kind : Ghosts N} → {b c d : AtTable N kind} → IsSameTable b c → IsSameTable c d →

@@ -1,6 +1,5 @@
 -- A pass that is its table's only one made all the calls of its run, and those are legal.
-use Rattle.vbr_list.proofs.Names.{◌≡◌, ℕ, ◌<◌, List, [], ◌∷◌, ◌++◌, Result, Ok, Err, refl, sym, ap, ◌∙◌, subst, arith}
-use Rattle.vbr_list.proofs.Names.{IfOk}
+use Rattle.vbr_list.proofs.Names.{◌≡◌, ℕ, ◌<◌, List, [], ◌∷◌, ◌++◌, refl, sym, ap, ◌∙◌, subst, arith}
 use Rattle.vbr_list.proofs.Names.{added_own, after, AreAccepted, Call, calls_added, calls_after, calls_by}
 use Rattle.vbr_list.proofs.Names.{calls_by-append, Event, every_run, GiveStored, IsLegal, IsRun, IsSame, IsStart, Keys}
 use Rattle.vbr_list.proofs.Names.{keys_after, Made, made_by, opening, opening_keys, opening_payloads, Payloads}
@@ -76,10 +75,3 @@ alone start low made one = (made_alone start low made one).0.0
 
 pub gives_alone : {p q : Trace} {call : Call} → IsStart p.start → p.who < p.passes → Made call p q → GivesAlone p call
 gives_alone start low made one = (made_alone start low made one).1.0
-
--- an answer, if there is one
-pub each_alone : {A E : Type 0} (p q : Trace) (told : A → Call) (answer : Result A E) → IsStart p.start →
-    p.who < p.passes → IfOk answer (λ reply. Made (told reply) p q) →
-    IfOk answer (λ reply. AnswersAlone p (told reply).op (told reply).key (told reply).reply)
-each_alone p q told (Ok reply) start low made = alone start low made
-each_alone p q told (Err refusal) start low made = tt

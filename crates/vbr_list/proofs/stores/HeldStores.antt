@@ -13,7 +13,7 @@ use Rattle.vbr_list.specs.declared.found.Found.{Found}
 use Rattle.vbr_list.specs.declared.storing.Unstored.TheVariants.{Otherwise, OutOfSteps}
 use Rattle.vbr_list.specs.declared.wanted.Wanted.{Wanted}
 use Rattle.vbr_list.specs.declared.wanted.Wanted.TheVariants.{Absent}
-use Rattle.vbr_list.proofs.inserts.HeldInserts.{held_denied, held_linked, held_tired}
+use Rattle.vbr_list.proofs.inserts.HeldInserts.{held_answers, held_linked}
 use Rattle.vbr_list.proofs.inserts.Linking.{IsLinking, begun, counts_until, had_until, none_until, quiet_until}
 use Rattle.vbr_list.proofs.inserts.Preparing.{within_on}
 use Rattle.vbr_list.proofs.pieces.Going.{call_on, within_call}
@@ -24,7 +24,7 @@ use Rattle.vbr_list.proofs.look_ups.FoundValues.{insert_told}
 use Rattle.vbr_list.proofs.look_ups.ValueReads.{few_to_update}
 use Rattle.vbr_list.proofs.pieces.Told.{told_as, told_bare}
 use Rattle.vbr_list.proofs.stores.Settled.{Changes, each_lost}
-use Rattle.vbr_list.proofs.stores.SettledSoon.{had_asked, held_stores, held_tires, held_told, takes_settled}
+use Rattle.vbr_list.proofs.stores.SettledSoon.{had_asked, held_stores, held_told, searched_out, takes_settled}
 use Rattle.vbr_machine.proofs.Lemmas.{begins_refl}
 
 -- an insert at a table whose nodes have values stores one
@@ -113,24 +113,29 @@ module _ {N : Type 0} {kind : Ghosts N} (value : ℕ) (wanted : Wanted) (b c d :
   stored_as true so found finds is_first e call values (Some old) is none x =
       record { is = is; stores = held_stores b c d e law so went found finds call value (Some old) is_first x }
   stored_as false so found finds is_first e call values None is none x =
-      held_linked law so went is_first e value found finds x
+      record { is = is; stores = held_linked law so went is_first e value found finds x }
   stored_as false so found finds is_first e call values (Some old) is none x =
       absurd (let z : Some old ≡ None = none refl in cc)
 
   -- the call is answered with what is there
   pub told_other : (gives : Bool) → IsLinking (3 + each_lost gives) b c hand → (found : Found) →
       SearchFinds c d found → (e : PendingCall N kind) → Asks d e → (there : Option ℕ) →
-      TellsOther gives wanted d e there → SaysUnstored gives value wanted b e (Otherwise there)
-  told_other true so found finds e asks there tells = held_told law so went asks found finds wanted there tells
+      TellsOther gives wanted d e there →
+      SaysUnstored gives value (trace_in b) (trace_in e) b.key b.used e.used b.budget (Otherwise there)
+  told_other true so found finds e asks there tells = held_told law so went asks found finds there tells.told
   told_other false so found finds e asks there tells =
       let p = trace_in d in
       let few = asks.few in
       let some = three_to_update p.start in
-      held_denied law so went e value found finds (omega (arith, few, some))
+      held_answers law so went e value false found finds (omega (arith, few, some))
       (told_as (told_bare p.start p.who Insert d.key false) tells.told)
 
   -- there are no steps left
   pub tired_out : (gives : Bool) → IsLinking (3 + each_lost gives) b c hand → SearchTires c d →
-      SaysUnstored gives value wanted b d (OutOfSteps d.used)
-  tired_out true so tired = record { quiet = quiet_until so went; tires = held_tires law so went tired }
-  tired_out false so tired = held_tired law so went tired
+      SaysUnstored gives value (trace_in b) (trace_in d) b.key b.used d.used b.budget (OutOfSteps d.used)
+  tired_out true so tired =
+      let x = searched_out law so went tired 12 (omega arith, omega arith) in
+      record { quiet = quiet_until so went; tires = record { short = x.0; searches = x.1; lacks = x.2 } }
+  tired_out false so tired =
+      let x = searched_out law so went tired 7 (omega arith, omega arith) in
+      record { quiet = quiet_until so went; short = x.0; searches = x.1; lacks = x.2 }

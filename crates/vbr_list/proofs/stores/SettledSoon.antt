@@ -4,20 +4,21 @@ use Rattle.vbr_list.proofs.Names.{begins_refl, Call, Ghosts, HandView, Insert, M
 use Rattle.vbr_list.proofs.Names.{had_grown, HasStill, None, Quiet, same_on, Some, Trace}
 use Rattle.vbr_at_table.specs.answers.Records.{PublishesSlot}
 use Rattle.vbr_list.specs.updates.HeldStores.{AnswersOther}
-use Rattle.vbr_list.specs.updates.Holding.{FindsOtherEntry, StoresHeld, TiresStoring}
+use Rattle.vbr_list.specs.updates.Holding.{FindsOtherEntry, LacksInHand, StoresHeld}
+use Rattle.vbr_list.specs.updates.Inserting.{RunsShort, Searches}
 use Rattle.vbr_list.specs.named_entries.OtherEntries.{WasOther}
 use Rattle.vbr_list.specs.traversals.Leaving.{LeavesReplaced}
 use Rattle.vbr_list.specs.calls.Pieces.{GoesOn, IsSameCall, pass_in, trace_in}
+use Rattle.vbr_list.specs.look_ups.Telling.{TellsThere}
 use Rattle.vbr_list.specs.updates.Removing.{MarksAndSearches}
-use Rattle.vbr_list.specs.updates.Preparing.{Asks, TellsOther}
+use Rattle.vbr_list.specs.updates.Preparing.{Asks}
 use Rattle.vbr_list.specs.updates.Settling.{LeavesInHand, MaySettle, SearchesWith, SettlesIn, SettlesSoon, StoredIn}
 use Rattle.vbr_list.specs.updates.Settling.{StoredSoon, StoresByHand, had_node}
 use Rattle.vbr_list.specs.updates.Storing.{Makes, storing_calls}
 use Rattle.vbr_list.specs.traversals.Traversing.{LastTraversal, SearchFinds, SearchTires}
-use Rattle.vbr_list.specs.traversals.Searching.{LosesFound, TraversesAgain}
+use Rattle.vbr_list.specs.traversals.Searching.{LosesFound}
 use Rattle.vbr_list.specs.declared.call.PendingCall.{PendingCall}
 use Rattle.vbr_list.specs.declared.found.Found.{Found}
-use Rattle.vbr_list.specs.declared.wanted.Wanted.{Wanted}
 use Rattle.vbr_list.specs.calls.Told.{given_call, stored_call}
 use Rattle.vbr_list.specs.declared.entries.Entry.{Entry}
 use Rattle.vbr_list.proofs.traversals.Disturbing.{run_at}
@@ -25,9 +26,10 @@ use Rattle.vbr_list.proofs.inserts.HeldCosts.{costs_after, lacks_after, stored_c
 use Rattle.vbr_list.proofs.stores.LateSearches.{late_searched}
 use Rattle.vbr_list.proofs.inserts.Linking.{begun, counts_until, has_until, IsLinking, lost_then, quiet_until}
 use Rattle.vbr_list.proofs.inserts.Linking.{TakesOn}
-use Rattle.vbr_list.proofs.look_ups.FoundValues.{otherwise_since}
+use Rattle.vbr_list.proofs.look_ups.FoundValues.{tells_since}
 use Rattle.vbr_list.proofs.named_entries.Publishing.{published_since}
-use Rattle.vbr_list.proofs.stores.Stores.{are_alone, hand_kept, has_made, HasMade, makes_on, searches_with_end}
+use Rattle.vbr_list.proofs.stores.Stores.{are_alone, hand_kept, has_made, HasMade, makes_on}
+use Rattle.vbr_list.proofs.traversals.LostTraversals.{search_ends}
 use Rattle.vbr_list.proofs.traversals.Sweeping.{leaves_replaced_since}
 
 abbrev AnswersSoon : {N : Type 0} {kind : Ghosts N} → Bool → PendingCall N kind → PendingCall N kind → Type 0
@@ -35,18 +37,6 @@ AnswersSoon stored c d = StoredSoon stored (trace_in c) (trace_in d) c.key c.use
 
 abbrev AnswersIn : {N : Type 0} {kind : Ghosts N} → Bool → PendingCall N kind → PendingCall N kind → Type 0
 AnswersIn stored c d = StoredIn stored (trace_in c) (trace_in d) c.key c.used d.used c.budget
-
--- one more search, and what came then
-pub searches_with : {N : Type 0} {kind : Ghosts N} {b c d : PendingCall N kind} {hand : HandView} →
-    PassLaw (pass_in b) → IsLinking 11 b c hand → GoesOn c d →
-    TraversesAgain 9 (trace_in c) (trace_in d) c.key c.used d.used → (now more all : ℕ) → now ≤ d.used + more →
-    more + 3 ≤ all → SearchesWith (trace_in b) (trace_in d) b.key b.used now all
-searches_with {b = b} {c = c} {d = d} law so went traverses =
-    let quiet = quiet_until so went in
-    let P : ℕ → Type 0 = λ key. TraversesAgain 9 (trace_in c) (trace_in d) key c.used d.used in
-    searches_with_end (trace_in b) (trace_in c) (trace_in d) law.start
-    (run_at (trace_in b) (trace_in d) quiet.same (quiet.is_run law.is_run)) b.key so.1.same so.1.seen
-    went.goes.quiet.seen so.6 (subst P so.0.key traverses)
 
 module _ {N : Type 0} {kind : Ghosts N} (b c d e : PendingCall N kind) {hand : HandView} (law : PassLaw (pass_in b))
     (so : IsLinking 11 b c hand) (went : GoesOn c d) (found : Found) (finds : SearchFinds c d found)
@@ -61,7 +51,8 @@ module _ {N : Type 0} {kind : Ghosts N} (b c d e : PendingCall N kind) {hand : H
         quiet = quiet;
         to = made.seen;
         used = d.used;
-        searches = searches_with law so went finds.traverses d.used 0 3 (omega arith) (omega arith);
+        searches = search_ends law so.0 so.1 went (omega arith, omega arith) so.6 finds.traverses d.used 0 3
+            (omega arith) (omega arith);
         few = let few = soon.few in omega (arith, few);
         leaves = λ yes room.
             let L : ℕ → Type 0 = LeavesReplaced (trace_in d) (trace_in e) in
@@ -181,36 +172,34 @@ held_lost each law so went found finds is settles x = (
 -- a get was answered with what was there, which isn't as wanted
 pub held_told : {N : Type 0} {kind : Ghosts N} {b c d e : PendingCall N kind} {hand : HandView}
     (law : PassLaw (pass_in b)) (so : IsLinking 11 b c hand) (went : GoesOn c d) → Asks d e → (found : Found) →
-    SearchFinds c d found → (wanted : Wanted) (there : Option ℕ) → TellsOther true wanted d e there →
-    AnswersOther wanted b e there
-held_told {b = b} {c = c} {d = d} {e = e} law so went asks found finds wanted there tells =
+    SearchFinds c d found → (there : Option ℕ) → TellsThere d e there →
+    AnswersOther (trace_in b) (trace_in e) b.key b.used e.used b.budget there
+held_told {b = b} {c = c} {d = d} {e = e} law so went asks found finds there told =
     let few = asks.few in
-    let told = tells.told in
     record {
-      tells = record {
-        told = otherwise_since true b d e there (begun so went).key (quiet_until so went) told;
-        is_not = tells.is_not;
-      };
+      told = tells_since b d e there (begun so went).key (quiet_until so went) told;
       paid = soon_then b c d e law so went found finds
           (record { same = told.same; seen = told.seen; is_run = told.is_run }) false
           (record { few = omega (arith, few); leaves = λ yes room. absurd (cc) });
     }
 
--- there are no steps left
-pub held_tires : {N : Type 0} {kind : Ghosts N} {b c d : PendingCall N kind} {hand : HandView}
-    (law : PassLaw (pass_in b)) (so : IsLinking 11 b c hand) (went : GoesOn c d) → SearchTires c d →
-    TiresStoring (trace_in b) (trace_in d) b.key b.used d.used b.budget
-held_tires {b = b} {d = d} law so went tired =
+-- the last search left no room in the budget for one more piece
+pub searched_out : {N : Type 0} {kind : Ghosts N} {e : ℕ} {b c d : PendingCall N kind} {hand : HandView} →
+    PassLaw (pass_in b) → IsLinking e b c hand → GoesOn c d → SearchTires c d → (each : ℕ) → (e ≤ each) × (3 ≤ each) →
+    RunsShort (trace_in b) (trace_in d) b.used d.used b.budget ×
+    Searches each (trace_in b) (trace_in d) b.key b.used (b.budget + 1) 11 ×
+    LacksInHand each (trace_in b) (trace_in d) b.key b.used b.budget
+searched_out {b = b} {d = d} law so went tired each few =
     let short : b.budget < d.used + PIECE = rw so.0.budget at tired.tired in
     let quiet = quiet_until so went in
-    let searches : SearchesWith (trace_in b) (trace_in d) b.key b.used (b.budget + 1) 11 =
-    searches_with {b = b} law so went tired.traverses (b.budget + 1) 8 11 (omega (arith, short)) (omega arith) in
-    record {
-      short = record { counts = counts_until so went; short = short };
-      searches = searches;
-      lacks = lacks_after 12 (trace_in b) (trace_in d) law.start
-          (run_at (trace_in b) (trace_in d) quiet.same (quiet.is_run law.is_run)) b.key quiet b.used b.budget searches;
-    }
+    let searches : Searches each (trace_in b) (trace_in d) b.key b.used (b.budget + 1) 11 =
+    search_ends law so.0 so.1 went few so.6 tired.traverses (b.budget + 1) 8 11 (omega (arith, short)) (omega arith)
+    in (
+      record { counts = counts_until so went; short = short },
+      searches,
+      lacks_after each (trace_in b) (trace_in d) law.start
+          (run_at (trace_in b) (trace_in d) quiet.same (quiet.is_run law.is_run)) b.key quiet b.used b.budget searches,
+    )
 
 -- the key was found otherwise
 pub held_finds : {N : Type 0} {kind : Ghosts N} {b c d : PendingCall N kind} {hand : HandView}
@@ -220,7 +209,8 @@ pub held_finds : {N : Type 0} {kind : Ghosts N} {b c d : PendingCall N kind} {ha
 held_finds {b = b} {d = d} law so went found finds entry was =
     let quiet = quiet_until so went in
     let searches : SearchesWith (trace_in b) (trace_in d) b.key b.used d.used 3 =
-    searches_with {b = b} law so went finds.traverses d.used 0 3 (omega arith) (omega arith) in
+    search_ends law so.0 so.1 went (omega arith, omega arith) so.6 finds.traverses d.used 0 3 (omega arith)
+    (omega arith) in
     record {
       was = was;
       searches = searches;

@@ -1,27 +1,24 @@
 -- The calls of a store, its slots and its steps, and what its refusals say.
 use Rattle.vbr_list.proofs.Names.{◌≡◌, ◌≢◌, ℕ, ◌+◌, ◌*◌, ◌<◌, ◌≤◌, Bool, true, false, List, [], ◌∷◌, ◌++◌, Option, Some}
-use Rattle.vbr_list.proofs.Names.{None, Result, sym, ap, refl, ◌∙◌, arith, mul-le, subst, IfErr, if◌then◌else◌}
-use Rattle.vbr_list.proofs.Names.{Begins, birth_in_hand, Call, counts_on, EpochSpent, Get, grows_same, had_grown}
-use Rattle.vbr_list.proofs.Names.{HandView, HasAllButOne, HasStill, IsAlone, IsRun, IsSame, IsStart, made_by, MadeTwo}
+use Rattle.vbr_list.proofs.Names.{None, Err, sym, ap, refl, ◌∙◌, arith, subst, if◌then◌else◌}
+use Rattle.vbr_list.proofs.Names.{Begins, birth_in_hand, Call, EpochSpent, Get, grows_same, had_grown}
+use Rattle.vbr_list.proofs.Names.{HandView, HasAllButOne, HasStill, IsRun, IsSame, IsStart, made_by, MadeTwo}
 use Rattle.vbr_list.proofs.Names.{made_on, most_to_take, NoSlot, OutOfSteps, PassView, Quiet, Refusal}
-use Rattle.vbr_list.proofs.Names.{Remove, took_all, TookWithin, Trace, two_on}
+use Rattle.vbr_list.proofs.Names.{Remove, took_all, Trace, two_on}
 use Rattle.vbr_list.specs.calls.LoneReplies.{AreAnsweredAlone}
-use Rattle.vbr_list.specs.calls.Budgets.{IsAnsweredOrSpent, LacksSteps, enough_to_store, listed_for, store_costs}
-use Rattle.vbr_list.specs.traversals.Disturbed.{disturbed, enough_to_store_among, steps_to_prepare, store_costs_among}
-use Rattle.vbr_list.specs.updates.Inserting.{CountsWithin, HasHandAndRoom, SearchedFor, SearchesInVain}
+use Rattle.vbr_list.specs.calls.Budgets.{IsAnsweredOrSpent, LacksSteps}
+use Rattle.vbr_list.specs.updates.Inserting.{HasHandAndRoom}
 use Rattle.vbr_list.specs.updates.Inserting.{TakesNone}
 use Rattle.vbr_list.specs.calls.Pieces.{KeepsHand}
-use Rattle.vbr_list.specs.updates.Settling.{SearchesWith, had_node}
+use Rattle.vbr_list.specs.updates.Settling.{had_node}
 use Rattle.vbr_list.specs.updates.Storing.{HasUnlessStored, IsRefusedStore, Makes, replaced, stored_calls}
 use Rattle.vbr_list.specs.updates.Storing.{storing_calls}
 use Rattle.vbr_list.specs.calls.Told.{given_call, stored_call}
-use Rattle.vbr_list.specs.traversals.Searching.{TraversesAgain}
-use Rattle.vbr_list.specs.updates.Wanted.{WasWantedFor, steps_to_compare, wants}
+use Rattle.vbr_list.specs.updates.Wanted.{WasWantedFor, wants}
 use Rattle.vbr_list.specs.declared.wanted.Wanted.{Wanted}
+use Rattle.vbr_list.specs.declared.wanted.Wanted.TheVariants.{Absent}
+use Rattle.vbr_list.specs.calls.Refusals.{IsRefusedInsert}
 use Rattle.vbr_list.proofs.pieces.LonePasses.{alone_all}
-use Rattle.vbr_list.proofs.inserts.Preparing.{InsertIsShort}
-use Rattle.vbr_list.proofs.inserts.Sufficing.{lacks_more, lone, took_more}
-use Rattle.vbr_list.proofs.traversals.Searching.{HasRepeated, once_paid, searches_until, vain_lacks}
 
 -- ---- the calls that it makes
 
@@ -142,69 +139,19 @@ store_refused_first wanted p q key budget (EpochSpent epoch) x was =
       room = record { steps = x.since; room = x.room; took = took_all x.counts.counts };
     }
 
--- and so is one with a slot in hand, for want of steps
-pub store_refused_second : (wanted : Wanted) (p q r : PassView) {b budget : ℕ} (key : ℕ) →
-    CountsWithin p.trace q.trace 0 b budget → (refusal : Refusal) → InsertIsShort q r b budget refusal →
-    IsRefusedStore wanted p r key budget refusal
-store_refused_second wanted p q r key x (OutOfSteps used) y =
-    record { took = took_all (counts_on x.counts y.counts.counts); within = y.counts.within.1; short = y.short }
-store_refused_second wanted p q r key x NoSlot y = absurd y
-store_refused_second wanted p q r key x (EpochSpent epoch) y = absurd y
+-- what one says of an insert, which wants its key absent
+pub refused_insert : (p q : PassView) (key budget : ℕ) (refusal : Refusal) →
+    IsRefusedStore Absent p q key budget refusal → IsRefusedInsert p q key budget refusal
+refused_insert p q key budget (OutOfSteps used) x = x
+refused_insert p q key budget NoSlot x =
+    record { absent = x.was; empty = x.none.empty; still = x.none.still; outside = x.none.outside }
+refused_insert p q key budget (EpochSpent epoch) x = record { absent = x.was; spent = x.spent; room = x.room }
 
--- ---- searches with a slot in hand
-
-pub searches_with_end : (p q m : Trace) → IsStart p.start → IsRun p.start p.passes m.seen → (key : ℕ) → IsSame p q →
-    Begins p.seen q.seen → Begins q.seen m.seen → {before_all used mid : ℕ} → HasRepeated 9 p q key 11 before_all used →
-    TraversesAgain 9 q m key used mid → (since_then more all : ℕ) → since_then ≤ mid + more → more + 3 ≤ all →
-    SearchesWith p m key before_all since_then all
-searches_with_end p q m is ok key sq a b x w = searches_until p q m is ok key sq a b (omega arith, omega arith) x w
-
--- ---- what is enough
-
--- a budget that has no room for one more piece before a slot was in hand was below what is enough
-pub store_vain : (p q : Trace) → IsStart p.start → IsRun p.start p.passes q.seen → (key budget taking : ℕ) → Quiet p q →
-    (refusal : Refusal) → SearchesInVain p q key 0 budget (taking + 10) refusal →
-    LacksSteps (enough_to_store_among (listed_for p key) (disturbed p q key) taking) budget refusal
-store_vain p q is ok key budget taking quiet refusal x =
-    let n = listed_for p key in
-    let t = disturbed p q key in
-    let more = mul-le t (9 * (n + t) + 7) t (9 * (n + t) + 12) (omega arith) (omega arith) in
-    lacks_more _ (enough_to_store_among n t taking) budget refusal (omega (arith, more))
-    (vain_lacks p q is ok key budget taking quiet refusal x)
-
--- where nothing disturbed it, that is what is known before
-pub store_lone : (wanted : Wanted) (p : PassView) (q : Trace) (key budget : ℕ) (refusal : Refusal) →
-    LacksSteps (enough_to_store_among (listed_for p.trace key) (disturbed p.trace q key) (steps_to_prepare wanted p q))
-    budget refusal → IsAlone p.trace q → LacksSteps (enough_to_store wanted p key) budget refusal
-store_lone wanted p q key budget refusal short alone =
-    lacks_more _ (enough_to_store wanted p key) budget refusal (omega arith)
-    (lone (λ t taking.
-    LacksSteps (enough_to_store_among (listed_for p.trace key) t (taking + steps_to_compare wanted)) budget refusal) p q
-    key short alone)
-
-pub store_lone_costs : (wanted : Wanted) (p : PassView) (q : Trace) (key : ℕ) →
-    TookWithin p.trace q
-    (store_costs_among (listed_for p.trace key) (disturbed p.trace q key) (steps_to_prepare wanted p q)) →
-    IsAlone p.trace q → TookWithin p.trace q (store_costs wanted p key)
-store_lone_costs wanted p q key x alone =
-    took_more (lone
-    (λ t taking. TookWithin p.trace q (store_costs_among (listed_for p.trace key) t (taking + steps_to_compare wanted)))
-    p q key x alone) (omega arith)
-
--- what an answer cost, without a slot in hand
-pub told_paid : (p q : Trace) → IsStart p.start → IsRun p.start p.passes q.seen → (key taking : ℕ) {used : ℕ} →
-    SearchedFor p q key 0 used (taking + 3) → used ≤ store_costs_among (listed_for p key) (disturbed p q key) taking
-told_paid p q is ok key taking {used} x =
-    let n = listed_for p key in
-    let t = disturbed p q key in
-    let most = once_paid p q is ok key x in
-    let more = mul-le t (9 * (n + t) + 7) t (9 * (n + t) + 12) (omega arith) (omega arith) in
-    omega (arith, most, more)
-
--- with slots in the own pool a store that has steps enough is answered, or the epoch is spent
-pub store_ready : {A : Type 0} (p q : PassView) (budget n more : ℕ) (answer : Result A Refusal) → p.pool ≢ [] →
-    IsAlone p.trace q.trace → 18 * n + 82 + more ≤ budget → IfErr answer (λ refusal. refusal ≡ NoSlot → p.pool ≡ []) →
-    IfErr answer
-    (λ refusal. IsAlone p.trace q.trace →
-    LacksSteps (18 * n + most_to_take p.trace.start p.pool + 14 + more) budget refusal) → IsAnsweredOrSpent answer
-store_ready p q budget n more answer some alone enough none few = grind arith
+-- with slots in the own pool a call that has steps enough is answered, or the epoch is spent
+pub answered_or_spent : (A : Type 0) (wanted : Wanted) (p q : PassView) (key budget n more : ℕ) (refusal : Refusal) →
+    IsRefusedStore wanted p q key budget refusal → p.pool ≢ [] →
+    LacksSteps (18 * n + most_to_take p.trace.start p.pool + 14 + more) budget refusal → 18 * n + 82 + more ≤ budget →
+    IsAnsweredOrSpent {A = A} (Err refusal)
+answered_or_spent A wanted p q key budget n more (OutOfSteps used) x some few enough = grind arith
+answered_or_spent A wanted p q key budget n more NoSlot x some few enough = absurd (some x.none.empty)
+answered_or_spent A wanted p q key budget n more (EpochSpent epoch) x some few enough = tt

@@ -1,9 +1,9 @@
 -- Searches of a call, one after another: each but the last was lost, disturbed by another pass.
-use Rattle.vbr_list.proofs.Names.{◌≡◌, ℕ, ◌+◌, ◌<◌, ◌≤◌, Bool, true, false, subst}
+use Rattle.vbr_list.proofs.Names.{◌≡◌, ℕ, ◌+◌, ◌<◌, ◌≤◌, Bool, true, false, arith, subst}
 use Rattle.vbr_list.proofs.Names.{advances, bucket_of, Ghosts, IsRun, no_room, PassLaw, PIECE, Quiet, quiet_on, Trace}
 use Rattle.vbr_list.proofs.Names.{WasSo}
 use Rattle.vbr_list.specs.traversals.Found.{IsFound}
-use Rattle.vbr_list.specs.updates.Inserting.{SearchesFor}
+use Rattle.vbr_list.specs.updates.Inserting.{Searches, SearchesFor}
 use Rattle.vbr_list.specs.calls.Pieces.{Goes, GoesOn, HasRoomForPiece, IsSameCall, Tries, pass_in, trace_in}
 use Rattle.vbr_list.specs.traversals.Traversing.{LastTraversal, SearchFinds}
 use Rattle.vbr_list.specs.traversals.Searching.{LosesFound, TraversesAgain}
@@ -13,7 +13,7 @@ use Rattle.vbr_list.proofs.traversals.Disturbing.{run_at}
 use Rattle.vbr_list.proofs.pieces.Going.{call_on, call_refl, goes_further, tries_on, tries_refl, within_call}
 use Rattle.vbr_list.proofs.traversals.Moments.{found_since, was_so}
 use Rattle.vbr_list.proofs.traversals.Searching.{HasRepeated, HasRepeatedIn, repeated_none_in, search_round_on}
-use Rattle.vbr_list.proofs.traversals.Searching.{searches_end}
+use Rattle.vbr_list.proofs.traversals.Searching.{searches_until}
 use Rattle.vbr_list.proofs.traversals.Searching.{searches_later}
 
 -- a call goes on, after what it did first
@@ -29,13 +29,14 @@ module _ {N : Type 0} {kind : Ghosts N} {b c d : PendingCall N kind} (law : Pass
   run_whole = run_at (trace_in b) (trace_in d) whole.same (whole.is_run law.is_run)
 
   -- by one more search, and what came then
-  pub search_ends : HasRepeated 9 (trace_in b) (trace_in c) b.key 7 b.used c.used →
+  pub search_ends : {e each : ℕ} → (e ≤ each) × (3 ≤ each) →
+      HasRepeated 9 (trace_in b) (trace_in c) b.key e b.used c.used →
       TraversesAgain 9 (trace_in c) (trace_in d) c.key c.used d.used → (now more all : ℕ) → now ≤ d.used + more →
-      more + 3 ≤ all → SearchesFor (trace_in b) (trace_in d) b.key b.used now all
-  search_ends lost traverses =
+      more + 3 ≤ all → Searches each (trace_in b) (trace_in d) b.key b.used now all
+  search_ends few lost traverses =
       let P : ℕ → Type 0 = λ key. TraversesAgain 9 (trace_in c) (trace_in d) key c.used d.used in
-      searches_end (trace_in b) (trace_in c) (trace_in d) law.start run_whole b.key first.same first.seen then.seen lost
-      (subst P same.key traverses)
+      searches_until (trace_in b) (trace_in c) (trace_in d) law.start run_whole b.key first.same first.seen then.seen
+      few lost (subst P same.key traverses)
 
   -- what it found was lost
   pub search_lost : (each : ℕ) (e : PendingCall N kind) →
@@ -79,7 +80,7 @@ module _ {N : Type 0} {kind : Ghosts N} {b c d : PendingCall N kind} (law : Pass
   -- it was the last one
   pub searched_for : TraversesAgain 9 (trace_in c) (trace_in d) c.key c.used d.used → (now more all : ℕ) →
       now ≤ d.used + more → more + 3 ≤ all → SearchesFor (trace_in b) (trace_in d) b.key b.used now all
-  searched_for = search_ends law so.0 so.1.goes.quiet went so.2
+  searched_for = search_ends law so.0 so.1.goes.quiet went (omega arith, omega arith) so.2
 
   module _ (found : Found) (finds : SearchFinds c d found) where
     -- what it found was so at a moment since the call began

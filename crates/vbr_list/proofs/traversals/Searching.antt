@@ -299,12 +299,6 @@ disturbed_on p m r is ok key c =
 
 -- ---- searches of an insert
 
-pub searches_end : (p q m : Trace) → IsStart p.start → IsRun p.start p.passes m.seen → (key : ℕ) → IsSame p q →
-    Begins p.seen q.seen → Begins q.seen m.seen → {before_all used mid : ℕ} → HasRepeated 9 p q key 7 before_all used →
-    TraversesAgain 9 q m key used mid → (since_then more all : ℕ) → since_then ≤ mid + more → more + 3 ≤ all →
-    SearchesFor p m key before_all since_then all
-searches_end p q m is ok key sq a b x w = searches_until p q m is ok key sq a b (omega arith, omega arith) x w
-
 searched_later : (before lost m1 m2 now least most : ℕ) → now ≤ before + 9 * m1 + lost * (9 * m1 + 7) + least →
     m1 ≤ m2 → least ≤ most → now ≤ before + 9 * m2 + lost * (9 * m2 + 7) + most
 searched_later before lost m1 m2 now least most x l le =
@@ -380,12 +374,6 @@ both_paid p q m r is ok key quiet then on {each} {used} {now} {more} {more2} e x
     (omega (arith, few, high, grows)) (omega (arith, before, since_q, here, there, grows)) in
     omega (arith, both)
 
-pub twice_paid : (p q r : Trace) → IsStart p.start → IsRun p.start p.passes r.seen → (key : ℕ) → Quiet p q →
-    {used now more more2 : ℕ} → SearchedFor p q key 0 used more → SearchedFor q r key used now more2 →
-    now ≤ 18 * (listed_for p key + disturbed p r key) + searches_more 7 (listed_for p key) (disturbed p r key)
-    + (more + more2)
-twice_paid p q r is ok key quiet x y = both_paid p q y.ended r is ok key quiet y.quiet y.to (omega arith) x y.searches
-
 -- a budget that has no room for one more piece was below what is enough
 pub both_lack : (p q r : Trace) → IsStart p.start → IsRun p.start p.passes r.seen → (key budget used taking : ℕ) →
     Quiet p q → Quiet q r → {each : ℕ} → 7 ≤ each → SearchedFor p q key 0 used (taking + 3) →
@@ -394,9 +382,3 @@ pub both_lack : (p q r : Trace) → IsStart p.start → IsRun p.start p.passes r
     + searches_more each (listed_for p key) (disturbed p r key)
 both_lack p q r is ok key budget used taking quiet then e x y =
     let both = both_paid p q r r is ok key quiet then (begins_refl r.seen) e x y in omega (arith, both)
-
-pub insert_lacks : (p q r : Trace) → IsStart p.start → IsRun p.start p.passes r.seen → (key budget used taking : ℕ) →
-    Quiet p q → Quiet q r → SearchedFor p q key 0 used (taking + 3) → SearchesFor q r key used (budget + 1) 11 →
-    budget < enough_to_insert_among (listed_for p key) (disturbed p r key) taking
-insert_lacks p q r is ok key budget used taking quiet then x y =
-    both_lack p q r is ok key budget used taking quiet then (omega arith) x y

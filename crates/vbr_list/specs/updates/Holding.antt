@@ -158,14 +158,8 @@ pub record PutsHeld (p q : PassView) (key value budget : ℕ) (hand : HandView) 
 
 -- ---- of a call in progress. Only contracts of private functions cite this.
 
-abbrev pub LinksHeld : {N : Type 0} {kind : Ghosts N} → ℕ → PendingCall N kind → PendingCall N kind → HandView → Type 0
-LinksHeld value c d hand = PublishesHeld (pass_in c) (pass_in d) c.key value c.used d.used hand
-
 abbrev pub ReplacesFor : {N : Type 0} {kind : Ghosts N} → ℕ → PendingCall N kind → PendingCall N kind → HandView → Entry → Type 0
 ReplacesFor value c d hand entry = TakesPlace (pass_in c) (pass_in d) c.key value c.used d.used c.budget hand entry
 
 abbrev pub KeepsUnreplaced : {N : Type 0} {kind : Ghosts N} → PendingCall N kind → PendingCall N kind → HandView → Entry → HandView × NotReplaced → Type 0
 KeepsUnreplaced c d hand entry told = HoldsUnreplaced (pass_in c) (pass_in d) c.key c.used d.used c.budget hand entry told
-
-abbrev pub StoresFor : {N : Type 0} {kind : Ghosts N} → ℕ → PendingCall N kind → PendingCall N kind → HandView → Option ℕ → Type 0
-StoresFor value c d hand there = StoresHeld (pass_in c) (pass_in d) c.key value c.used d.used c.budget hand there

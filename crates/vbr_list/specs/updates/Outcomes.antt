@@ -20,6 +20,11 @@ abbrev pub there_in : {E : Type 0} → Result Outcome E → Result (Option ℕ) 
 there_in (Ok outcome) = Ok (there_of outcome)
 there_in (Err refusal) = Err refusal
 
+-- whether an answered call changed it
+abbrev pub changed_in : {E : Type 0} → Result Outcome E → Result Bool E
+changed_in (Ok outcome) = Ok (is_changed outcome)
+changed_in (Err refusal) = Err refusal
+
 -- it changed what was there exactly if that was as wanted
 abbrev pub ChangedAsWanted : (Option ℕ → Bool) → Outcome → Type 0
 ChangedAsWanted wanted (Changed there) = wanted there ≡ true

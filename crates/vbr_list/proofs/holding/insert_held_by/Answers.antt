@@ -1,4 +1,5 @@
 use Rattle.vbr_list.proofs.Names.{◌≡◌, rules, refl, took_all}
+use Rattle.vbr_list.proofs.inserts.HeldInserts.{kept_held}
 use Rattle.vbr_list.proofs.inserts.Preparing.{within_all}
 use Rattle.vbr_list.proofs.holding.insert_held_by.Goals as goal
 
@@ -19,7 +20,7 @@ returns-in-Ok-clause-inserts g c =
       takes_no_slot = x.takes_no_slot;
       since = c.store_held.new.self.used;
       took = took_all x.counts.counts;
-      published = c.in-Ok.ensures.stored;
+      published = c.in-Ok.ensures.stored.stores;
       kept = tt;
     })
 
@@ -32,12 +33,11 @@ pub returns-in-Err-clause-inserts : goal.returns-in-Err-clause-inserts
 returns-in-Err-clause-inserts g c =
     let same : c.stepper-in-Err-1.given.0 ≡ c.store_held.new.self.at.stepper.now = search rules in
     let x = c.store_held.ensures in
-    let kept = c.in-Err.ensures.kept in
     rw (same, c.of_insert.ensures) (record {
       steps = within_all x.counts;
       takes_no_slot = x.takes_no_slot;
       since = c.store_held.new.self.used;
       took = took_all x.counts.counts;
       published = tt;
-      kept = record { same = kept.same; has = kept.has; says = kept.says };
+      kept = kept_held c.in-Err.back c.in-Err.why c.in-Err.ensures.kept;
     })

@@ -25,8 +25,7 @@ returns-in-Ok-clause-puts g c =
 
 pub unreachable-unreachable : goal.unreachable-unreachable
 unreachable-unreachable g c =
-    let says = rw c.in-Otherwise.is at c.in-Err.ensures.kept.says in
-    absurd (let z : true ≡ false = says.tells.is_not in cc)
+    absurd (let z : true ≡ false = rw c.in-Otherwise.is at c.in-Err.ensures.kept.is_not in cc)
 
 pub returns-in-OutOfSteps-clause-took : goal.returns-in-OutOfSteps-clause-took
 returns-in-OutOfSteps-clause-took g c =

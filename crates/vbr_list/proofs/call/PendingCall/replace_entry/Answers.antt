@@ -13,7 +13,7 @@ use Rattle.vbr_list.proofs.inserts.Linking.{begun, counts_until, has_until, loca
 use Rattle.vbr_list.proofs.named_entries.OtherEntries.{other_since, was_other}
 use Rattle.vbr_list.proofs.inserts.Preparing.{within_on}
 use Rattle.vbr_list.proofs.named_entries.ReplacedEntries.{entry_since}
-use Rattle.vbr_list.proofs.stores.SettledSoon.{held_asked, held_finds, held_lost, held_stores, held_tires}
+use Rattle.vbr_list.proofs.stores.SettledSoon.{held_asked, held_finds, held_lost, held_stores, searched_out}
 use Rattle.vbr_list.proofs.stores.SettledSoon.{takes_settled}
 use Rattle.vbr_list.proofs.pieces.WideWords.{node_bare, node_wide}
 use Rattle.vbr_list.specs.calls.Words.{wide_found}
@@ -34,7 +34,8 @@ returns-in_default-clause-kept g c =
       same = c.loop-found.invariant.1;
       has = has_until so went;
       quiet = quiet_until so went;
-      says = held_tires {b = c.args.self.now} c.law.ensures so went tired;
+      says = let x = searched_out c.law.ensures so went tired 12 (omega arith, omega arith) in
+          record { short = x.0; searches = x.1; lacks = x.2 };
     }
 
 pub returns-then-not-is_node_of-clause-counts : goal.returns-then-not-is_node_of-clause-counts

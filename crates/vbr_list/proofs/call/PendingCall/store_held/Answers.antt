@@ -30,6 +30,7 @@ returns-in_default-clause-kept g c =
     record {
       same = c.loop-found.invariant.1;
       has = has_until so went;
+      is_not = tt;
       says = tired_out c.args.value c.args.wanted c.args.self.now c.loop-found.self c.reach.new.self c.law.ensures went
           c.args.gives so c.in_default.ensures.tired;
     }
@@ -99,6 +100,7 @@ returns-in-Otherwise-clause-kept g c =
     record {
       same = c.loop-found.invariant.1;
       has = hand_kept c.loop-found.hand asks.hand (has_until so went);
+      is_not = told.is_not;
       says = told_other c.args.value c.args.wanted c.args.self.now c.loop-found.self d c.law.ensures went
           c.args.gives so f c.in-Some.ensures.found e asks c.in-Otherwise.there told;
     }
