@@ -60,7 +60,7 @@ static int many_handles(void) {
     CHECK(vbr_insert(&many[999], 7) == VBR_YES && vbr_has(&many[64], 7) == VBR_YES);
     static vbr_lender of_many;
     static vbr_lend_word many_words[1000];
-    vbr_lender_init_many(&of_many, many, 1000, many_words); // of handles that vbr_open_many opened
+    if (vbr_lender_init_many(&of_many, many, 1000, many_words) != VBR_OK) return 1; // of handles that vbr_open_many opened
     for (int i = 0; i < 1000; i++) CHECK(vbr_lend(&of_many) == &many[i]);
     CHECK(!vbr_lend(&of_many));
     CHECK(vbr_close_all(many, 1000, keys, 8, &report) == VBR_YES && report.live == 4 && keys[2] == 7);
@@ -163,10 +163,11 @@ static int given_up(void) {
 
 static int lent(void) {
     vbr_report report = {0};
+    if (VBR_LEND_CHECKED) puts("a handle that is given back twice ends this program");
     vbr_handle handle[2] = {{0}};
     if (vbr_open(handle, 2, 1024 + 2 * 64, 1024, VBR_MAX_EPOCH) != VBR_OK) return 1;
     vbr_lender lender = {0};
-    vbr_lender_init(&lender, handle, 2);
+    if (vbr_lender_init(&lender, handle, 2) != VBR_OK) return 1; // VBR_BAD_COUNT: there are more than 64
     vbr_handle *mine = vbr_lend(&lender); // NULL: both are lent
     if (mine) {
         vbr_answer added = vbr_insert(mine, 5), renewed;

@@ -105,11 +105,21 @@ static void as_many_as_there_are(void) {
     static vbr_handle all[64];
     static vbr_lender of_all;
     CHECK(vbr_lend(&of_all) == NULL);
-    vbr_lender_init(&of_all, all, 64);
+    CHECK(vbr_lender_init(&of_all, all, 64) == VBR_OK);
     for (int i = 0; i < 64; i++) CHECK(vbr_lend(&of_all) == &all[i]);
     CHECK(vbr_lend(&of_all) == NULL);
     vbr_give_back(&of_all, &all[63]);
     CHECK(vbr_lend(&of_all) == &all[63]);
+}
+
+/* A count that is refused changes nothing: a lender whose handles are all lent lends none of them anew. */
+static void counts(vbr_lender *lender, vbr_handle *all, vbr_lend_word *words) {
+    static const size_t few[] = {0, 65, 100, SIZE_MAX}, many[] = {0, 65537, SIZE_MAX};
+    for (int i = 0; i < 4; i++) CHECK(vbr_lender_init(lender, all, few[i]) == VBR_BAD_COUNT && !vbr_lend(lender));
+    for (int i = 0; i < 3; i++) CHECK(vbr_lender_init_many(lender, all, many[i], words) == VBR_BAD_COUNT && !vbr_lend(lender));
+    CHECK(vbr_lender_init(lender, all, 64) == VBR_OK);
+    for (int i = 0; i < 64; i++) CHECK(vbr_lend(lender));
+    CHECK(!vbr_lend(lender));
 }
 
 /* A set of a hundred handles lends each of them, and is renewed once all are back. */
@@ -123,16 +133,14 @@ static void a_crowd(void) {
     uint64_t keys[CROWD];
     vbr_report report = {0};
     CHECK(vbr_open_many(crowd, CROWD, CROWD + 64 * CROWD, CROWD, VBR_MAX_EPOCH, none, 0) == VBR_OK);
-    vbr_lender_init_many(&of_crowd, crowd, CROWD, words);
+    CHECK(vbr_lender_init_many(&of_crowd, crowd, CROWD, words) == VBR_OK);
     for (int i = 0; i < CROWD; i++) CHECK((mine[i] = vbr_lend(&of_crowd)) && vbr_insert(mine[i], (uint64_t)(mine[i] - crowd)) == VBR_YES);
     CHECK(!vbr_lend(&of_crowd) && vbr_lender_renew(&of_crowd, CROWD + 64 * CROWD, 1, VBR_MAX_EPOCH) == VBR_IN_USE);
     for (int i = 0; i < CROWD; i++) vbr_give_back(&of_crowd, mine[i]);
     CHECK(!vbr_lend(&of_crowd) && vbr_lender_renew(&of_crowd, CROWD + 64 * CROWD, 1, VBR_MAX_EPOCH) == VBR_OK);
     for (int i = 0; i < CROWD; i++) CHECK((mine[i] = vbr_lend(&of_crowd)) && vbr_buckets(mine[i]) == 1 && vbr_has(mine[i], 99) == VBR_YES);
     CHECK(!vbr_lend(&of_crowd));
-    vbr_lender_init(&of_crowd, crowd, CROWD); /* the first 64 */
-    for (int i = 0; i < 64; i++) CHECK(vbr_lend(&of_crowd));
-    CHECK(!vbr_lend(&of_crowd));
+    counts(&of_crowd, crowd, words);
     CHECK(vbr_close_all(crowd, CROWD, keys, CROWD, &report) == VBR_YES && report.live == CROWD && keys[99] == 99);
 }
 
@@ -147,7 +155,7 @@ int main(int count, char **words) {
     as_many_as_there_are();
     a_crowd();
     CHECK(vbr_open(handles, HANDLES, SLOTS, KEYS, VBR_MAX_EPOCH) == VBR_OK);
-    vbr_lender_init(&lender, handles, HANDLES);
+    CHECK(vbr_lender_init(&lender, handles, HANDLES) == VBR_OK);
     CHECK(none_is_left());
     renewals();
     CHECK(none_is_left());

@@ -84,7 +84,7 @@ static int many_handles(void) {
     CHECK(vbr_map_insert(&many[999], 7, 70) == VBR_YES && vbr_map_has(&many[64], 7) == VBR_YES);
     static vbr_map_lender of_many;
     static vbr_lend_word many_words[1000];
-    vbr_map_lender_init_many(&of_many, many, 1000, many_words);
+    if (vbr_map_lender_init_many(&of_many, many, 1000, many_words) != VBR_OK) return 1;
     for (int i = 0; i < 1000; i++) CHECK(vbr_map_lend(&of_many) == &many[i]);
     CHECK(!vbr_map_lend(&of_many));
     CHECK(vbr_map_close_all(many, 1000, entries, 8, &report) == VBR_YES && report.live == 4 && entries[2].value == 70);
@@ -185,7 +185,7 @@ static int lent(void) {
     vbr_map_handle map[2] = {{0}};
     if (vbr_map_open(map, 2, 1024 + 2 * 64, 1024, VBR_MAX_EPOCH) != VBR_OK) return 1;
     vbr_map_lender lender = {0};
-    vbr_map_lender_init(&lender, map, 2);
+    if (vbr_map_lender_init(&lender, map, 2) != VBR_OK) return 1;
     vbr_map_handle *mine = vbr_map_lend(&lender); // NULL: both are lent
     if (mine) {
         vbr_answer added = vbr_map_insert(mine, 5, 70);

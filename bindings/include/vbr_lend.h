@@ -4,7 +4,7 @@
        vbr_handle handle[8] = {{0}};
        vbr_lender lender = {0};
        if (vbr_open(handle, 8, 1024 + 8 * 64, 1024, VBR_MAX_EPOCH) != VBR_OK) return 1;
-       vbr_lender_init(&lender, handle, 8);
+       if (vbr_lender_init(&lender, handle, 8) != VBR_OK) return 1;
 
        vbr_handle *mine = vbr_lend(&lender);        // in any thread; NULL: all eight are lent
        if (mine) {
@@ -15,7 +15,8 @@
    It takes no lock and no memory, never waits, and stands above the calls of vbr.h, which are proved; this header is tested. A thread
    gets the handle that it had last, from any lender, if that one is free: a loan and its return are then one atomic exchange on a
    word that other threads don't write, and if there are no more threads than handles, each comes to have its own. A lender has words
-   for 64 handles; for more, give vbr_lender_init_many some. No pointer that a call is given may be null.
+   for 64 handles; for more, give vbr_lender_init_many some. No pointer that a call is given may be null. VBR_LEND_CHECKED says whether
+   a program that gives a handle back twice, or to another lender, is ended with a sentence.
 
    What is done with a handle before it is given back comes before what the next borrower does (a release and an acquire). The handles
    and the lender stay where they are while there are loans. A lender takes 8 KiB, since its words lie apart. The number of a loan is
@@ -28,14 +29,35 @@
 
 #include "vbr.h"
 
+/* 1: a program is ended by abort, with a sentence on standard error, if it gives a handle back that isn't on loan, or gives one to a
+   lender that didn't lend it. 0: neither is looked for, and a return is a store. It is 1 unless NDEBUG is defined, and a program may
+   define it otherwise ahead of this header; the files of a program may differ. A second return isn't found if the handle was lent
+   again in between.
+
+       if (VBR_LEND_CHECKED) puts("a handle that is given back twice ends this program"); */
+#ifndef VBR_LEND_CHECKED
+#ifdef NDEBUG
+#define VBR_LEND_CHECKED 0
+#else
+#define VBR_LEND_CHECKED 1
+#endif
+#endif
+#if VBR_LEND_CHECKED
+#include <stdlib.h>
+#include <unistd.h>
+#endif
+
+/* What C and C++ write differently. It is no part of the interface. */
 #ifdef __cplusplus
 #define VBR_LENDS_NONE nullptr
+#define VBR_LEND_ADDRESS(pointer) reinterpret_cast<uintptr_t>(pointer)
 #else
 #define VBR_LENDS_NONE NULL
+#define VBR_LEND_ADDRESS(pointer) ((uintptr_t)(pointer))
 #endif
 
 /* Whether a handle is lent, for vbr_lender_init_many: 128 bytes, so no two of them share a cache line, wherever they lie. All zero:
-   it isn't lent.
+   it isn't lent. `lent` is 1 during a loan, and 2 while a renewal has the handle.
 
        static vbr_lend_word many_words[1000]; */
 typedef struct vbr_lend_word {
@@ -90,8 +112,9 @@ VBR_NODISCARD VBR_NONNULL static inline size_t vbr_lend_number(vbr_lend_word *wo
    back those that it took, and still lends none. It is no part of the interface. */
 VBR_NODISCARD VBR_NONNULL static inline int vbr_lend_takes_all(vbr_lend_word *words, size_t count, size_t *lends) VBR_NOEXCEPT {
     size_t taken = 0;
+    uint32_t is_free = 0;
     __atomic_store_n(lends, 0, __ATOMIC_RELAXED);
-    while (taken < count && !__atomic_exchange_n(&words[taken].lent, 1, __ATOMIC_ACQUIRE)) taken++;
+    while (taken < count && __atomic_compare_exchange_n(&words[taken].lent, &is_free, 2, 0, __ATOMIC_ACQUIRE, __ATOMIC_RELAXED)) taken++;
     if (taken == count) return 1;
     while (taken > 0) __atomic_store_n(&words[--taken].lent, 0, __ATOMIC_RELEASE);
     return 0;
@@ -104,25 +127,49 @@ VBR_NONNULL static inline void vbr_lend_gives_all(vbr_lend_word *words, size_t c
     __atomic_store_n(lends, count, __ATOMIC_RELAXED);
 }
 
-/* Lends these `count` handles from now on, or the first 64 if there are more. No thread may use the lender before.
-
-       vbr_lender lender = {0};
-       vbr_lender_init(&lender, handle, 2); */
-VBR_NONNULL static inline void vbr_lender_init(vbr_lender *lender, vbr_handle *handles, size_t count) VBR_NOEXCEPT {
-    lender->handles = handles;
-    lender->count = count < VBR_MAX_FEW_HANDLES ? count : VBR_MAX_FEW_HANDLES;
-    lender->many = VBR_LENDS_NONE;
-    vbr_lend_gives_all(lender->own, lender->count, &lender->lends);
+#if VBR_LEND_CHECKED
+/* Ends the program. It is no part of the interface. */
+VBR_NONNULL static inline void vbr_lend_ends(const char *sentence, size_t length) VBR_NOEXCEPT {
+    VBR_IGNORE(write(STDERR_FILENO, sentence, length)); /* takes no lock, since a signal handler may borrow too */
+    abort();
 }
 
-/* Lends any number of handles, as vbr_lender_init does, with a word for each. The words stay where they are as long as the lender is used.
+/* What both lenders do in a checked program: gives back the handle that lies so many bytes after their first one, or ends the program.
+   It is no part of the interface. */
+VBR_NONNULL static inline void vbr_lend_checks_back(vbr_lend_word *words, size_t count, uintptr_t offset) VBR_NOEXCEPT {
+    static const char other[] = "vbr_lend.h: a handle is given back to a lender that didn't lend it: it isn't one of this lender's handles\n";
+    static const char twice[] = "vbr_lend.h: a handle is given back that isn't on loan: it was given back before, or another lender lent it\n";
+    if (offset % sizeof(vbr_handle) || offset / sizeof(vbr_handle) >= count) vbr_lend_ends(other, sizeof other - 1);
+    if (__atomic_exchange_n(&words[offset / sizeof(vbr_handle)].lent, 0, __ATOMIC_RELEASE) != 1) vbr_lend_ends(twice, sizeof twice - 1);
+}
+#endif
 
-       vbr_lender_init_many(&of_many, many, 1000, many_words); // of handles that vbr_open_many opened */
-VBR_NONNULL static inline void vbr_lender_init_many(vbr_lender *lender, vbr_handle *handles, size_t count, vbr_lend_word *words) VBR_NOEXCEPT {
+/* Lends these `count` handles from now on: VBR_OK. VBR_BAD_COUNT: they are none, or more than VBR_MAX_FEW_HANDLES, and the lender stays as
+   it was. No thread may use the lender before. A program whose count is right for certain needn't look at the answer.
+
+       vbr_lender lender = {0};
+       if (vbr_lender_init(&lender, handle, 2) != VBR_OK) return 1; // VBR_BAD_COUNT: there are more than 64 */
+VBR_NONNULL static inline vbr_answer vbr_lender_init(vbr_lender *lender, vbr_handle *handles, size_t count) VBR_NOEXCEPT {
+    if (count - 1 >= VBR_MAX_FEW_HANDLES) return VBR_BAD_COUNT;
+    lender->handles = handles;
+    lender->count = count;
+    lender->many = VBR_LENDS_NONE;
+    vbr_lend_gives_all(lender->own, count, &lender->lends);
+    return VBR_OK;
+}
+
+/* Lends up to VBR_MAX_MANY_HANDLES handles, as vbr_lender_init does, with a word for each: VBR_OK. VBR_BAD_COUNT: they are none, or more
+   than that, and the lender and the words stay as they were. The words stay where they are as long as the lender is used.
+
+       if (vbr_lender_init_many(&of_many, many, 1000, many_words) != VBR_OK) return 1; // of handles that vbr_open_many opened */
+VBR_NONNULL static inline vbr_answer vbr_lender_init_many(vbr_lender *lender, vbr_handle *handles, size_t count,
+                                                          vbr_lend_word *words) VBR_NOEXCEPT {
+    if (count - 1 >= VBR_MAX_MANY_HANDLES) return VBR_BAD_COUNT;
     lender->handles = handles;
     lender->count = count;
     lender->many = words;
     vbr_lend_gives_all(words, count, &lender->lends);
+    return VBR_OK;
 }
 
 /* Lends a free handle, or returns a null pointer if each was lent at some moment of the call, or they are being renewed. It tries each handle
@@ -134,11 +181,16 @@ VBR_NODISCARD VBR_NONNULL static inline vbr_handle *vbr_lend(vbr_lender *lender)
     return number == SIZE_MAX ? VBR_LENDS_NONE : &lender->handles[number];
 }
 
-/* Gives back a handle that was lent by this lender, and isn't in a call.
+/* Gives back a handle that was lent by this lender, and isn't in a call. Given back twice, a handle may be lent to two threads, and given to
+   another lender it is lost to its own: VBR_LEND_CHECKED says whether these end the program.
 
        vbr_give_back(&lender, mine); // and mine isn't used any more */
 VBR_NONNULL static inline void vbr_give_back(vbr_lender *lender, vbr_handle *handle) VBR_NOEXCEPT {
+#if VBR_LEND_CHECKED
+    vbr_lend_checks_back(VBR_LEND_WORDS(lender), lender->count, VBR_LEND_ADDRESS(handle) - VBR_LEND_ADDRESS(lender->handles));
+#else
     __atomic_store_n(&VBR_LEND_WORDS(lender)[handle - lender->handles].lent, 0, __ATOMIC_RELEASE);
+#endif
 }
 
 /* Lets the handles go on over a fresh set of this shape, as vbr_renew_all does, once none is on loan. From the first call on none is lent.
@@ -163,26 +215,30 @@ VBR_NONNULL static inline void vbr_lender_lend_on(vbr_lender *lender) VBR_NOEXCE
     __atomic_store_n(&lender->lends, lender->count, __ATOMIC_RELAXED);
 }
 
-/* As vbr_lender_init, for handles to a map.
+/* Lends these `count` handles to a map from now on, as vbr_lender_init does for a set: VBR_OK or VBR_BAD_COUNT.
 
        vbr_map_lender lender = {0};
-       vbr_map_lender_init(&lender, map, 2); */
-VBR_NONNULL static inline void vbr_map_lender_init(vbr_map_lender *lender, vbr_map_handle *handles, size_t count) VBR_NOEXCEPT {
+       if (vbr_map_lender_init(&lender, map, 2) != VBR_OK) return 1; */
+VBR_NONNULL static inline vbr_answer vbr_map_lender_init(vbr_map_lender *lender, vbr_map_handle *handles, size_t count) VBR_NOEXCEPT {
+    if (count - 1 >= VBR_MAX_FEW_HANDLES) return VBR_BAD_COUNT;
     lender->handles = handles;
-    lender->count = count < VBR_MAX_FEW_HANDLES ? count : VBR_MAX_FEW_HANDLES;
+    lender->count = count;
     lender->many = VBR_LENDS_NONE;
-    vbr_lend_gives_all(lender->own, lender->count, &lender->lends);
+    vbr_lend_gives_all(lender->own, count, &lender->lends);
+    return VBR_OK;
 }
 
-/* As vbr_lender_init_many, for handles to a map.
+/* Lends up to VBR_MAX_MANY_HANDLES handles to a map, as vbr_lender_init_many does for a set: VBR_OK or VBR_BAD_COUNT.
 
-       vbr_map_lender_init_many(&of_many, many, 1000, many_words); */
-VBR_NONNULL static inline void vbr_map_lender_init_many(vbr_map_lender *lender, vbr_map_handle *handles, size_t count,
-                                                        vbr_lend_word *words) VBR_NOEXCEPT {
+       if (vbr_map_lender_init_many(&of_many, many, 1000, many_words) != VBR_OK) return 1; */
+VBR_NONNULL static inline vbr_answer vbr_map_lender_init_many(vbr_map_lender *lender, vbr_map_handle *handles, size_t count,
+                                                              vbr_lend_word *words) VBR_NOEXCEPT {
+    if (count - 1 >= VBR_MAX_MANY_HANDLES) return VBR_BAD_COUNT;
     lender->handles = handles;
     lender->count = count;
     lender->many = words;
     vbr_lend_gives_all(words, count, &lender->lends);
+    return VBR_OK;
 }
 
 /* As vbr_lend: lends a free handle to a map, or returns a null pointer.
@@ -193,11 +249,15 @@ VBR_NODISCARD VBR_NONNULL static inline vbr_map_handle *vbr_map_lend(vbr_map_len
     return number == SIZE_MAX ? VBR_LENDS_NONE : &lender->handles[number];
 }
 
-/* Gives back a handle to a map that was lent by this lender, and isn't in a call.
+/* Gives back a handle to a map that was lent by this lender, and isn't in a call, as vbr_give_back does for a set.
 
        vbr_map_give_back(&lender, mine); // and mine isn't used any more */
 VBR_NONNULL static inline void vbr_map_give_back(vbr_map_lender *lender, vbr_map_handle *handle) VBR_NOEXCEPT {
+#if VBR_LEND_CHECKED
+    vbr_lend_checks_back(VBR_LEND_WORDS(lender), lender->count, VBR_LEND_ADDRESS(handle) - VBR_LEND_ADDRESS(lender->handles));
+#else
     __atomic_store_n(&VBR_LEND_WORDS(lender)[handle - lender->handles].lent, 0, __ATOMIC_RELEASE);
+#endif
 }
 
 /* As vbr_lender_renew, for handles to a map: each key keeps its value.
@@ -221,6 +281,7 @@ VBR_NONNULL static inline void vbr_map_lender_lend_on(vbr_map_lender *lender) VB
 }
 
 #undef VBR_LENDS_NONE
+#undef VBR_LEND_ADDRESS
 #undef VBR_LEND_WORDS
 
 #endif
