@@ -169,13 +169,14 @@ static int lent(void) {
     vbr_lender lender = {0};
     if (vbr_lender_init(&lender, handle, 2) != VBR_OK) return 1; // VBR_BAD_COUNT: there are more than 64
     vbr_handle *mine = vbr_lend(&lender); // NULL: both are lent
+    size_t out = vbr_lender_on_loan(&lender); // 1: mine
     if (mine) {
         vbr_answer added = vbr_insert(mine, 5), renewed;
         if (vbr_lender_renew(&lender, 1024 + 2 * 64, 1024, VBR_MAX_EPOCH) == VBR_IN_USE) vbr_lender_lend_on(&lender); // not now
         vbr_give_back(&lender, mine); // and mine isn't used any more
         while ((renewed = vbr_lender_renew(&lender, 2048 + 2 * 64, 2048, VBR_MAX_EPOCH)) == VBR_IN_USE) sched_yield(); // until all are back
         CHECK(renewed == VBR_OK && vbr_slots(&handle[1]) == 2048 + 2 * 64);
-        CHECK(added == VBR_YES);
+        CHECK(added == VBR_YES && out == 1 && vbr_lender_on_loan(&lender) == 0);
     }
     CHECK(vbr_close_all(handle, 2, keys, 8, &report) == VBR_YES && report.live == 1 && keys[0] == 5);
     return 0;

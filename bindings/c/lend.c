@@ -38,6 +38,7 @@ static void *work(void *of) {
         CHECK(answer == VBR_YES || answer == VBR_NO);
         if (answer == VBR_YES) w->balance[key] += w->random >> 40 & 1 ? 1 : -1;
         used[mine - handles]++;
+        if (w->lent % 16 == 0) CHECK(vbr_lender_on_loan(&lender) >= 1); /* its own at least */
         vbr_give_back(&lender, mine);
         if (fault) {
             (void)!vbr_has_within(mine, 0, 8);
@@ -68,7 +69,7 @@ static void renewals(void) {
     vbr_handle *mine = vbr_lend(&lender);
     CHECK(mine && vbr_insert(mine, 1) == VBR_YES && vbr_insert(mine, 2) == VBR_YES);
     CHECK(vbr_lender_renew(&lender, SLOTS, KEYS, 9) == VBR_IN_USE && !vbr_lend(&lender) && vbr_slots(mine) == SLOTS);
-    CHECK(vbr_lender_renew(&lender, SLOTS, KEYS, 9) == VBR_IN_USE && !vbr_lend(&lender));
+    CHECK(vbr_lender_renew(&lender, SLOTS, KEYS, 9) == VBR_IN_USE && !vbr_lend(&lender) && vbr_lender_on_loan(&lender) == 1);
     vbr_lender_lend_on(&lender);
     vbr_handle *other = vbr_lend(&lender);
     CHECK(other && other != mine && vbr_last_epoch(other) == VBR_MAX_EPOCH);
@@ -91,11 +92,14 @@ static int none_is_left(void) {
     for (int i = 0; i < HANDLES; i++) {
         CHECK((mine[i] = vbr_lend(&lender)) != NULL);
         seen |= 1 << (mine[i] - handles);
+        CHECK(vbr_lender_on_loan(&lender) == (size_t)i + 1);
     }
     CHECK(seen == (1 << HANDLES) - 1 && vbr_lend(&lender) == NULL && vbr_lend(&lender) == NULL);
     vbr_give_back(&lender, mine[1]);
+    CHECK(vbr_lender_on_loan(&lender) == HANDLES - 1);
     CHECK(vbr_lend(&lender) == mine[1] && vbr_lend(&lender) == NULL);
     for (int i = 0; i < HANDLES; i++) vbr_give_back(&lender, mine[i]);
+    CHECK(vbr_lender_on_loan(&lender) == 0);
     CHECK(vbr_lend(&lender) == mine[1]); /* the one that this thread had last */
     vbr_give_back(&lender, mine[1]);
     return 1;
@@ -107,7 +111,7 @@ static void as_many_as_there_are(void) {
     CHECK(vbr_lend(&of_all) == NULL);
     CHECK(vbr_lender_init(&of_all, all, 64) == VBR_OK);
     for (int i = 0; i < 64; i++) CHECK(vbr_lend(&of_all) == &all[i]);
-    CHECK(vbr_lend(&of_all) == NULL);
+    CHECK(vbr_lend(&of_all) == NULL && vbr_lender_on_loan(&of_all) == 64);
     vbr_give_back(&of_all, &all[63]);
     CHECK(vbr_lend(&of_all) == &all[63]);
 }

@@ -187,6 +187,7 @@ static int lent(void) {
     vbr_map_lender lender = {0};
     if (vbr_map_lender_init(&lender, map, 2) != VBR_OK) return 1;
     vbr_map_handle *mine = vbr_map_lend(&lender); // NULL: both are lent
+    size_t out = vbr_map_lender_on_loan(&lender); // 1: mine
     if (mine) {
         vbr_answer added = vbr_map_insert(mine, 5, 70);
         vbr_answer renewed = vbr_map_lender_renew(&lender, 2048 + 2 * 64, 2048, VBR_MAX_EPOCH); // VBR_IN_USE: a handle is on loan
@@ -194,7 +195,7 @@ static int lent(void) {
         vbr_map_lender_lend_on(&lender); // and the renewal isn't made
         vbr_map_give_back(&lender, mine); // and mine isn't used any more
         CHECK(vbr_map_lender_renew(&lender, 2048 + 2 * 64, 2048, VBR_MAX_EPOCH) == VBR_OK);
-        CHECK(added == VBR_YES);
+        CHECK(added == VBR_YES && out == 1 && vbr_map_lender_on_loan(&lender) == 0);
     }
     CHECK(vbr_map_close_all(map, 2, entries, 8, &report) == VBR_YES && report.live == 1 && entries[0].value == 70);
     return 0;

@@ -453,6 +453,8 @@ VBR_NODISCARD static inline vbr_answer value_next(vbr_map_handle *handle, vbr_cu
 #define vbr_lender_init_many vbr_map_lender_init_many
 #undef vbr_lender_lend_on
 #define vbr_lender_lend_on vbr_map_lender_lend_on
+#undef vbr_lender_on_loan
+#define vbr_lender_on_loan vbr_map_lender_on_loan
 #undef vbr_lender_renew
 #define vbr_lender_renew vbr_map_lender_renew
 #undef vbr_let_go

@@ -70,17 +70,19 @@ static int example() {
         vbr::loan waited = lender.lend_wait();
         vbr::owned_loan task = lender.lend_owned_wait();
         vbr::loan in_time = lender.lend_for(10ms);
-        CHECK(mine && waited && task && !in_time && *mine->insert(5) && *task->has(5));
+        std::size_t out = lender.on_loan(); // 3: mine, waited and task
+        CHECK(mine && waited && task && !in_time && *mine->insert(5) && *task->has(5) && out == 3 && later.on_loan() == 0);
         beside[mine.number()]++; // nobody else writes it meanwhile
         mine = vbr::loan(); // given back
-        CHECK(!mine && lender.lend());
+        CHECK(!mine && lender.on_loan() == 2 && lender.lend());
         vbr::result<void> in_vain = lender.renew_for(shape, 10ms); // refusal::on_loan: a loan is still out
         CHECK(in_vain == vbr::refusal::on_loan && lender.lend());
     }
     vbr::result<void> renewed = lender.renew(shape);
     CHECK(renewed && later.renew(shape) == vbr::refusal::no_handle && later.renew_for(shape, 0s) == vbr::refusal::no_handle);
+    CHECK(lender.on_loan() == 0);
     std::optional<vbr::report> report = lender.close().value();
-    CHECK(report->keys == keys{5});
+    CHECK(report->keys == keys{5} && lender.on_loan() == 0);
     vbr::map_lender sessions(vbr::open_map(shape, 3).value());
     vbr::map_loan mine = sessions.lend();
     CHECK(*mine->put(5, 70) == std::nullopt);
@@ -297,7 +299,7 @@ static void renewals() {
         CHECK(of_all.renew(bad) == vbr::refusal::bad_shape);
     for (auto *each : {&lender, &of_all}) {
         auto one = each->lend(), other = each->lend();
-        CHECK(one && other && !each->lend() && each->slots() == one->slots() && one->has(3).value());
+        CHECK(one && other && !each->lend() && each->on_loan() == 2 && each->slots() == one->slots() && one->has(3).value());
     }
     CHECK(of_all.renew(large) && of_all.handles() == 2 && of_all.slots() == large.slots && of_all.buckets() == large.buckets);
     {
@@ -320,6 +322,7 @@ static void lends_none_meanwhile() {
     std::atomic<int> wrong{0};
     std::thread renews([&] { wrong += !lender.renew(wanted); });
     while (lender.lend()) std::this_thread::yield(); // until it has begun
+    while (lender.on_loan() != 1) std::this_thread::yield(); // the renewal waits for that one, and may have the other
     CHECK(!lender.lend() && !lender.lend_for(20ms) && lender.close() == vbr::refusal::on_loan && lender.slots() != wanted.slots);
     std::thread waits([&] {
         auto mine = lender.lend_wait();
@@ -329,7 +332,7 @@ static void lends_none_meanwhile() {
     std::thread([back = std::move(kept)] {}).join(); // given back by another thread
     renews.join();
     waits.join();
-    CHECK(wrong == 0 && lender.slots() == wanted.slots && Of::keys(lender.close()) == (keys{7, 8}));
+    CHECK(wrong == 0 && lender.on_loan() == 0 && lender.slots() == wanted.slots && Of::keys(lender.close()) == (keys{7, 8}));
 }
 
 // Eight threads borrow three handles, in each way there is, and have loans of each other; two threads renew the set all the while.

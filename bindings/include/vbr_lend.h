@@ -127,6 +127,13 @@ VBR_NONNULL static inline void vbr_lend_gives_all(vbr_lend_word *words, size_t c
     __atomic_store_n(lends, count, __ATOMIC_RELAXED);
 }
 
+/* What both lenders count: the handles that are on loan. It is no part of the interface. */
+VBR_NODISCARD VBR_NONNULL static inline size_t vbr_lend_out(const vbr_lend_word *words, size_t count) VBR_NOEXCEPT {
+    size_t number, out = 0;
+    for (number = 0; number < count; number++) out += __atomic_load_n(&words[number].lent, __ATOMIC_RELAXED) == 1;
+    return out;
+}
+
 #if VBR_LEND_CHECKED
 /* Ends the program. It is no part of the interface. */
 VBR_NONNULL static inline void vbr_lend_ends(const char *sentence, size_t length) VBR_NOEXCEPT {
@@ -191,6 +198,16 @@ VBR_NONNULL static inline void vbr_give_back(vbr_lender *lender, vbr_handle *han
 #else
     __atomic_store_n(&VBR_LEND_WORDS(lender)[handle - lender->handles].lent, 0, __ATOMIC_RELEASE);
 #endif
+}
+
+/* Returns how many handles are on loan. It looks at each once, one after another. So while others borrow and give back the number is of
+   no one moment: a handle is counted if it was on loan when it was looked at. It is exact if nobody does so meanwhile, and 0 after the
+   last return. A handle that a renewal has isn't counted, unless a thread tried to borrow it just as the renewal took it. The call takes
+   a load for each handle, and orders nothing.
+
+       size_t out = vbr_lender_on_loan(&lender); // 1: mine */
+VBR_NODISCARD VBR_NONNULL static inline size_t vbr_lender_on_loan(const vbr_lender *lender) VBR_NOEXCEPT {
+    return vbr_lend_out(VBR_LEND_WORDS(lender), lender->count);
 }
 
 /* Lets the handles go on over a fresh set of this shape, as vbr_renew_all does, once none is on loan. From the first call on none is lent.
@@ -258,6 +275,13 @@ VBR_NONNULL static inline void vbr_map_give_back(vbr_map_lender *lender, vbr_map
 #else
     __atomic_store_n(&VBR_LEND_WORDS(lender)[handle - lender->handles].lent, 0, __ATOMIC_RELEASE);
 #endif
+}
+
+/* Returns how many handles to a map are on loan, as vbr_lender_on_loan does for a set.
+
+       size_t out = vbr_map_lender_on_loan(&lender); // 1: mine */
+VBR_NODISCARD VBR_NONNULL static inline size_t vbr_map_lender_on_loan(const vbr_map_lender *lender) VBR_NOEXCEPT {
+    return vbr_lend_out(VBR_LEND_WORDS(lender), lender->count);
 }
 
 /* As vbr_lender_renew, for handles to a map: each key keeps its value.

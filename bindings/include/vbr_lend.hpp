@@ -197,6 +197,11 @@ public:
     }
 
     std::size_t handles() const noexcept { return count.load(std::memory_order_relaxed); }
+    std::size_t on_loan() const noexcept {
+        std::size_t out = 0;
+        for (std::size_t i = withheld.load(std::memory_order_relaxed); i < handles(); i++) out += places[i].is_lent.load(std::memory_order_relaxed);
+        return out;
+    }
     const shared_shape &opened_with() const noexcept { return opened; }
     std::size_t number_of(const place_type *place) const noexcept { return static_cast<std::size_t>(place - places.get()); }
 
@@ -278,6 +283,7 @@ private:
         ~renewal() {
             if (!has_turn) return;
             of.lends.store(of.handles(), std::memory_order_release);
+            if (taken > 0) of.withheld.store(0, std::memory_order_relaxed);
             for (std::size_t i = 0; i < taken; i++) of.places[i].is_lent.store(false, std::memory_order_release);
             of.waiting.wake_all();
         }
@@ -286,7 +292,7 @@ private:
         bool takes_all() noexcept {
             std::size_t all = of.handles();
             has_turn = has_turn || of.lends.compare_exchange_strong(all, 0, std::memory_order_acquire, std::memory_order_relaxed);
-            while (has_turn && !has_all() && of.places[taken].take()) taken++;
+            while (has_turn && !has_all() && of.places[taken].take()) of.withheld.store(++taken, std::memory_order_relaxed);
             return has_all();
         }
         bool has_all() const noexcept { return taken > 0 && taken == of.handles(); }
@@ -299,11 +305,12 @@ private:
     /* Handles that are taken one after another, until one is lent, and are given back at the end of this, unless they were closed. */
     struct all_taken {
         all_taken(lending &lender, std::size_t all) noexcept : of(lender) {
-            while (count < all && of.places[count].take()) count++;
+            while (count < all && of.places[count].take()) of.withheld.store(++count, std::memory_order_relaxed);
         }
         all_taken(const all_taken &) = delete;
         all_taken &operator=(const all_taken &) = delete;
         ~all_taken() {
+            if (count > 0) of.withheld.store(0, std::memory_order_relaxed);
             for (std::size_t i = 0; i < count && of.handles() > 0; i++) of.give_back(of.places[i]);
         }
 
@@ -332,6 +339,7 @@ private:
     std::atomic<std::size_t> count{0};
     std::atomic<std::size_t> lends{0}; /* of so many one may be lent: all, and none while they are renewed */
     std::atomic<std::size_t> renewals{0};
+    std::atomic<std::size_t> withheld{0}; /* so many, the first ones, are with whoever takes all of them, and on loan to nobody */
     shared_shape opened;
     waiters waiting;
     std::unique_ptr<place_type[]> places;
@@ -447,6 +455,14 @@ public:
 
            std::vector<int> beside(lender.handles()); */
     std::size_t handles() const noexcept { return all ? all->handles() : 0; }
+
+    /* How many handles are on loan. It looks at each once, one after another. So while others borrow and give back the number is of no
+       one moment: a handle is counted if it was on loan when it was looked at. It is exact if nobody does so meanwhile, and then 0 after
+       the last return. Handles that a renewal or a close has aren't counted, but one may be that it is just taking. The call takes a
+       load for each handle, and orders nothing.
+
+           std::size_t out = lender.on_loan(); // 3: mine, waited and task */
+    std::size_t on_loan() const noexcept { return all ? all->on_loan() : 0; }
 
     /* What the set was opened with; 0 where it was given no handle.
 
