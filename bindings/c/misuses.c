@@ -1,12 +1,15 @@
 /* Misuse that ends a program by abort, with a sentence on standard error, if the program is checked: a handle that is given back twice,
-   and one that is given to a lender that didn't lend it. Each is made in a process of its own. */
+   one that is given to a lender that didn't lend it, and one that two threads use at a time, or a thread and a signal handler that
+   interrupts it. Each is made in a process of its own. It wants VBR_CHECKED, and no NDEBUG. */
 #include "vbr_lend.h"
 
+#include <pthread.h>
 #include <signal.h>
 #include <stdio.h>
 #include <stdlib.h>
 #include <string.h>
 #include <sys/resource.h>
+#include <sys/time.h>
 #include <sys/wait.h>
 #include <unistd.h>
 
@@ -25,6 +28,7 @@ static int status_of(void (*calls)(void), char *said, size_t room) {
     if (child == 0) {
         struct rlimit none = {0, 0};
         if (dup2(ends[1], STDERR_FILENO) < 0 || setrlimit(RLIMIT_CORE, &none)) _exit(2);
+        alarm(10); /* ends calls that go on */
         calls();
         _exit(0);
     }
@@ -92,6 +96,84 @@ static void in_order(void) {
     vbr_give_back(&lender, lent(&lender));
 }
 
+static vbr_answer answers[100000];
+static uint64_t wanted[100000];
+static int is_over;
+
+/* Calls that take some milliseconds each, by the first handle, until they are to end. */
+static void *look_up(void *of) {
+    while (!__atomic_load_n(&is_over, __ATOMIC_RELAXED)) vbr_has_all(&handles[0], wanted, 100000, answers);
+    return of;
+}
+
+/* Makes a call again and again while another thread is in calls by the first handle. */
+static void meanwhile(void (*call)(void)) {
+    pthread_t thread;
+    CHECK(!pthread_create(&thread, NULL, look_up, NULL));
+    while (!__atomic_load_n(&handles[0].in_call, __ATOMIC_RELAXED)) continue;
+    for (int i = 0; i < 1000; i++) call();
+    __atomic_store_n(&is_over, 1, __ATOMIC_RELAXED);
+    CHECK(!pthread_join(thread, NULL));
+}
+
+static void has(void) {
+    VBR_IGNORE(vbr_has(&handles[0], 1));
+}
+
+static void shows_its_epoch(void) {
+    VBR_IGNORE(vbr_epoch(&handles[0]));
+}
+
+static void reports_all(void) {
+    uint64_t keys[8] = {0};
+    vbr_report report = {0};
+    VBR_IGNORE(vbr_report_all(handles, 4, keys, 8, &report));
+}
+
+static void two_look_up(void) {
+    meanwhile(has);
+}
+
+static void one_asks(void) {
+    meanwhile(shows_its_epoch);
+}
+
+static void one_reports(void) {
+    meanwhile(reports_all);
+}
+
+static void has_in_a_handler(int number) {
+    (void)number;
+    has();
+}
+
+static void interrupted(void) {
+    struct itimerval often = {{0, 1000}, {0, 1000}};
+    struct sigaction action;
+    memset(&action, 0, sizeof action);
+    action.sa_handler = has_in_a_handler;
+    CHECK(!sigaction(SIGVTALRM, &action, NULL) && !setitimer(ITIMER_VIRTUAL, &often, NULL));
+    look_up(NULL);
+}
+
+static void has_by_another(void) {
+    VBR_IGNORE(vbr_insert(&handles[1], 1));
+    VBR_IGNORE(vbr_epoch(&handles[1]));
+}
+
+/* Two threads by handles of their own, a handle that goes on in another place, and marks that are the program's. */
+static void beside_each_other(void) {
+    meanwhile(has_by_another);
+    has();
+    vbr_handle moved = handles[1];
+    memset(&handles[1], 0, sizeof handles[1]);
+    CHECK(!moved.in_call && vbr_remove(&moved, 1) == VBR_YES);
+    moved.in_call = 1;
+    CHECK(vbr_insert(&moved, 1) == VBR_YES && moved.in_call == 1);
+    vbr_drop(&moved);
+    vbr_drop(NULL);
+}
+
 int main(void) {
     CHECK(vbr_open(handles, 4, 64, 8, VBR_MAX_EPOCH) == VBR_OK && vbr_open(others, 2, 64, 8, VBR_MAX_EPOCH) == VBR_OK);
     CHECK(vbr_lender_init(&lender, handles, 4) == VBR_OK && vbr_lender_init(&other, others, 2) == VBR_OK);
@@ -101,6 +183,11 @@ int main(void) {
     ends("didn't lend it", to_another);
     ends("didn't lend it", to_one_of_the_same_array);
     ends("didn't lend it", a_copy);
+    goes_on(beside_each_other);
+    ends("is in a call already", two_look_up);
+    ends("is in a call already", one_asks);
+    ends("is in a call already", one_reports);
+    ends("is in a call already", interrupted);
     vbr_end_all(handles, 4), vbr_end_all(others, 2);
     puts("misuse that ends a checked program: passed");
     return 0;

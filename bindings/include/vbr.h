@@ -193,8 +193,9 @@ VBR_NODISCARD const char *vbr_answer_text(vbr_answer answer) VBR_NOEXCEPT;
 
 /* A handle to a set. Initialise it with {0}, or {} in C++, or set only `steps`, the budget of calls that don't name one; 0 stands
    for VBR_AMPLE_STEPS. A program sets `steps` before the opening or between two calls, and no call writes it. `in_call` marks a
-   handle that processes share: vbr_begin and vbr_end of vbr_shared.h set and clear it, and in other handles it stays 0. `owned`
-   belongs to the library.
+   handle that processes share: vbr_begin and vbr_end of vbr_shared.h set and clear it, and in other handles it stays 0. If a program
+   defines VBR_CHECKED ahead of this header, each call marks its handle there, and one by a handle that is marked ends the program by
+   abort, with a sentence: two threads use the handle at a time. vbr_checked.h says more. `owned` belongs to the library.
 
        vbr_handle handle[2] = {{0}};
        handle[1].steps = 5000; // the calls by this handle make at most so many steps */
@@ -1478,8 +1479,12 @@ VBR_NODISCARD vbr_answer vbr_map_report_slots(vbr_map_handle *handles, size_t co
 #include "vbr_tsan.h"
 #endif
 #endif
+#if defined(VBR_CHECKED) && !defined(VBR_TSAN_H)
+#include "vbr_checked.h"
+#endif
 
-/* The calls without a budget: they use their handle's, and go by vbr_tsan.h if a program is compiled for ThreadSanitizer. */
+/* The calls without a budget: they use their handle's, and go by vbr_tsan.h if a program is compiled for ThreadSanitizer, or by
+   vbr_checked.h if it defines VBR_CHECKED. */
 
 static inline vbr_answer vbr_insert(vbr_handle *handle, uint64_t key) VBR_NOEXCEPT {
     return vbr_insert_within(handle, key, vbr_steps_of(handle));

@@ -32,7 +32,7 @@
 /* 1: a program is ended by abort, with a sentence on standard error, if it gives a handle back that isn't on loan, or gives one to a
    lender that didn't lend it. 0: neither is looked for, and a return is a store. It is 1 unless NDEBUG is defined, and a program may
    define it otherwise ahead of this header; the files of a program may differ. A second return isn't found if the handle was lent
-   again in between.
+   again in between: VBR_CHECKED of vbr.h finds what follows, two threads in one handle.
 
        if (VBR_LEND_CHECKED) puts("a handle that is given back twice ends this program"); */
 #ifndef VBR_LEND_CHECKED
