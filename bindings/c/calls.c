@@ -174,10 +174,17 @@ static int lent(void) {
         vbr_answer added = vbr_insert(mine, 5), renewed;
         if (vbr_lender_renew(&lender, 1024 + 2 * 64, 1024, VBR_MAX_EPOCH) == VBR_IN_USE) vbr_lender_lend_on(&lender); // not now
         vbr_give_back(&lender, mine); // and mine isn't used any more
+        int64_t about = vbr_lender_count_about(&lender); // 1: mine is back, and has added 5
         while ((renewed = vbr_lender_renew(&lender, 2048 + 2 * 64, 2048, VBR_MAX_EPOCH)) == VBR_IN_USE) sched_yield(); // until all are back
         CHECK(renewed == VBR_OK && vbr_slots(&handle[1]) == 2048 + 2 * 64);
-        CHECK(added == VBR_YES && out == 1 && vbr_lender_on_loan(&lender) == 0);
+        CHECK(added == VBR_YES && about == 1 && out == 1 && vbr_lender_on_loan(&lender) == 0);
     }
+    vbr_handle *all[2] = {vbr_lend(&lender), vbr_lend(&lender)};
+    CHECK(vbr_insert(all[0], 6) == VBR_YES && vbr_renew_all(handle, 2, 1024 + 2 * 64, 1024, VBR_MAX_EPOCH) == VBR_OK);
+    CHECK(vbr_remove(all[1], 6) == VBR_YES);
+    vbr_lender_recount(&lender); // all handles are on loan to this thread
+    for (int i = 0; i < 2; i++) vbr_give_back(&lender, all[i]);
+    CHECK(vbr_lender_count_about(&lender) == 1);
     CHECK(vbr_close_all(handle, 2, keys, 8, &report) == VBR_YES && report.live == 1 && keys[0] == 5);
     return 0;
 }

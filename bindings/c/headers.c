@@ -58,7 +58,10 @@ static int check(void) {
     CHECK(mine == &handle[0]);
     vbr_answer added = vbr_insert(mine, 5);
     CHECK(added == VBR_YES && text_of(added)[0] == 'y' && text_of(vbr_has(&none, 5))[3] == 'h');
+    CHECK(vbr_lender_on_loan(&lender) == 1 && vbr_lender_count_about(&lender) == 0);
     vbr_give_back(&lender, mine);
+    vbr_lender_recount(&lender);
+    CHECK(vbr_lender_on_loan(&lender) == 0 && vbr_lender_count_about(&lender) == 1);
     VBR_IGNORE(vbr_has(&none, 5));
     CHECK(vbr_has(&handle[1], 5) == VBR_YES && vbr_remove(&handle[1], 6) == VBR_NO);
     CHECK(vbr_next(&handle[1], &cursor, &given) == VBR_YES && given == 5);
@@ -131,7 +134,10 @@ static int check_maps(void) {
     CHECK(mine == &map[0]);
     vbr_answer added = vbr_map_insert(mine, 5, 50);
     CHECK(added == VBR_YES && text_of(added)[0] == 'y' && text_of(vbr_map_has(&none, 5))[3] == 'h');
+    CHECK(vbr_map_lender_on_loan(&lender) == 1 && vbr_map_lender_count_about(&lender) == 0);
     vbr_map_give_back(&lender, mine);
+    vbr_map_lender_recount(&lender);
+    CHECK(vbr_map_lender_on_loan(&lender) == 0 && vbr_map_lender_count_about(&lender) == 1);
     VBR_IGNORE(vbr_map_has(&none, 5));
     CHECK(vbr_map_has(&map[1], 5) == VBR_YES && vbr_map_remove(&map[1], 6, &value) == VBR_NO);
     CHECK(vbr_map_get(&map[1], 5, &value) == VBR_YES && value == 50);

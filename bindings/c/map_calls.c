@@ -194,9 +194,16 @@ static int lent(void) {
         CHECK(renewed == VBR_IN_USE && !vbr_map_lend(&lender));
         vbr_map_lender_lend_on(&lender); // and the renewal isn't made
         vbr_map_give_back(&lender, mine); // and mine isn't used any more
+        int64_t about = vbr_map_lender_count_about(&lender);
         CHECK(vbr_map_lender_renew(&lender, 2048 + 2 * 64, 2048, VBR_MAX_EPOCH) == VBR_OK);
-        CHECK(added == VBR_YES && out == 1 && vbr_map_lender_on_loan(&lender) == 0);
+        CHECK(added == VBR_YES && about == 1 && out == 1 && vbr_map_lender_on_loan(&lender) == 0);
     }
+    vbr_map_handle *all[2] = {vbr_map_lend(&lender), vbr_map_lend(&lender)};
+    CHECK(vbr_map_insert(all[0], 6, 71) == VBR_YES && vbr_map_renew_all(map, 2, 1024 + 2 * 64, 1024, VBR_MAX_EPOCH) == VBR_OK);
+    CHECK(vbr_map_remove(all[1], 6, NULL) == VBR_YES);
+    vbr_map_lender_recount(&lender); // all handles are on loan to this thread
+    for (int i = 0; i < 2; i++) vbr_map_give_back(&lender, all[i]);
+    CHECK(vbr_map_lender_count_about(&lender) == 1);
     CHECK(vbr_map_close_all(map, 2, entries, 8, &report) == VBR_YES && report.live == 1 && entries[0].value == 70);
     return 0;
 }

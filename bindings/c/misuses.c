@@ -99,10 +99,14 @@ static void in_order(void) {
 static vbr_answer answers[100000];
 static uint64_t wanted[100000];
 static int is_over;
+static long looked_up;
 
 /* Calls that take some milliseconds each, by the first handle, until they are to end. */
 static void *look_up(void *of) {
-    while (!__atomic_load_n(&is_over, __ATOMIC_RELAXED)) vbr_has_all(&handles[0], wanted, 100000, answers);
+    while (!__atomic_load_n(&is_over, __ATOMIC_RELAXED)) {
+        vbr_has_all(&handles[0], wanted, 100000, answers);
+        __atomic_fetch_add(&looked_up, 1, __ATOMIC_RELAXED);
+    }
     return of;
 }
 
@@ -110,7 +114,7 @@ static void *look_up(void *of) {
 static void meanwhile(void (*call)(void)) {
     pthread_t thread;
     CHECK(!pthread_create(&thread, NULL, look_up, NULL));
-    while (!__atomic_load_n(&handles[0].in_call, __ATOMIC_RELAXED)) continue;
+    while (!__atomic_load_n(&looked_up, __ATOMIC_RELAXED)) continue;
     for (int i = 0; i < 1000; i++) call();
     __atomic_store_n(&is_over, 1, __ATOMIC_RELAXED);
     CHECK(!pthread_join(thread, NULL));

@@ -445,8 +445,14 @@ VBR_NODISCARD static inline vbr_answer value_next(vbr_map_handle *handle, vbr_cu
 #define vbr_last_epoch vbr_map_last_epoch
 #undef vbr_lend
 #define vbr_lend vbr_map_lend
+#undef vbr_lend_counts
+#define vbr_lend_counts vbr_map_lend_counts
+#undef vbr_lend_recounts
+#define vbr_lend_recounts vbr_map_lend_recounts
 #undef vbr_lender
 #define vbr_lender vbr_map_lender
+#undef vbr_lender_count_about
+#define vbr_lender_count_about vbr_map_lender_count_about
 #undef vbr_lender_init
 #define vbr_lender_init vbr_map_lender_init
 #undef vbr_lender_init_many
@@ -455,6 +461,8 @@ VBR_NODISCARD static inline vbr_answer value_next(vbr_map_handle *handle, vbr_cu
 #define vbr_lender_lend_on vbr_map_lender_lend_on
 #undef vbr_lender_on_loan
 #define vbr_lender_on_loan vbr_map_lender_on_loan
+#undef vbr_lender_recount
+#define vbr_lender_recount vbr_map_lender_recount
 #undef vbr_lender_renew
 #define vbr_lender_renew vbr_map_lender_renew
 #undef vbr_let_go

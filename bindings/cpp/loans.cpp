@@ -80,9 +80,10 @@ static int example() {
     }
     vbr::result<void> renewed = lender.renew(shape);
     CHECK(renewed && later.renew(shape) == vbr::refusal::no_handle && later.renew_for(shape, 0s) == vbr::refusal::no_handle);
-    CHECK(lender.on_loan() == 0);
+    std::int64_t about = lender.count_about(); // 1: all loans are back, and one has added 5
+    CHECK(about == 1 && later.count_about() == 0 && lender.on_loan() == 0);
     std::optional<vbr::report> report = lender.close().value();
-    CHECK(report->keys == keys{5} && lender.on_loan() == 0);
+    CHECK(report->keys == keys{5} && lender.on_loan() == 0 && lender.count_about() == 0);
     vbr::map_lender sessions(vbr::open_map(shape, 3).value());
     vbr::map_loan mine = sessions.lend();
     CHECK(*mine->put(5, 70) == std::nullopt);
@@ -322,7 +323,8 @@ static void lends_none_meanwhile() {
     std::atomic<int> wrong{0};
     std::thread renews([&] { wrong += !lender.renew(wanted); });
     while (lender.lend()) std::this_thread::yield(); // until it has begun
-    while (lender.on_loan() != 1) std::this_thread::yield(); // the renewal waits for that one, and may have the other
+    for (int turns = 0; turns < 1000000 && lender.on_loan() != 1; turns++) std::this_thread::yield();
+    CHECK(lender.on_loan() == 1); // the renewal waits for that one, and may have the other
     CHECK(!lender.lend() && !lender.lend_for(20ms) && lender.close() == vbr::refusal::on_loan && lender.slots() != wanted.slots);
     std::thread waits([&] {
         auto mine = lender.lend_wait();
@@ -333,6 +335,42 @@ static void lends_none_meanwhile() {
     renews.join();
     waits.join();
     CHECK(wrong == 0 && lender.on_loan() == 0 && lender.slots() == wanted.slots && Of::keys(lender.close()) == (keys{7, 8}));
+}
+
+// While eight threads each add a key by each of their loans, how many keys are in is no less than the loans that were back before it is
+// asked for, and no more than those that have begun afterwards; so over two renewals with growth. At rest it is what a report says.
+template <class Of>
+static int counts_keys() {
+    const std::uint64_t each = 1000, before = 7;
+    const std::int64_t all = 8 * 1000 + 7;
+    auto lender = lending<Of>(3);
+    CHECK(lender.renew(vbr::shape::for_keys(20000, 3)));
+    {
+        auto mine = lender.lend();
+        for (std::uint64_t key = 0; key < before; key++) CHECK(Of::adds(*mine, key) && lender.count_about() == 0);
+    }
+    CHECK(lender.count_about() == 7);
+    std::atomic<std::int64_t> begun{7}, done{7};
+    std::atomic<int> wrong{0};
+    std::vector<std::thread> threads;
+    for (std::uint64_t i = 0; i < 8; i++)
+        threads.emplace_back([&, i] {
+            for (std::uint64_t key = 0; key < each; key++) {
+                begun++;
+                wrong += !Of::adds(*lender.lend_wait(), before + i * each + key);
+                done++;
+            }
+        });
+    for (std::uint32_t renewed = 0; done < all || renewed < 2;) {
+        const std::int64_t least = done, about = lender.count_about();
+        wrong += about < least || about > begun;
+        if (done > 2000 * (renewed + 1) && renewed < 2) wrong += !lender.renew(vbr::shape::for_keys(20000 * (++renewed + 1), 3));
+    }
+    for (std::thread &thread : threads) thread.join();
+    CHECK(wrong == 0 && lender.count_about() == all && lender.renew(vbr::shape{1, 1, 1}) == vbr::refusal::no_room);
+    CHECK(lender.count_about() == all && Of::takes(*lender.lend(), 0));
+    CHECK(lender.count_about() == all - 1 && Of::keys(lender.close()).size() == 8 * each + before - 1);
+    return 0;
 }
 
 // Eight threads borrow three handles, in each way there is, and have loans of each other; two threads renew the set all the while.
@@ -374,7 +412,7 @@ static void renewals_and_loans() {
 
 template <class Of>
 static void all() {
-    renewals<Of>(), lends_none_meanwhile<Of>(), renewals_and_loans<Of>();
+    counts_keys<Of>(), renewals<Of>(), lends_none_meanwhile<Of>(), renewals_and_loans<Of>();
     ends_without_a_report<Of>(), each_handle_once<Of>(64), each_handle_once<Of>(1000), closes_all_or_none<Of>(), moved<Of>();
     waits<Of>(), ends_of_waits<Of>(), tasks<Of>();
 }

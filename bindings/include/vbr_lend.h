@@ -20,19 +20,19 @@
 
    What is done with a handle before it is given back comes before what the next borrower does (a release and an acquire). The handles
    and the lender stay where they are while there are loans. A lender takes 8 KiB, since its words lie apart. The number of a loan is
-   `mine - handle`: for data that lies beside each handle. A signal handler may borrow. Once all are given back, the handles are
-   closed by vbr_close as always, or go on over a fresh set by vbr_lender_renew. That doesn't wait for them either: a program calls it
-   again until all are back. Handles to a map are lent by the calls with `vbr_map_` in their names. It is written for GCC and Clang,
-   in C99 to C++23. */
+   `mine - handle`: for data that lies beside each handle. vbr_lender_count_about says how many keys are in while threads run. A signal
+   handler may borrow. Once all are given back, the handles are closed by vbr_close as always, or go on over a fresh set by
+   vbr_lender_renew. That doesn't wait for them either: a program calls it again until all are back. Handles to a map are lent by the
+   calls with `vbr_map_` in their names. It is written for GCC and Clang, in C99 to C++23. */
 #ifndef VBR_LEND_H
 #define VBR_LEND_H
 
 #include "vbr.h"
 
 /* 1: a program is ended by abort, with a sentence on standard error, if it gives a handle back that isn't on loan, or gives one to a
-   lender that didn't lend it. 0: neither is looked for, and a return is a store. It is 1 unless NDEBUG is defined, and a program may
-   define it otherwise ahead of this header; the files of a program may differ. A second return isn't found if the handle was lent
-   again in between: VBR_CHECKED of vbr.h finds what follows, two threads in one handle.
+   lender that didn't lend it. 0: neither is looked for. It is 1 unless NDEBUG is defined, and a program may define it otherwise ahead
+   of this header; the files of a program may differ. A second return isn't found if the handle was lent again in between: VBR_CHECKED
+   of vbr.h finds what follows, two threads in one handle.
 
        if (VBR_LEND_CHECKED) puts("a handle that is given back twice ends this program"); */
 #ifndef VBR_LEND_CHECKED
@@ -57,13 +57,16 @@
 #endif
 
 /* Whether a handle is lent, for vbr_lender_init_many: 128 bytes, so no two of them share a cache line, wherever they lie. All zero:
-   it isn't lent. `lent` is 1 during a loan, and 2 while a renewal has the handle.
+   it isn't lent. `lent` is 1 during a loan, and 2 while a renewal has the handle. `keys` is how many keys the handle has added, as of its
+   last return, and `carried` is how many of them its balance lacks since a renewal.
 
        static vbr_lend_word many_words[1000]; */
 typedef struct vbr_lend_word {
     char before[60];
     uint32_t lent;
-    char after[64];
+    char between[48]; /* so `keys` shares no cache line with `lent` either */
+    int64_t carried;
+    int64_t keys;
 } vbr_lend_word;
 
 /* Open handles of a set, and whether each is lent. All zero: no handles.
@@ -134,6 +137,19 @@ VBR_NODISCARD VBR_NONNULL static inline size_t vbr_lend_out(const vbr_lend_word 
     return out;
 }
 
+/* Tells how many keys a handle has added, given its balance, if that has changed. It is no part of the interface. */
+VBR_NONNULL static inline void vbr_lend_tells(vbr_lend_word *word, int64_t balance) VBR_NOEXCEPT {
+    if (word->carried + balance != __atomic_load_n(&word->keys, __ATOMIC_RELAXED)) __atomic_store_n(&word->keys, word->carried + balance, __ATOMIC_RELAXED);
+}
+
+/* What both lenders count: the keys, as of the last returns. It is no part of the interface. */
+VBR_NODISCARD VBR_NONNULL static inline int64_t vbr_lend_keys(const vbr_lend_word *words, size_t count) VBR_NOEXCEPT {
+    int64_t keys = 0;
+    size_t number;
+    for (number = 0; number < count; number++) keys += __atomic_load_n(&words[number].keys, __ATOMIC_RELAXED);
+    return keys;
+}
+
 #if VBR_LEND_CHECKED
 /* Ends the program. It is no part of the interface. */
 VBR_NONNULL static inline void vbr_lend_ends(const char *sentence, size_t length) VBR_NOEXCEPT {
@@ -141,18 +157,50 @@ VBR_NONNULL static inline void vbr_lend_ends(const char *sentence, size_t length
     abort();
 }
 
-/* What both lenders do in a checked program: gives back the handle that lies so many bytes after their first one, or ends the program.
-   It is no part of the interface. */
-VBR_NONNULL static inline void vbr_lend_checks_back(vbr_lend_word *words, size_t count, uintptr_t offset) VBR_NOEXCEPT {
-    static const char other[] = "vbr_lend.h: a handle is given back to a lender that didn't lend it: it isn't one of this lender's handles\n";
+/* Ends the program if a handle isn't on loan that is given back, by what is found in its word. It is no part of the interface. */
+static inline void vbr_lend_was_lent(uint32_t lent) VBR_NOEXCEPT {
     static const char twice[] = "vbr_lend.h: a handle is given back that isn't on loan: it was given back before, or another lender lent it\n";
+    if (lent != 1) vbr_lend_ends(twice, sizeof twice - 1);
+}
+
+/* Ends the program if this isn't the word of a handle that is on loan: the one that lies so many bytes after the first.
+   It is no part of the interface. */
+VBR_NONNULL static inline void vbr_lend_checks(const vbr_lend_word *words, size_t count, uintptr_t offset) VBR_NOEXCEPT {
+    static const char other[] = "vbr_lend.h: a handle is given back to a lender that didn't lend it: it isn't one of this lender's handles\n";
     if (offset % sizeof(vbr_handle) || offset / sizeof(vbr_handle) >= count) vbr_lend_ends(other, sizeof other - 1);
-    if (__atomic_exchange_n(&words[offset / sizeof(vbr_handle)].lent, 0, __ATOMIC_RELEASE) != 1) vbr_lend_ends(twice, sizeof twice - 1);
+    vbr_lend_was_lent(__atomic_load_n(&words[offset / sizeof(vbr_handle)].lent, __ATOMIC_RELAXED));
 }
 #endif
 
-/* Lends these `count` handles from now on: VBR_OK. VBR_BAD_COUNT: they are none, or more than VBR_MAX_FEW_HANDLES, and the lender stays as
-   it was. No thread may use the lender before. A program whose count is right for certain needn't look at the answer.
+/* What both lenders do last at a return. It is no part of the interface. */
+VBR_NONNULL static inline void vbr_lend_takes_back(vbr_lend_word *word) VBR_NOEXCEPT {
+#if VBR_LEND_CHECKED
+    vbr_lend_was_lent(__atomic_exchange_n(&word->lent, 0, __ATOMIC_RELEASE));
+#else
+    __atomic_store_n(&word->lent, 0, __ATOMIC_RELEASE);
+#endif
+}
+
+/* Begins to count the keys that handles have added. It is no part of the interface. */
+VBR_NONNULL static inline void vbr_lend_counts(vbr_lend_word *words, const vbr_handle *handles, size_t count) VBR_NOEXCEPT {
+    size_t number;
+    for (number = 0; number < count; number++) {
+        words[number].carried = 0;
+        __atomic_store_n(&words[number].keys, vbr_balance(&handles[number]), __ATOMIC_RELAXED);
+    }
+}
+
+/* Makes the keys those of the balances, by one store, so that no return changes them. It is no part of the interface. */
+VBR_NONNULL static inline void vbr_lend_recounts(vbr_lend_word *words, const vbr_handle *handles, size_t count) VBR_NOEXCEPT {
+    int64_t lacking = -vbr_lend_keys(words, count);
+    size_t number;
+    for (number = 0; number < count; number++) lacking += vbr_balance(&handles[number]);
+    if (lacking) __atomic_store_n(&words->keys, words->keys + lacking, __ATOMIC_RELAXED);
+    for (number = 0; number < count; number++) words[number].carried = words[number].keys - vbr_balance(&handles[number]);
+}
+
+/* Lends these `count` handles, open or empty, from now on: VBR_OK. VBR_BAD_COUNT: they are none, or more than VBR_MAX_FEW_HANDLES, and the
+   lender stays as it was. No thread may use the lender before. A program whose count is right for certain needn't look at the answer.
 
        vbr_lender lender = {0};
        if (vbr_lender_init(&lender, handle, 2) != VBR_OK) return 1; // VBR_BAD_COUNT: there are more than 64 */
@@ -161,6 +209,7 @@ VBR_NONNULL static inline vbr_answer vbr_lender_init(vbr_lender *lender, vbr_han
     lender->handles = handles;
     lender->count = count;
     lender->many = VBR_LENDS_NONE;
+    vbr_lend_counts(lender->own, handles, count);
     vbr_lend_gives_all(lender->own, count, &lender->lends);
     return VBR_OK;
 }
@@ -175,6 +224,7 @@ VBR_NONNULL static inline vbr_answer vbr_lender_init_many(vbr_lender *lender, vb
     lender->handles = handles;
     lender->count = count;
     lender->many = words;
+    vbr_lend_counts(words, handles, count);
     vbr_lend_gives_all(words, count, &lender->lends);
     return VBR_OK;
 }
@@ -193,11 +243,13 @@ VBR_NODISCARD VBR_NONNULL static inline vbr_handle *vbr_lend(vbr_lender *lender)
 
        vbr_give_back(&lender, mine); // and mine isn't used any more */
 VBR_NONNULL static inline void vbr_give_back(vbr_lender *lender, vbr_handle *handle) VBR_NOEXCEPT {
+    vbr_lend_word *word = VBR_LEND_WORDS(lender);
 #if VBR_LEND_CHECKED
-    vbr_lend_checks_back(VBR_LEND_WORDS(lender), lender->count, VBR_LEND_ADDRESS(handle) - VBR_LEND_ADDRESS(lender->handles));
-#else
-    __atomic_store_n(&VBR_LEND_WORDS(lender)[handle - lender->handles].lent, 0, __ATOMIC_RELEASE);
+    vbr_lend_checks(word, lender->count, VBR_LEND_ADDRESS(handle) - VBR_LEND_ADDRESS(lender->handles));
 #endif
+    word += handle - lender->handles;
+    vbr_lend_tells(word, vbr_balance(handle));
+    vbr_lend_takes_back(word);
 }
 
 /* Returns how many handles are on loan. It looks at each once, one after another. So while others borrow and give back the number is of
@@ -208,6 +260,27 @@ VBR_NONNULL static inline void vbr_give_back(vbr_lender *lender, vbr_handle *han
        size_t out = vbr_lender_on_loan(&lender); // 1: mine */
 VBR_NODISCARD VBR_NONNULL static inline size_t vbr_lender_on_loan(const vbr_lender *lender) VBR_NOEXCEPT {
     return vbr_lend_out(VBR_LEND_WORDS(lender), lender->count);
+}
+
+/* Returns how many keys are in, about: what the handles have added, less what they took out, as each was given back last. It is exact if
+   no handle is on loan during the call. Else it is off by at most the updates of some loans: by one for each of their calls that added a
+   key or took one out. These are the loans that began during the call, or weren't given back before it by the program's own
+   synchronisation. It is the number of keys if the lender has all handles of the set, opened before it was given them, and all calls are
+   made by loans. It goes on over renewals by vbr_lender_renew. It takes a load for each handle, from a cache line that a return writes if
+   the loan changed how many keys there are. It orders nothing, and is never negative.
+
+       int64_t about = vbr_lender_count_about(&lender); // 1: mine is back, and has added 5 */
+VBR_NODISCARD VBR_NONNULL static inline int64_t vbr_lender_count_about(const vbr_lender *lender) VBR_NOEXCEPT {
+    int64_t keys = vbr_lend_keys(VBR_LEND_WORDS(lender), lender->count);
+    return keys > 0 ? keys : 0;
+}
+
+/* Adds up how many keys are in anew, after a renewal that wasn't the lender's: by a thread that has all handles of the lender on loan, and
+   called vbr_renew_all or vbr_records_renew_all on them. Without it vbr_lender_count_about goes wrong then.
+
+       vbr_lender_recount(&lender); // all handles are on loan to this thread */
+VBR_NONNULL static inline void vbr_lender_recount(vbr_lender *lender) VBR_NOEXCEPT {
+    if (lender->count) vbr_lend_recounts(VBR_LEND_WORDS(lender), lender->handles, lender->count);
 }
 
 /* Lets the handles go on over a fresh set of this shape, as vbr_renew_all does, once none is on loan. From the first call on none is lent.
@@ -221,6 +294,7 @@ VBR_NODISCARD VBR_NONNULL static inline vbr_answer vbr_lender_renew(vbr_lender *
     if (!lender->count) return VBR_MISSING;
     if (!vbr_lend_takes_all(VBR_LEND_WORDS(lender), lender->count, &lender->lends)) return VBR_IN_USE;
     answer = vbr_renew_all(lender->handles, lender->count, slots, buckets, last_epoch);
+    vbr_lend_recounts(VBR_LEND_WORDS(lender), lender->handles, lender->count);
     vbr_lend_gives_all(VBR_LEND_WORDS(lender), lender->count, &lender->lends);
     return answer;
 }
@@ -232,6 +306,24 @@ VBR_NONNULL static inline void vbr_lender_lend_on(vbr_lender *lender) VBR_NOEXCE
     __atomic_store_n(&lender->lends, lender->count, __ATOMIC_RELAXED);
 }
 
+/* Begins to count the keys of a map that handles have added. It is no part of the interface. */
+VBR_NONNULL static inline void vbr_map_lend_counts(vbr_lend_word *words, const vbr_map_handle *handles, size_t count) VBR_NOEXCEPT {
+    size_t number;
+    for (number = 0; number < count; number++) {
+        words[number].carried = 0;
+        __atomic_store_n(&words[number].keys, vbr_map_balance(&handles[number]), __ATOMIC_RELAXED);
+    }
+}
+
+/* Makes the keys of a map those of the balances, by one store, so that no return changes them. It is no part of the interface. */
+VBR_NONNULL static inline void vbr_map_lend_recounts(vbr_lend_word *words, const vbr_map_handle *handles, size_t count) VBR_NOEXCEPT {
+    int64_t lacking = -vbr_lend_keys(words, count);
+    size_t number;
+    for (number = 0; number < count; number++) lacking += vbr_map_balance(&handles[number]);
+    if (lacking) __atomic_store_n(&words->keys, words->keys + lacking, __ATOMIC_RELAXED);
+    for (number = 0; number < count; number++) words[number].carried = words[number].keys - vbr_map_balance(&handles[number]);
+}
+
 /* Lends these `count` handles to a map from now on, as vbr_lender_init does for a set: VBR_OK or VBR_BAD_COUNT.
 
        vbr_map_lender lender = {0};
@@ -241,6 +333,7 @@ VBR_NONNULL static inline vbr_answer vbr_map_lender_init(vbr_map_lender *lender,
     lender->handles = handles;
     lender->count = count;
     lender->many = VBR_LENDS_NONE;
+    vbr_map_lend_counts(lender->own, handles, count);
     vbr_lend_gives_all(lender->own, count, &lender->lends);
     return VBR_OK;
 }
@@ -254,6 +347,7 @@ VBR_NONNULL static inline vbr_answer vbr_map_lender_init_many(vbr_map_lender *le
     lender->handles = handles;
     lender->count = count;
     lender->many = words;
+    vbr_map_lend_counts(words, handles, count);
     vbr_lend_gives_all(words, count, &lender->lends);
     return VBR_OK;
 }
@@ -270,11 +364,13 @@ VBR_NODISCARD VBR_NONNULL static inline vbr_map_handle *vbr_map_lend(vbr_map_len
 
        vbr_map_give_back(&lender, mine); // and mine isn't used any more */
 VBR_NONNULL static inline void vbr_map_give_back(vbr_map_lender *lender, vbr_map_handle *handle) VBR_NOEXCEPT {
+    vbr_lend_word *word = VBR_LEND_WORDS(lender);
 #if VBR_LEND_CHECKED
-    vbr_lend_checks_back(VBR_LEND_WORDS(lender), lender->count, VBR_LEND_ADDRESS(handle) - VBR_LEND_ADDRESS(lender->handles));
-#else
-    __atomic_store_n(&VBR_LEND_WORDS(lender)[handle - lender->handles].lent, 0, __ATOMIC_RELEASE);
+    vbr_lend_checks(word, lender->count, VBR_LEND_ADDRESS(handle) - VBR_LEND_ADDRESS(lender->handles));
 #endif
+    word += handle - lender->handles;
+    vbr_lend_tells(word, vbr_map_balance(handle));
+    vbr_lend_takes_back(word);
 }
 
 /* Returns how many handles to a map are on loan, as vbr_lender_on_loan does for a set.
@@ -282,6 +378,21 @@ VBR_NONNULL static inline void vbr_map_give_back(vbr_map_lender *lender, vbr_map
        size_t out = vbr_map_lender_on_loan(&lender); // 1: mine */
 VBR_NODISCARD VBR_NONNULL static inline size_t vbr_map_lender_on_loan(const vbr_map_lender *lender) VBR_NOEXCEPT {
     return vbr_lend_out(VBR_LEND_WORDS(lender), lender->count);
+}
+
+/* Returns how many keys are in a map, about, as vbr_lender_count_about does for a set.
+
+       int64_t about = vbr_map_lender_count_about(&lender); */
+VBR_NODISCARD VBR_NONNULL static inline int64_t vbr_map_lender_count_about(const vbr_map_lender *lender) VBR_NOEXCEPT {
+    int64_t keys = vbr_lend_keys(VBR_LEND_WORDS(lender), lender->count);
+    return keys > 0 ? keys : 0;
+}
+
+/* Adds up how many keys are in a map anew, as vbr_lender_recount does for a set.
+
+       vbr_map_lender_recount(&lender); // all handles are on loan to this thread */
+VBR_NONNULL static inline void vbr_map_lender_recount(vbr_map_lender *lender) VBR_NOEXCEPT {
+    if (lender->count) vbr_map_lend_recounts(VBR_LEND_WORDS(lender), lender->handles, lender->count);
 }
 
 /* As vbr_lender_renew, for handles to a map: each key keeps its value.
@@ -293,6 +404,7 @@ VBR_NODISCARD VBR_NONNULL static inline vbr_answer vbr_map_lender_renew(vbr_map_
     if (!lender->count) return VBR_MISSING;
     if (!vbr_lend_takes_all(VBR_LEND_WORDS(lender), lender->count, &lender->lends)) return VBR_IN_USE;
     answer = vbr_map_renew_all(lender->handles, lender->count, slots, buckets, last_epoch);
+    vbr_map_lend_recounts(VBR_LEND_WORDS(lender), lender->handles, lender->count);
     vbr_lend_gives_all(VBR_LEND_WORDS(lender), lender->count, &lender->lends);
     return answer;
 }

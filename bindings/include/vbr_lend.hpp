@@ -168,14 +168,22 @@ private:
     std::atomic<bool> is_seeded{false}, is_budgeted{false};
 };
 
-/* A handle, and whether it is lent, on cache lines of their own. */
+/* A handle, and whether it is lent, on cache lines of their own; and on another one how many keys the handle has added, as of its last
+   return. Its balance may lack some of them since a renewal: so many are carried. */
 template <class Handle>
 struct alignas(128) place {
     std::atomic<bool> is_lent{false};
     Handle handle;
+    std::int64_t carried = 0;
+    alignas(64) std::atomic<std::int64_t> keys{0};
 
     /* Whether the handle was free; it is lent then. */
     bool take() noexcept { return !is_lent.load(std::memory_order_relaxed) && !is_lent.exchange(true, std::memory_order_acquire); }
+
+    void tell_keys() noexcept {
+        const std::int64_t now = carried + handle.balance();
+        if (now != keys.load(std::memory_order_relaxed)) keys.store(now, std::memory_order_relaxed);
+    }
 };
 
 /* The handles of a lender, which stay where they are. */
@@ -191,6 +199,7 @@ public:
         places = std::make_unique<place_type[]>(handles.size());
         for (Handle &each : handles)
             if (each.is_open() && (kept == 0 || each.shared == places[0].handle.shared)) places[kept++].handle = std::move(each);
+        for (std::size_t i = 0; i < kept; i++) places[i].tell_keys();
         if (kept > 0) opened.set({places[0].handle.slots(), places[0].handle.buckets(), places[0].handle.last_epoch()});
         count.store(kept, std::memory_order_relaxed);
         lends.store(kept, std::memory_order_release);
@@ -202,6 +211,12 @@ public:
         for (std::size_t i = withheld.load(std::memory_order_relaxed); i < handles(); i++) out += places[i].is_lent.load(std::memory_order_relaxed);
         return out;
     }
+    /* How many keys are in, as of the last returns. */
+    std::int64_t count_about() const noexcept {
+        const std::int64_t keys = sum_of([](const place_type &each) { return each.keys.load(std::memory_order_relaxed); });
+        return keys > 0 ? keys : 0;
+    }
+
     const shared_shape &opened_with() const noexcept { return opened; }
     std::size_t number_of(const place_type *place) const noexcept { return static_cast<std::size_t>(place - places.get()); }
 
@@ -220,6 +235,7 @@ public:
     }
 
     void give_back(place_type &place) noexcept {
+        place.tell_keys();
         place.is_lent.store(false, std::memory_order_release);
         waiting.wake_one();
     }
@@ -267,6 +283,7 @@ public:
         if (handles() == 0) return refusal::no_handle;
         if (!mine.has_all()) return refusal::on_loan;
         result<void> told = renews(handles(), [this](std::size_t number) -> Handle & { return places[number].handle; });
+        recount();
         if (told) {
             opened.set(wanted);
             renewals.fetch_add(1, std::memory_order_relaxed);
@@ -275,6 +292,22 @@ public:
     }
 
 private:
+    template <class Number>
+    std::int64_t sum_of(const Number &number) const noexcept {
+        std::int64_t sum = 0;
+        for (std::size_t i = 0; i < handles(); i++) sum += number(places[i]);
+        return sum;
+    }
+
+    /* Makes the keys those of the balances, by one store, so that no return changes them: where all handles are with this thread. */
+    void recount() noexcept {
+        auto keys = [](const place_type &each) { return each.keys.load(std::memory_order_relaxed); };
+        auto balance = [](const place_type &each) { return each.handle.balance(); };
+        const std::int64_t lacking = sum_of(balance) - sum_of(keys);
+        if (lacking != 0) places[0].keys.store(keys(places[0]) + lacking, std::memory_order_relaxed);
+        for (std::size_t i = 0; i < handles(); i++) places[i].carried = keys(places[i]) - balance(places[i]);
+    }
+
     /* A renewal: where it has its turn it lends no handle, and takes each that is free. At its end all are lent again. */
     struct renewal {
         explicit renewal(lending &lender) noexcept : of(lender) {}
@@ -463,6 +496,16 @@ public:
 
            std::size_t out = lender.on_loan(); // 3: mine, waited and task */
     std::size_t on_loan() const noexcept { return all ? all->on_loan() : 0; }
+
+    /* How many keys are in, about: what the handles have added, less what they took out, as each was given back last. It is exact if no
+       handle is on loan during the call. Else it is off by at most the updates of some loans: by one for each of their calls that added a
+       key or took one out. These are the loans that began during the call, or weren't given back before it by the program's own
+       synchronisation. It is the number of keys if the lender has all handles of the set, and goes on over its renewals. It takes a load
+       for each handle, from a cache line that a return writes if the loan changed how many keys there are. It orders nothing, is never
+       negative, and 0 for a lender without handles.
+
+           std::int64_t about = lender.count_about(); // 1: all loans are back, and one has added 5 */
+    std::int64_t count_about() const noexcept { return all ? all->count_about() : 0; }
 
     /* What the set was opened with; 0 where it was given no handle.
 
