@@ -320,6 +320,12 @@ int main(int count, char **words) {
     CHECK(labs(hits(1, FEW_SLOTS, VBR_MAX_EPOCH, AMPLE) - plain_hits(FEW_SLOTS)) <= most_apart && full > 0);
     CHECK(labs(hits(4, SLOTS, VBR_MAX_EPOCH, AMPLE) - plain) <= most_apart);
     CHECK(labs(hits(4, SLOTS, 50, 16) - plain) <= most_apart && tired > 0 && renewals > 0);
+#ifdef VBR_STATS
+    vbr_stats told = vbr_stats_of_all();
+    printf("page cache in C: %llu calls yes, %llu no, %llu other; %llu out of steps, %llu without a slot, %llu with the epoch spent\n",
+           (unsigned long long)told.yes, (unsigned long long)told.no, (unsigned long long)told.other, (unsigned long long)told.out_of_steps,
+           (unsigned long long)told.no_slot, (unsigned long long)told.epoch_spent);
+#endif
     printf("page cache in C: passed, %ld of %ld requests are hits of a plain cache\n", plain, requests);
     return 0;
 }

@@ -1482,9 +1482,12 @@ VBR_NODISCARD vbr_answer vbr_map_report_slots(vbr_map_handle *handles, size_t co
 #if defined(VBR_CHECKED) && !defined(VBR_TSAN_H)
 #include "vbr_checked.h"
 #endif
+#ifdef VBR_STATS
+#include "vbr_stats.h"
+#endif
 
-/* The calls without a budget: they use their handle's, and go by vbr_tsan.h if a program is compiled for ThreadSanitizer, or by
-   vbr_checked.h if it defines VBR_CHECKED. */
+/* The calls without a budget: they use their handle's, and go by vbr_tsan.h if a program is compiled for ThreadSanitizer, by
+   vbr_checked.h if it defines VBR_CHECKED, and by vbr_stats.h if it defines VBR_STATS. */
 
 static inline vbr_answer vbr_insert(vbr_handle *handle, uint64_t key) VBR_NOEXCEPT {
     return vbr_insert_within(handle, key, vbr_steps_of(handle));
