@@ -23,6 +23,7 @@ const char *vbr_answer_text(int answer)
     case -12: return "a handle is missing";
     case -13: return "handles of different sets";
     case -14: return "a slot is in hand, or none is";
+    case -15: return "another opening than when the walk began";
     default: return "no answer of this library";
     }
 }

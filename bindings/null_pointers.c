@@ -18,7 +18,7 @@ typedef unsigned long word;
 /* A handle as vbr.h has it. */
 typedef struct handle {
     void *owned;
-    unsigned steps, in_call;
+    unsigned steps, in_call, opening;
 } handle;
 
 static void swap_owned(handle *one, handle *other)

@@ -34,13 +34,13 @@ static const word MAX_EPOCH = 549755813887;     /* so is this */
 /* A handle as vbr.h has it, and as it lies in a mapping, where it has lines of the cache of its own: its mark is stored at each call. */
 typedef struct plain {
     void *owned;
-    unsigned steps, in_call;
+    unsigned steps, in_call, opening;
 } plain;
 
 typedef struct handle {
     void *owned;
-    unsigned steps, in_call;
-    word unused[14];
+    unsigned steps, in_call, opening;
+    word unused[13];
 } handle;
 
 /* A block of a mapping: this line, and the bytes behind it. Whoever frees it stores one word, so a process that is killed there
@@ -222,7 +222,7 @@ static plain *gather(struct share *share)
 {
     for (word i = 0; i < share->count; i++) {
         if (!share->handles[i].owned) continue;
-        share->gathered[i] = (plain){share->handles[i].owned, share->handles[i].steps, 0};
+        share->gathered[i] = (plain){share->handles[i].owned, share->handles[i].steps, 0, share->handles[i].opening};
         share->handles[i].owned = 0;
     }
     return share->gathered;
@@ -233,6 +233,7 @@ static void spread(struct share *share)
 {
     for (word i = 0; i < share->count; i++) {
         if (!share->gathered[i].owned) continue;
+        share->handles[i].opening = share->gathered[i].opening;
         share->handles[i].owned = share->gathered[i].owned;
         share->gathered[i].owned = 0;
     }

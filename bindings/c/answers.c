@@ -26,7 +26,8 @@ static void words(void) {
     for (int i = VBR_MIXED; i <= VBR_OK; i++) CHECK(!strcmp(vbr_answer_text((vbr_answer)i), texts[-i]));
     CHECK(!strcmp(vbr_answer_text(VBR_YES), "yes") && !strcmp(vbr_answer_text(VBR_OTHER), "another value"));
     CHECK(!strcmp(vbr_answer_text(VBR_HELD), "a slot is in hand, or none is"));
-    CHECK(!strcmp(vbr_answer_text((vbr_answer)-15), "no answer of this library"));
+    CHECK(!strcmp(vbr_answer_text(VBR_RESHAPED), "another opening than when the walk began"));
+    CHECK(!strcmp(vbr_answer_text((vbr_answer)-16), "no answer of this library"));
 }
 
 /* Handles of two sets, and an empty one, given up at once: the one that is left of the second set is the last, and keeps its budget. */

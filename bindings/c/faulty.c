@@ -28,6 +28,8 @@
    24 a renewal loses a key
    25 a balance now and then is one too great
    26 a handle that stands twice in place of all is taken for two
+   27 a walk goes on over a renewal
+   28 a walk now and then is refused as if the set had been renewed
 
    One thread alone can't see the seventh and the twelfth, and four threads don't look for the eighth, ninth and tenth. The
    twelfth leaves each thread's own answers right: it shows only where the program orders calls of several. So does the
@@ -190,7 +192,12 @@ vbr_answer WRAP(next_within)(a_handle *handle, vbr_cursor *cursor, an_item *item
     an_item old = *item;
     make_late();
     if (fault() == 16) return next_found_before(handle, cursor, item, budget);
+    if (now(28)) return VBR_RESHAPED;
     vbr_answer answer = REAL(next_within)(handle, cursor, item, budget);
+    if (answer == VBR_RESHAPED && fault() == 27) {
+        cursor->opening = handle->opening;
+        return REAL(next_within)(handle, cursor, item, budget);
+    }
     if (answer == VBR_YES && now(14)) {
         *item = old;
         return REAL(next_within)(handle, cursor, item, budget);

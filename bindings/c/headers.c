@@ -27,7 +27,7 @@ static const char *text_of(vbr_answer answer) {
     switch (answer) {
     case VBR_NO: case VBR_YES: case VBR_OTHER: case VBR_OUT_OF_STEPS: case VBR_NO_SLOT: case VBR_EPOCH_SPENT: case VBR_NO_HANDLE:
     case VBR_IN_USE: case VBR_BAD_SHAPE: case VBR_BAD_COUNT: case VBR_NO_MEMORY: case VBR_LOST: case VBR_BAD_KEYS:
-    case VBR_NO_ROOM: case VBR_MISSING: case VBR_MIXED: case VBR_HELD: return vbr_answer_text(answer);
+    case VBR_NO_ROOM: case VBR_MISSING: case VBR_MIXED: case VBR_HELD: case VBR_RESHAPED: return vbr_answer_text(answer);
     }
     return "another";
 }
@@ -42,8 +42,8 @@ static int check(void) {
     vbr_answer answers[1];
     vbr_cursor cursor = VBR_CURSOR_BEGIN;
     THROWS_NONE(vbr_has_within(&none, 1, 8), vbr_drop(&none));
-    CHECK(sizeof(vbr_handle) == 16 && offsetof(vbr_handle, in_call) == 12);
-    CHECK(sizeof(vbr_cursor) == 16 && sizeof(vbr_answer) == 4 && sizeof(vbr_entry) == 16 && sizeof(vbr_report) == 24);
+    CHECK(sizeof(vbr_handle) == 24 && offsetof(vbr_handle, in_call) == 12 && offsetof(vbr_handle, opening) == 16);
+    CHECK(sizeof(vbr_cursor) == 16 && offsetof(vbr_cursor, opening) == 4 && sizeof(vbr_answer) == 4 && sizeof(vbr_entry) == 16 && sizeof(vbr_report) == 24);
     CHECK(VBR_VERSION == 1000000 * VBR_VERSION_MAJOR + 1000 * VBR_VERSION_MINOR + VBR_VERSION_PATCH && vbr_version() == VBR_VERSION);
     CHECK(VBR_AMPLE_STEPS >= 100000 + (1 << 24) / 64);
     CHECK(VBR_MAX_FEW_HANDLES == 64 && VBR_MAX_SLOTS == 2147483647 && VBR_MAX_BUCKETS == 2147483648 && VBR_MAX_EPOCH == (UINT64_C(1) << 39) - 1);
@@ -124,7 +124,7 @@ static int check_maps(void) {
     vbr_answer answers[1];
     vbr_cursor cursor = VBR_CURSOR_BEGIN;
     THROWS_NONE(vbr_map_has_within(&none, 1, 8), vbr_map_drop(&none));
-    CHECK(sizeof(vbr_map_handle) == 16 && offsetof(vbr_map_handle, in_call) == 12);
+    CHECK(sizeof(vbr_map_handle) == 24 && offsetof(vbr_map_handle, in_call) == 12 && offsetof(vbr_map_handle, opening) == 16);
     CHECK(vbr_map_open(map, HANDLES, SLOTS, KEYS, VBR_MAX_EPOCH) == VBR_OK);
     CHECK(vbr_map_epoch(&map[0]) == 1 && vbr_map_last_epoch(&map[0]) == VBR_MAX_EPOCH);
     CHECK(vbr_map_slots(&map[0]) == SLOTS && vbr_map_buckets(&map[0]) == KEYS && vbr_map_steps_of(&map[0]) == VBR_AMPLE_STEPS);

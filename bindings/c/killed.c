@@ -95,6 +95,11 @@ static int32_t ask(vbr_map_handle *m, struct call *c, uint32_t budget, vbr_curso
             ++*met;
             return VBR_OUT_OF_STEPS; /* no call on a key of the search */
         }
+        if (told == VBR_RESHAPED) { /* the map was renewed since the walk began: begin anew */
+            *met = 0;
+            *cursor = (vbr_cursor)VBR_CURSOR_BEGIN;
+            return VBR_OUT_OF_STEPS;
+        }
         if (told == VBR_NO) { /* the end: each key that nobody touches was given once */
             if (*met != STILLS) atomic_fetch_add(&board->faults, 1);
             *met = 0;

@@ -209,6 +209,10 @@ static void checkpoint(struct worker *w) {
             steps = twice(w, steps); /* the cursor keeps how far the walk has come */
             continue;
         }
+        if (given == VBR_RESHAPED) {
+            cursor = (vbr_cursor)VBR_CURSOR_BEGIN; /* the map was renewed since the walk began */
+            continue;
+        }
         struct frame *f = pin(&frames[it.value], it.key) ? &frames[it.value] : find(w, it.key);
         if (!f) continue; /* it has left the map since, and was written back before */
         write_back(w, f);

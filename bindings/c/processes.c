@@ -71,7 +71,11 @@ static int deaths(void) {
         CHECK(vbr_map_give_slots_back(&handle[1].map) == (in_call ? 0 : 63));
     }
     CHECK(vbr_map_get(&handle[2].map, 2, NULL) == VBR_YES && vbr_map_insert(&handle[1].map, 3, 5) == VBR_YES);
+    vbr_cursor cursor = VBR_CURSOR_BEGIN;
+    vbr_entry given = {77, 78};
+    CHECK(vbr_map_next(&handle[2].map, &cursor, &given) == VBR_YES && given.key >= 1 && given.key <= 3 && given.value == 5);
     vbr_answer renewed = vbr_renew_shared(handle, 10 + 3 * 64 + 66, 16, VBR_MAX_EPOCH); // VBR_OK: no slot is lost any more
+    CHECK(vbr_map_next(&handle[2].map, &cursor, &given) == VBR_RESHAPED && vbr_map_next(&handle[0].map, &cursor, &given) == VBR_RESHAPED);
     CHECK(renewed == VBR_OK && vbr_map_balance(&handle[0].map) == 3 && vbr_map_get(&handle[1].map, 3, NULL) == VBR_YES);
     /* they are moved once, and the calls of sets aren't for a map */
     vbr_answer reported = vbr_map_report_all(vbr_map_gather(handle), 3, entries, 8, &report); // the handles stay gathered
@@ -131,10 +135,13 @@ static int renewed_so(void) {
     pid_t child = fork();
     if (!child) _exit(vbr_has(&handle[1].set, 1) == VBR_YES && vbr_insert(&handle[1].set, 2) == VBR_YES ? 0 : 1);
     CHECK(ended_well(child) && vbr_has(&handle[0].set, 2) == VBR_YES);
+    vbr_cursor cursor = VBR_CURSOR_BEGIN;
+    uint64_t key;
+    CHECK(vbr_next(&handle[0].set, &cursor, &key) == VBR_YES);
     CHECK(vbr_renew_all_seeded(vbr_gather(handle), 2, 256, 16, VBR_MAX_EPOCH, 7) == VBR_OK);
     vbr_spread(handle);
     child = fork();
-    if (!child) _exit(vbr_remove(&handle[1].set, 2) == VBR_YES ? 0 : 1);
+    if (!child) _exit(vbr_next(&handle[1].set, &cursor, &key) == VBR_RESHAPED && vbr_remove(&handle[1].set, 2) == VBR_YES ? 0 : 1);
     CHECK(ended_well(child) && vbr_has(&handle[0].set, 2) == VBR_NO && vbr_has(&handle[0].set, 1) == VBR_YES);
     vbr_end_all(vbr_gather(handle), 2);
     vbr_unmap_shared(handle);

@@ -12,7 +12,7 @@ enum { THREADS = 4, ROUNDS = 20000, CROWD = 2000 };
 static int are(vbr_stats told, uint64_t yes, uint64_t no, uint64_t other, uint64_t out_of_steps, uint64_t no_slot, uint64_t epoch_spent, uint64_t held,
                uint64_t no_handle) {
     return told.yes == yes && told.no == no && told.other == other && told.out_of_steps == out_of_steps && told.no_slot == no_slot &&
-           told.epoch_spent == epoch_spent && told.held == held && told.no_handle == no_handle;
+           told.epoch_spent == epoch_spent && told.held == held && told.reshaped == 0 && told.no_handle == no_handle;
 }
 
 static int of_sets(void) {
@@ -43,11 +43,15 @@ static int of_maps(void) {
     static vbr_map_handle map[1];
     static const uint64_t wanted[2] = {1, 2};
     vbr_found found[2];
+    vbr_cursor cursor = VBR_CURSOR_BEGIN;
+    vbr_entry entry;
     CHECK(vbr_map_open(map, 1, 1, 1, 1) == VBR_OK && vbr_map_insert(&map[0], 1, 10) == VBR_YES);
     CHECK(vbr_map_compare_exchange(&map[0], 1, 11, 12, NULL) == VBR_OTHER && vbr_map_remove_if(&map[0], 1, 10, NULL) == VBR_YES);
     CHECK(vbr_map_insert(&map[0], 1, 10) == VBR_EPOCH_SPENT);
     vbr_map_get_all(&map[0], wanted, 2, found);
     CHECK(are(vbr_map_stats_of(map, 1), 2, 2, 1, 0, 0, 1, 0, 0));
+    CHECK(vbr_map_next(&map[0], &cursor, &entry) == VBR_NO && vbr_map_renew_all(map, 1, 2, 2, 2) == VBR_OK);
+    CHECK(vbr_map_next(&map[0], &cursor, &entry) == VBR_RESHAPED && vbr_map_stats_of(map, 1).reshaped == 1);
     vbr_map_drop(map);
     return 0;
 }

@@ -162,7 +162,8 @@ static void inserted_on_the_way(void) {
     CHECK(close_both(handle, 8));
 }
 
-/* Any bytes are a cursor, and so is one of another set, which is closed by now: the walk from there gives what is after it. */
+/* Any bytes are a cursor. With the number of another opening it is refused, as that of a set which is closed by now; without one the walk
+   from there gives what is after it. */
 static void other_cursors(void) {
     static const uint64_t after[7] = {7, 4, 1, 9, 6, 3, 8}; /* of eight buckets 7 is in the third, 4 in the fourth, 1 and 9 in the fifth, and one is in each of the last */
     vbr_handle handle[2] = {{0}};
@@ -170,10 +171,14 @@ static void other_cursors(void) {
     uint64_t key = 77;
     memset(&any, 0xff, sizeof any);
     CHECK(vbr_open_seeded(handle, 2, SLOTS, 4, VBR_MAX_EPOCH, 0, all, KEYS) == VBR_OK);
+    CHECK(vbr_next(&handle[0], &any, &key) == VBR_RESHAPED && key == 77);
+    any.opening = 0;
     CHECK(vbr_next(&handle[0], &any, &key) == VBR_NO && vbr_next_within(&handle[0], &any, &key, 0) == VBR_NO && key == 77);
     for (int i = 0; i < 8; i++) CHECK(vbr_next(&handle[0], &cursor, &key) == VBR_YES && key == by_bucket[i]);
     CHECK(close_both(handle, KEYS)); /* the cursor is after 6, in the third bucket */
     CHECK(vbr_open_seeded(handle, 2, SLOTS, 2, VBR_MAX_EPOCH, 0, all, KEYS) == VBR_OK);
+    CHECK(vbr_next(&handle[0], &cursor, &key) == VBR_RESHAPED);
+    cursor.opening = 0;
     CHECK(!gives_all(&handle[0], cursor, NULL, 0) && close_both(handle, KEYS));
     CHECK(vbr_open_seeded(handle, 2, SLOTS, 8, VBR_MAX_EPOCH, 0, all, KEYS - 1) == VBR_OK);
     CHECK(!gives_all(&handle[0], cursor, after, 7) && close_both(handle, KEYS - 1));

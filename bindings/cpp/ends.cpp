@@ -122,9 +122,43 @@ static int loans() {
     return 0;
 }
 
+// A walk over a renewal, with more buckets and with fewer: each call from its cursor is refused, a range throws that, and one that begins
+// anew gives each key once.
+template <class Of>
+static void renewals_while_walking() {
+    for (std::uint32_t buckets : {1u, 16u, 1024u}) {
+        vbr::shape other = vbr::shape::for_keys(64, 2);
+        other.buckets = buckets;
+        auto handles = Of::open(vbr::shape::for_keys(64, 2), 2).value();
+        for (std::uint64_t key = 0; key < 40; key++) CHECK(added(handles[key % 2], key));
+        vbr::cursor from;
+        CHECK(handles[0].next(from).value() && handles[1].next_at(from).value());
+        std::size_t given = 0;
+        vbr::refusal why{};
+        try {
+            for (auto each : walk(handles[0])) {
+                CHECK(key_of(each) < 40);
+                if (++given == 5) CHECK(Of::handle::renew_all(handles, other));
+            }
+        } catch (const vbr::refused &refused) {
+            why = refused.error();
+        }
+        CHECK(given == 5 && why == vbr::refusal::reshaped);
+        for (auto &mine : handles) {
+            CHECK(mine.next(from) == vbr::refusal::reshaped && mine.next_at(from) == vbr::refusal::reshaped);
+            std::vector<bool> walked(40);
+            for (auto each : walk(mine)) {
+                CHECK(key_of(each) < 40 && !walked[key_of(each)]);
+                walked[key_of(each)] = true;
+            }
+            CHECK(walked == std::vector<bool>(40, true));
+        }
+    }
+}
+
 template <class Of>
 static int of_a_kind() {
-    ends<Of>(), exceptions<Of>();
+    ends<Of>(), exceptions<Of>(), renewals_while_walking<Of>();
     return loans<Of>();
 }
 

@@ -340,7 +340,7 @@ static void lends_none_meanwhile() {
 // While eight threads each add a key by each of their loans, how many keys are in is no less than the loans that were back before it is
 // asked for, and no more than those that have begun afterwards; so over two renewals with growth. At rest it is what a report says.
 template <class Of>
-static int counts_keys() {
+static void counts_keys() {
     const std::uint64_t each = 1000, before = 7;
     const std::int64_t all = 8 * 1000 + 7;
     auto lender = lending<Of>(3);
@@ -370,7 +370,6 @@ static int counts_keys() {
     CHECK(wrong == 0 && lender.count_about() == all && lender.renew(vbr::shape{1, 1, 1}) == vbr::refusal::no_room);
     CHECK(lender.count_about() == all && Of::takes(*lender.lend(), 0));
     CHECK(lender.count_about() == all - 1 && Of::keys(lender.close()).size() == 8 * each + before - 1);
-    return 0;
 }
 
 // Eight threads borrow three handles, in each way there is, and have loans of each other; two threads renew the set all the while.

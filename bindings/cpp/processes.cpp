@@ -118,7 +118,10 @@ static void calls() {
     }
     auto told = all.report().value();
     CHECK((keys_of(told) == std::vector<std::uint64_t>{101, 102, 103}) && told.epoch >= 1);
+    vbr::cursor from;
+    CHECK(mine.turn().next(from).value() && mine.turn().next(from).value()); // in two turns
     CHECK(all.renew(vbr::shape_for_processes(60, 3, 1)) && mine.turn().slots() == 60 + 3 * 64 + 66 && mine.turn().has(103) == true);
+    CHECK(mine.turn().next(from) == vbr::refusal::reshaped);
     CHECK(ends_well([&] { // any process renews and reports
         CHECK(all.renew(vbr::shape_for_processes(64, 3, 1)) && keys_of(all.report().value()).size() == 3);
     }));

@@ -170,8 +170,10 @@ typedef enum vbr_answer {
     VBR_MISSING = -12,     /* not all handles that were opened, each once; they stay as they were */
     VBR_MIXED = -13,       /* handles of different sets; they stay as they were. A probe finds it, which is tested and
                               not proved: do not rely on it */
-    VBR_HELD = -14         /* a slot is in hand, and the call would take another one; or the call asks for one, and none
+    VBR_HELD = -14,        /* a slot is in hand, and the call would take another one; or the call asks for one, and none
                               is in hand; nothing was done */
+    VBR_RESHAPED = -15     /* the walk began on another opening: the set was renewed since, or the handle was opened anew;
+                              nothing is given, and the cursor stays; begin anew, from VBR_CURSOR_BEGIN */
 } vbr_answer;
 #ifdef __cplusplus
 static_assert(sizeof(vbr_answer) == 4, "the library answers by 32 bits");
@@ -195,7 +197,8 @@ VBR_NODISCARD const char *vbr_answer_text(vbr_answer answer) VBR_NOEXCEPT;
    for VBR_AMPLE_STEPS. A program sets `steps` before the opening or between two calls, and no call writes it. `in_call` marks a
    handle that processes share: vbr_begin and vbr_end of vbr_shared.h set and clear it, and in other handles it stays 0. If a program
    defines VBR_CHECKED ahead of this header, each call marks its handle there, and one by a handle that is marked ends the program by
-   abort, with a sentence: two threads use the handle at a time. vbr_checked.h says more. `owned` belongs to the library.
+   abort, with a sentence: two threads use the handle at a time. vbr_checked.h says more. `owned` and `opening`
+   belong to the library.
 
        vbr_handle handle[2] = {{0}};
        handle[1].steps = 5000; // the calls by this handle make at most so many steps */
@@ -203,6 +206,7 @@ typedef struct vbr_handle {
     void *owned;
     uint32_t steps;
     uint32_t in_call;
+    uint32_t opening;
 } vbr_handle;
 
 /* Returns the budget of a handle's calls.
@@ -387,15 +391,17 @@ void vbr_has_all_within(vbr_handle *handle, const uint64_t *keys, size_t count, 
 /* Walks */
 
 /* Where a walk stands: before the first key, or after the one that was given last. Its 16 bytes may be copied and kept, and a walk
-   goes on from a copy as well. They mean something for one shape. With another handle, a set of another shape, or any other bytes
-   in it, the walk continues as a different one, and nothing is unsafe.
+   goes on from a copy as well, and by any handle of the set. The first call notes of which opening the handle is; once the set is
+   renewed, calls answer VBR_RESHAPED. With a handle of another set, or any other bytes in it, the walk is refused or continues as a
+   different one, and nothing is unsafe.
 
        vbr_cursor cursor = VBR_CURSOR_BEGIN; // before the first key */
 typedef struct vbr_cursor {
     uint32_t bucket; /* these are the library's */
+    uint32_t opening;
     uint64_t from;
 } vbr_cursor;
-#define VBR_CURSOR_BEGIN {0, 0}
+#define VBR_CURSOR_BEGIN {0, 0, 0}
 
 /* Gives the next key of a walk, by loads alone.
    Parameters: handle.
@@ -404,7 +410,7 @@ typedef struct vbr_cursor {
    Returns:
    - VBR_YES: it was there during the call.
    - VBR_NO: the walk is at its end: no key is left.
-   - VBR_NO_HANDLE.
+   - VBR_NO_HANDLE, VBR_RESHAPED.
    - VBR_OUT_OF_STEPS: call again, and with twice the budget if that may have been too small.
    Leaves: the cursor after the key that was given, and at VBR_OUT_OF_STEPS as far as it has come. After the last node of a bucket
    it is before the next bucket, so a walk doesn't enter the bucket again.
@@ -574,7 +580,8 @@ VBR_NODISCARD vbr_answer vbr_report_all(vbr_handle *handles, size_t count, uint6
    - VBR_NO_ROOM: there are more keys than slots, which the handles' balances show if there is no memory for a report.
    - VBR_NO_MEMORY.
    Leaves: the set at epoch 1, with the seed that it had. The first handle's balance is the number of keys, and the others' is 0.
-   Each handle has taken its reserve. A refusal leaves the handles as they were, and they go on.
+   Walks that have begun are refused from then on, by VBR_RESHAPED. Each handle has taken its reserve. A refusal leaves the handles
+   as they were, and they go on.
    Notes: It takes the memory of a report and of an opening with the keys while the old set is still there, whose memory is freed
    afterwards.
 
@@ -621,6 +628,7 @@ typedef struct vbr_map_handle {
     void *owned;
     uint32_t steps;
     uint32_t in_call;
+    uint32_t opening;
 } vbr_map_handle;
 
 /* Returns the budget of a handle's calls.
@@ -949,7 +957,7 @@ void vbr_map_get_all_within(vbr_map_handle *handle, const uint64_t *keys, size_t
    Returns:
    - VBR_YES: the two were in the map together at a moment of the call.
    - VBR_NO: the walk is at its end: no key is left.
-   - VBR_NO_HANDLE.
+   - VBR_NO_HANDLE, VBR_RESHAPED.
    - VBR_OUT_OF_STEPS: call again, and with twice the budget if that may have been too small.
    Leaves: the cursor after the key that was given, and at VBR_OUT_OF_STEPS as far as it has come.
    Notes: The value takes two steps more than a key by vbr_next.
@@ -1104,7 +1112,8 @@ VBR_NODISCARD vbr_answer vbr_map_report_all(vbr_map_handle *handles, size_t coun
    - VBR_NO_ROOM: there are more keys than slots, which the handles' balances show if there is no memory for a report.
    - VBR_NO_MEMORY.
    Leaves: the map at epoch 1, with the seed that it had. The first handle's balance is the number of keys, and the others' is 0.
-   Each handle has taken its reserve. A refusal leaves the handles as they were, and they go on.
+   Walks that have begun are refused from then on, by VBR_RESHAPED. Each handle has taken its reserve. A refusal leaves the handles
+   as they were, and they go on.
    Notes: It takes the memory of a report and of an opening with the entries while the old map is still there, whose memory is freed
    afterwards.
 
@@ -1407,7 +1416,7 @@ VBR_NODISCARD vbr_answer vbr_map_remove_entry_within(vbr_map_handle *handle, uin
    Returns:
    - VBR_YES: it stood there at a moment of the call.
    - VBR_NO: the walk is at its end.
-   - VBR_NO_HANDLE, VBR_OUT_OF_STEPS.
+   - VBR_NO_HANDLE, VBR_RESHAPED, VBR_OUT_OF_STEPS.
    Leaves: what vbr_next leaves. Its steps are those of vbr_next.
 
        do {
@@ -1430,7 +1439,7 @@ VBR_NODISCARD vbr_answer vbr_next_at_within(vbr_handle *handle, vbr_cursor *curs
    Returns:
    - VBR_YES: it stood there, and had this value, at a moment of the call.
    - VBR_NO: the walk is at its end.
-   - VBR_NO_HANDLE, VBR_OUT_OF_STEPS.
+   - VBR_NO_HANDLE, VBR_RESHAPED, VBR_OUT_OF_STEPS.
    Leaves: what vbr_map_next leaves. Its steps are those of vbr_map_next.
 
        do {

@@ -176,8 +176,10 @@ enum class [[nodiscard]] refusal : std::int32_t {
                                         Of open_shared_in: the file is too short, and nothing was done */
     missing = VBR_MISSING,           /* not all handles that were opened, each once; they stay as they were */
     mixed = VBR_MIXED,               /* of all handles: two of them are of different sets; they stay as they were */
-    held = VBR_HELD                  /* a slot is in hand, and the call would take another one; or the call asks for one, and none is in
+    held = VBR_HELD,                 /* a slot is in hand, and the call would take another one; or the call asks for one, and none is in
                                         hand; nothing was done; of a call by a held slot, it isn't this handle's */
+    reshaped = VBR_RESHAPED          /* the walk began on another opening: the set was renewed since, or the handle was opened anew;
+                                        nothing is given, and the cursor stays; begin anew, from VBR_CURSOR_BEGIN */
 };
 
 /* A refusal in words.
@@ -199,6 +201,7 @@ constexpr const char *to_string(refusal why) noexcept {
     case refusal::missing: return "handles are missing";
     case refusal::mixed: return "handles are of different sets";
     case refusal::held: return "a slot is in hand, or none is";
+    case refusal::reshaped: return "the set was renewed since the walk began";
     }
     return "not refused";
 }

@@ -205,7 +205,7 @@ VBR_NODISCARD VBR_NONNULL static inline vbr_answer vbr_map_records_read(vbr_map_
    Returns:
    - VBR_YES: the key had this entry and this record at a moment of the call.
    - VBR_NO: the walk is at its end.
-   - VBR_NO_HANDLE, VBR_OUT_OF_STEPS.
+   - VBR_NO_HANDLE, VBR_RESHAPED, VBR_OUT_OF_STEPS.
    Leaves: what vbr_next leaves.
 
        do {
@@ -235,7 +235,7 @@ VBR_NODISCARD VBR_NONNULL static inline vbr_answer vbr_records_next(vbr_handle *
    Returns:
    - VBR_YES: the key had this entry and this record at a moment of the call.
    - VBR_NO: the walk is at its end.
-   - VBR_NO_HANDLE, VBR_OUT_OF_STEPS.
+   - VBR_NO_HANDLE, VBR_RESHAPED, VBR_OUT_OF_STEPS.
    Leaves: what vbr_map_next leaves.
 
        do {

@@ -46,7 +46,7 @@ typedef union vbr_shared_handle {
     vbr_map_handle map;
     struct {
         void *owned;
-        uint32_t steps, in_call;
+        uint32_t steps, in_call, opening;
     } both;
     unsigned char lines[128];
 } vbr_shared_handle;

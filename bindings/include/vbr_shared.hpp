@@ -134,6 +134,7 @@ private:
         detail::begin_turn(*of);
         this->raw.owned = of->both.owned;
         this->raw.steps = of->both.steps;
+        this->raw.opening = of->both.opening;
     }
 
     vbr_shared_handle *of;

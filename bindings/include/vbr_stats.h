@@ -26,14 +26,14 @@ extern "C" {
 
 /* How many calls got each answer. VBR_NO_HANDLE is counted by `no_handle`, and the others by the counters of their names. */
 typedef struct vbr_stats {
-    uint64_t yes, no, other, out_of_steps, no_slot, epoch_spent, held, no_handle;
+    uint64_t yes, no, other, out_of_steps, no_slot, epoch_spent, held, reshaped, no_handle;
 } vbr_stats;
 
 /* The counts of a handle, and those of the handles that have no line. */
 typedef struct vbr_stats_line {
     const void *handle;
     vbr_stats counts;
-    char after[56];
+    char after[48];
 } vbr_stats_line;
 #define VBR_STATS_LINES 1024u
 __attribute__((weak, aligned(128))) vbr_stats_line vbr_stats_lines[VBR_STATS_LINES + 1];
@@ -64,6 +64,7 @@ static inline uint64_t *vbr_stats_counter(vbr_stats *counts, vbr_answer answer) 
     case VBR_NO_SLOT: return &counts->no_slot;
     case VBR_EPOCH_SPENT: return &counts->epoch_spent;
     case VBR_HELD: return &counts->held;
+    case VBR_RESHAPED: return &counts->reshaped;
     default: return &counts->no_handle;
     }
 }
@@ -85,12 +86,13 @@ static inline void vbr_stats_adds(vbr_stats *sum, const vbr_stats_line *line) VB
     sum->no_slot += __atomic_load_n(&line->counts.no_slot, __ATOMIC_RELAXED);
     sum->epoch_spent += __atomic_load_n(&line->counts.epoch_spent, __ATOMIC_RELAXED);
     sum->held += __atomic_load_n(&line->counts.held, __ATOMIC_RELAXED);
+    sum->reshaped += __atomic_load_n(&line->counts.reshaped, __ATOMIC_RELAXED);
     sum->no_handle += __atomic_load_n(&line->counts.no_handle, __ATOMIC_RELAXED);
 }
 
 /* Adds up the counts of `count` handles of either kind, which lie side by side from the first on. */
 static inline vbr_stats vbr_stats_sum(const char *handles, size_t count) VBR_NOEXCEPT {
-    vbr_stats sum = {0, 0, 0, 0, 0, 0, 0, 0};
+    vbr_stats sum = {0, 0, 0, 0, 0, 0, 0, 0, 0};
     for (size_t i = 0; i < count; i++) {
         const vbr_stats_line *line = vbr_stats_line_of(&handles[i * sizeof(vbr_handle)], 0);
         if (line != &vbr_stats_lines[VBR_STATS_LINES]) vbr_stats_adds(&sum, line);
@@ -117,7 +119,7 @@ VBR_NODISCARD VBR_NONNULL static inline vbr_stats vbr_map_stats_of(const vbr_map
 
        vbr_stats told = vbr_stats_of_all(); */
 VBR_NODISCARD static inline vbr_stats vbr_stats_of_all(void) VBR_NOEXCEPT {
-    vbr_stats sum = {0, 0, 0, 0, 0, 0, 0, 0};
+    vbr_stats sum = {0, 0, 0, 0, 0, 0, 0, 0, 0};
     for (size_t i = 0; i <= VBR_STATS_LINES; i++) vbr_stats_adds(&sum, &vbr_stats_lines[i]);
     return sum;
 }

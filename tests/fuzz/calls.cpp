@@ -263,7 +263,7 @@ struct Model {
             uint64_t empty = (list == lists.end() ? buckets : list->first) - cursor.bucket;
             if (empty > 0) {
                 uint64_t passed = steps.take_threes(empty);
-                if (passed > 0) cursor = {static_cast<uint32_t>(cursor.bucket + passed), 0};
+                if (passed > 0) cursor = {static_cast<uint32_t>(cursor.bucket + passed), 0, 0};
                 if (passed < empty) return {VBR_OUT_OF_STEPS, 0, cursor, steps.needed};
                 continue;
             }
@@ -276,7 +276,7 @@ struct Model {
             }
             if (takes && marks > 0) takes = steps.took_three();
             if (!takes) return {VBR_OUT_OF_STEPS, 0, cursor, steps.needed};
-            cursor = {cursor.bucket + 1, 0};
+            cursor = {cursor.bucket + 1, 0, 0};
         }
         return {VBR_NO, 0, cursor, steps.needed};
     }
@@ -284,7 +284,7 @@ struct Model {
     // Where the cursor stands after a key: before the next bucket where its node is the last of its list, or no number is greater.
     vbr_cursor after(uint64_t key, bool is_last) const {
         uint32_t bucket = static_cast<uint32_t>(bucket_of(key));
-        return is_last || key == UINT64_MAX ? vbr_cursor{bucket + 1, 0} : vbr_cursor{bucket, key + 1};
+        return is_last || key == UINT64_MAX ? vbr_cursor{bucket + 1, 0, 0} : vbr_cursor{bucket, 0, key + 1};
     }
 };
 
@@ -312,7 +312,8 @@ private:
     std::shared_ptr<Model> models[CELLS];
     int64_t balances[CELLS] = {};
     uint32_t budgets[CELLS] = {};  // what the program wrote into each handle, which no call changes
-    vbr_cursor cursors[CELLS] = {};  // of each cell's walk, which goes on when another set is in the cell
+    uint32_t openings[CELLS] = {};  // of each handle: one more than the greatest of those that were opened or renewed with it
+    vbr_cursor cursors[CELLS] = {};  // of each cell's walk, which is refused when another set is in the cell, and then goes on there
 
     uint8_t byte() { return position < input.size() ? static_cast<uint8_t>(input[position++]) : 0; }
 
@@ -449,7 +450,9 @@ private:
         for (const auto &item : items) model->keys[Of::key(item)] = Of::value(item);
         model->slots = slots, model->buckets = buckets, model->last_epoch = last_epoch_of(s, e);
         model->handles = model->open = count;
+        uint32_t greatest = *std::max_element(openings + from, openings + from + count);
         for (size_t i = from; i < from + count; i++) models[i] = model, balances[i] = i == from ? static_cast<int64_t>(items.size()) : 0;
+        std::fill(openings + from, openings + from + count, greatest + 1);
         check_balances(from, count);
     }
 
@@ -457,6 +460,7 @@ private:
         for (size_t i = from; i < from + count; i++) {
             if (Of::balance(&cells[i]) != (models[i] ? balances[i] : 0)) fail("a balance");
             if (cells[i].steps != budgets[i]) fail("a call wrote the budget of a handle");
+            if (cells[i].opening != openings[i]) fail("of which opening a handle is");
         }
     }
 
@@ -553,7 +557,7 @@ private:
     // Goes on with the walk of a cell; or first the cursor is put to the beginning, to where another walk is, or anywhere.
     void walk(size_t cell) {
         uint8_t x = byte();
-        if (x >= 232) cursors[cell] = {byte() % 32u * (x & 1 ? 1u : 0x8421u), byte() * (x & 2 ? 1u : 0x0101010101010101u)};
+        if (x >= 232) cursors[cell] = {byte() % 32u * (x & 1 ? 1u : 0x8421u), 0, byte() * (x & 2 ? 1u : 0x0101010101010101u)};
         else if (x >= 208) cursors[cell] = cursors[byte() % 8];
         else if (x >= 176) cursors[cell] = VBR_CURSOR_BEGIN;
         if (x < 48) return walk_all(cell, byte());
@@ -584,7 +588,14 @@ private:
         }
         const Model &m = *models[cell];
         uint32_t budget = budget_of_walk(m, before);
+        if (before.opening != 0 && before.opening != openings[cell]) {
+            int refused = Of::next(&cells[cell], &cursors[cell], budget, &key, &value);
+            if (refused != VBR_RESHAPED || key != NO_VALUE || value != NO_VALUE || !same(before, cursors[cell]) || before.opening != cursors[cell].opening)
+                fail("a walk that began on another opening");
+            cursors[cell].opening = 0;  // it begins on this one, from where it stands
+        }
         int answer = Of::next(&cells[cell], &cursors[cell], budget, &key, &value);
+        if (cursors[cell].opening != openings[cell]) fail("the opening that a walk notes");
         check_reached(m, before, budget, answer, key, cursors[cell]);
         if (answer == VBR_YES && Of::HAS_VALUES ? value != m.keys.at(key) : value != NO_VALUE) fail("the value that a walk gives");
         saw(9, answer, (before.from > 0) | (before.bucket != cursors[cell].bucket) << 1 | (m.all_marked > 0) << 2 | (m.keys.size() > 8) << 3 |
@@ -696,8 +707,11 @@ private:
         allowed = -1;
         for (size_t i = 0; i < of.size(); i++) std::swap(all[i], cells[of[i]]);
         if (answer != VBR_NO && blocks != before) fail("a call of all handles kept memory");
+        uint32_t greatest = 0;
+        for (size_t i : of) greatest = std::max(greatest, openings[i]);
         if (renews && answer == VBR_NO)
             for (size_t i = 0; i < of.size(); i++) {
+                openings[of[i]] = greatest + 1;
                 balances[of[i]] = i == 0 ? static_cast<int64_t>(m->keys.size()) : 0;
                 if (Of::epoch(&cells[of[i]]) != 1) fail("the epoch after a renewal");
             }

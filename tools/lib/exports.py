@@ -10,7 +10,7 @@ from crates import ROOT, text_of
 from interface import name_of
 
 TYPES = {"u64": "uint64_t", "u32": "uint32_t", "i64": "int64_t", "i32": "vbr_answer", "Handle": "vbr_handle", "MapHandle": "vbr_map_handle", "Entry": "vbr_entry"}
-TYPES.update({"Found": "vbr_found", "Incarnation": "vbr_incarnation", "ReportNumbers": "vbr_report", "Cursor": "vbr_cursor", "": "void"})
+TYPES.update({"Found": "vbr_found", "Incarnation": "vbr_incarnation", "ReportNumbers": "vbr_report", "HandleCursor": "vbr_cursor", "": "void"})
 
 
 def exports():

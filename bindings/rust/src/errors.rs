@@ -67,6 +67,35 @@ pub enum KeysError {
 #[derive(Clone, Copy, Debug, PartialEq, Eq, Hash)]
 pub struct OutOfSteps;
 
+/// Why a call of a walk gave no answer. Nothing is given then. It converts into a [`Refusal`].
+///
+/// ```
+/// # use vbr::{Cursor, Set, Shape, WalkError};
+/// let mut set = Set::open_with(Shape::for_keys(8, 1), &[2, 5, 9])?;
+/// let mut cursor = Cursor::first();
+/// assert!(set.lend_wait().next(&mut cursor)?.is_some());
+/// set.renew(Shape::for_keys(100, 1))?;
+/// assert_eq!(set.lend_wait().next(&mut cursor), Err(WalkError::Reshaped));
+/// # Ok::<(), Box<dyn std::error::Error>>(())
+/// ```
+#[derive(Clone, Copy, Debug, PartialEq, Eq, Hash)]
+#[non_exhaustive]
+pub enum WalkError {
+    /// The budget is spent. The cursor keeps how far it has come, so make the call again, as [`Refusal::OutOfSteps`] says.
+    OutOfSteps,
+    /// The walk began on another opening: the set was renewed since. The cursor is as it was. Begin anew, at
+    /// [`Cursor::first`](crate::Cursor::first).
+    Reshaped,
+}
+
+impl WalkError {
+    /// Of a walk that borrows its handle from its first call to its last, so that nobody can renew the set meanwhile.
+    pub(crate) fn of_borrowed(self) -> OutOfSteps {
+        assert!(self == WalkError::OutOfSteps, "a set is renewed while a walk borrows its handle");
+        OutOfSteps
+    }
+}
+
 /// Why a call gave no answer. It made no call then.
 ///
 /// These are all the reasons that there are, so a program can match each, and the compiler says which it left out. A call that takes
@@ -82,6 +111,7 @@ pub struct OutOfSteps;
 ///     Refusal::NoSlot => "remove keys, or renew to more slots",
 ///     Refusal::EpochSpent => "renew",
 ///     Refusal::Held => "drop what is held",
+///     Refusal::Reshaped => "begin the walk anew",
 /// };
 /// assert_eq!(what_helps(Refusal::EpochSpent), "renew");
 /// # Ok::<(), Box<dyn std::error::Error>>(())
@@ -104,6 +134,8 @@ pub enum Refusal {
     /// A call would take a slot, and the handle has one in hand, since a [`Held`](crate::Held) was forgotten ([`core::mem::forget`]).
     /// [`PassOf::hold`](crate::PassOf::hold) takes another one in its place; drop that.
     Held,
+    /// A walk began on another opening: the set was renewed since. Begin anew ([`WalkError::Reshaped`]).
+    Reshaped,
 }
 
 /// Why the last handle got no report: `CloseError<MapHandle>` for a map, and `CloseError<Set>` for a set that lends its
@@ -295,6 +327,21 @@ impl From<OutOfSteps> for Refusal {
     }
 }
 
+impl From<OutOfSteps> for WalkError {
+    fn from(_: OutOfSteps) -> WalkError {
+        WalkError::OutOfSteps
+    }
+}
+
+impl From<WalkError> for Refusal {
+    fn from(why: WalkError) -> Refusal {
+        match why {
+            WalkError::OutOfSteps => Refusal::OutOfSteps,
+            WalkError::Reshaped => Refusal::Reshaped,
+        }
+    }
+}
+
 impl From<KeysError> for OpenError {
     fn from(error: KeysError) -> OpenError {
         OpenError::Keys(error)
@@ -350,6 +397,12 @@ impl fmt::Display for OutOfSteps {
     }
 }
 
+impl fmt::Display for WalkError {
+    fn fmt(&self, f: &mut fmt::Formatter<'_>) -> fmt::Result {
+        Refusal::from(*self).fmt(f)
+    }
+}
+
 impl fmt::Display for Refusal {
     fn fmt(&self, f: &mut fmt::Formatter<'_>) -> fmt::Result {
         f.write_str(match self {
@@ -357,6 +410,7 @@ impl fmt::Display for Refusal {
             Refusal::NoSlot => "no slot was found",
             Refusal::EpochSpent => "the last epoch is spent",
             Refusal::Held => "a slot is in hand",
+            Refusal::Reshaped => "the set or map was renewed since the walk began",
         })
     }
 }
@@ -430,6 +484,8 @@ impl Error for OpenError {}
 impl Error for KeysError {}
 
 impl Error for OutOfSteps {}
+
+impl Error for WalkError {}
 
 impl Error for Refusal {}
 

@@ -13,7 +13,7 @@ use core::marker::PhantomData;
 use core::mem::replace;
 use core::ops::{Deref, DerefMut};
 use core::ptr::{null_mut, NonNull};
-use core::sync::atomic::{AtomicPtr, AtomicU64, AtomicUsize, Ordering};
+use core::sync::atomic::{AtomicPtr, AtomicU32, AtomicU64, AtomicUsize, Ordering};
 
 /// A handle to a set, called [`Handle`](crate::Handle), or to a map, called [`MapHandle`](crate::MapHandle): a pass, the
 /// right of one thread at a time to make calls, and a share of the set. The calls are those of the pass, to which it derefs:
@@ -55,13 +55,21 @@ pub(crate) struct Shared {
 
 /// A handle as the library has it, which is written through `&`: empty while its owner has it open.
 #[repr(C)]
+#[derive(Default)]
 struct Parked {
     owned: AtomicPtr<c_void>,
-    /// The budget, which nobody reads, and the padding after it.
+    /// The budget and the mark, which nobody reads.
     steps: AtomicU64,
+    opening: AtomicU32,
 }
 
-const _: () = assert!(size_of::<Raw>() == 16 && size_of::<Parked>() == 16 && align_of::<Parked>() == align_of::<Raw>());
+/// What a handle has of its set: what it owns, null where it is empty, and of which opening it is.
+pub(crate) struct Owned {
+    ptr: *mut c_void,
+    opening: u32,
+}
+
+const _: () = assert!(size_of::<Raw>() == 24 && size_of::<Parked>() == 24 && align_of::<Parked>() == align_of::<Raw>());
 
 impl<T: Kind> HandleOf<T> {
     /// The handles of a set that has these keys.
@@ -87,8 +95,8 @@ impl<T: Kind> HandleOf<T> {
         // Whoever closes the last handle frees it.
         let shared = NonNull::from(Box::leak(shared));
         let steps = steps.unwrap_or_default().count();
-        opened.extend(raw.into_iter().enumerate().map(|(number, Raw { owned, .. })| HandleOf {
-            raw: UnsafeCell::new(Raw { owned, steps, ..Raw::EMPTY }),
+        opened.extend(raw.into_iter().enumerate().map(|(number, raw)| HandleOf {
+            raw: UnsafeCell::new(Raw { steps, ..raw }),
             number,
             shared: Some(shared),
             kind: PhantomData,
@@ -174,13 +182,15 @@ impl<T: Kind> HandleOf<T> {
     }
 
     /// What the handle owns, which is empty then.
-    pub(crate) fn take_owned(&mut self) -> *mut c_void {
-        replace(&mut self.raw.get_mut().owned, null_mut())
+    pub(crate) fn take_owned(&mut self) -> Owned {
+        let raw = self.raw.get_mut();
+        Owned { ptr: replace(&mut raw.owned, null_mut()), opening: raw.opening }
     }
 
     /// Lets the handle, which is empty, own this.
-    pub(crate) fn give_owned(&mut self, owned: *mut c_void) {
-        self.raw.get_mut().owned = owned;
+    pub(crate) fn give_owned(&mut self, Owned { ptr, opening }: Owned) {
+        let raw = self.raw.get_mut();
+        (raw.owned, raw.opening) = (ptr, opening);
     }
 
     /// Takes the handle, which was parked, back from the last one that is open.
@@ -219,18 +229,20 @@ impl Shared {
     fn all_open(count: usize, slots: u32) -> Option<Box<Shared>> {
         let mut parked = Vec::new();
         parked.try_reserve_exact(count).ok()?;
-        parked.resize_with(count, || Parked { owned: AtomicPtr::new(null_mut()), steps: AtomicU64::new(0) });
+        parked.resize_with(count, Parked::default);
         boxed(Shared { open: AtomicUsize::new(count), count, slots, parked })
     }
 
     /// Puts what a handle owns into the place of this number.
-    pub(crate) fn park(&self, number: usize, owned: *mut c_void) {
-        self.parked[number].owned.store(owned, Ordering::Relaxed);
+    pub(crate) fn park(&self, number: usize, Owned { ptr, opening }: Owned) {
+        self.parked[number].opening.store(opening, Ordering::Relaxed);
+        self.parked[number].owned.store(ptr, Ordering::Relaxed);
     }
 
     /// What is in the place of this number, which is empty then.
-    pub(crate) fn unpark(&self, number: usize) -> *mut c_void {
-        self.parked[number].owned.swap(null_mut(), Ordering::Relaxed)
+    pub(crate) fn unpark(&self, number: usize) -> Owned {
+        let Parked { owned, opening, .. } = &self.parked[number];
+        Owned { ptr: owned.swap(null_mut(), Ordering::Relaxed), opening: opening.load(Ordering::Relaxed) }
     }
 
     /// The places of the handles, as the library takes them; each may be written through `&`.

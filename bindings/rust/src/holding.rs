@@ -2,9 +2,9 @@
 // tools/interface makes this file of bindings/interface/holding.rs.in.
 use crate::library::{
     code, looked_up, updated, vbr_insert_held_within, vbr_map_insert_held_within, vbr_map_put_held_within,
-    vbr_map_replace_held_within, with_value, Stands,
+    vbr_map_replace_held_within, walked, with_value, Stands,
 };
-use crate::{order, Bits, Cursor, Entries, IterAt, Keys, Kind, OutOfSteps, PassOf, Refusal, Steps};
+use crate::{order, Bits, Cursor, Entries, IterAt, Keys, Kind, OutOfSteps, PassOf, Refusal, Steps, WalkError};
 use core::fmt;
 use core::marker::PhantomData;
 use core::mem::ManuallyDrop;
@@ -284,20 +284,20 @@ impl<T: Kind> PassOf<T> {
     ///
     /// # Errors
     ///
-    /// [`OutOfSteps`], as for [`PassOf::next`].
+    /// [`WalkError`], as for [`PassOf::next`].
     #[inline]
     #[allow(clippy::type_complexity, reason = "it is what `next` gives, with the entry")]
-    pub fn next_at(&self, cursor: &mut Cursor) -> Result<Option<(T::Key, Incarnation<T>)>, OutOfSteps> {
+    pub fn next_at(&self, cursor: &mut Cursor) -> Result<Option<(T::Key, Incarnation<T>)>, WalkError> {
         self.next_at_within(cursor, self.steps())
     }
 
     /// As [`PassOf::next_at`], with a budget of its own.
     ///
     /// ```
-    /// # use vbr::{Cursor, Map, OutOfSteps, Shape, Steps};
+    /// # use vbr::{Cursor, Map, Shape, Steps, WalkError};
     /// let handle = Map::handles_with(Shape::for_keys(8, 1), &[(5, 70)])?.remove(0);
     /// let mut cursor = Cursor::first();
-    /// assert_eq!(handle.next_at_within(&mut cursor, Steps::new(1)), Err(OutOfSteps));
+    /// assert_eq!(handle.next_at_within(&mut cursor, Steps::new(1)), Err(WalkError::OutOfSteps));
     /// let (key, at) = handle.next_at_within(&mut cursor, Steps::new(100))?.expect("5 is there");
     /// assert_eq!((key, at.slot(), at.value()), (5, 0, 70));
     /// # Ok::<(), Box<dyn std::error::Error>>(())
@@ -308,11 +308,11 @@ impl<T: Kind> PassOf<T> {
     /// The same as for [`PassOf::next_at`].
     #[inline]
     #[allow(clippy::type_complexity, reason = "it is what `next` gives, with the entry")]
-    pub fn next_at_within(&self, cursor: &mut Cursor, steps: Steps) -> Result<Option<(T::Key, Incarnation<T>)>, OutOfSteps> {
+    pub fn next_at_within(&self, cursor: &mut Cursor, steps: Steps) -> Result<Option<(T::Key, Incarnation<T>)>, WalkError> {
         let (mut key, mut stands) = (0, Stands::default());
         // SAFETY: as for `get_entry_within`.
         let told = unsafe { T::NEXT_AT(self.raw(), cursor, &mut key, &mut stands, steps.count()) };
-        if !looked_up(told)? {
+        if !walked(told)? {
             return Ok(None);
         }
         order::finds(key, || told);

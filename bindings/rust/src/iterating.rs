@@ -1,5 +1,5 @@
 //! Going over all keys while other threads make calls.
-use crate::{HandleOf, Incarnation, Keys, Kind, LentBy, OutOfSteps, PassOf, Steps, Table, Turn};
+use crate::{HandleOf, Incarnation, Keys, Kind, LentBy, OutOfSteps, PassOf, Steps, Table, Turn, WalkError};
 use core::fmt;
 use core::iter::FusedIterator;
 use core::ops::Deref;
@@ -7,8 +7,9 @@ use core::ops::Deref;
 /// Where a walk over all keys stands: before the first key, after one, or at the end. [`PassOf::next`] takes it on, and no
 /// thread that makes calls holds it up.
 ///
-/// It is plain: it can be copied and kept, and the walk goes on from a copy as well. With another handle of the set it is
-/// another walk, from there on. With a set of another shape it does no harm, and has no meaning.
+/// It is plain: it can be copied and kept, and the walk goes on from a copy as well, by any handle of the set. Once the set is
+/// renewed, calls from there are refused ([`WalkError::Reshaped`](crate::WalkError::Reshaped)). With a handle of another set the
+/// walk is refused or another one, and does no harm.
 ///
 /// ```
 /// # use vbr::{Cursor, Set, Shape};
@@ -24,6 +25,7 @@ use core::ops::Deref;
 #[derive(Clone, Copy, Debug, Default, PartialEq, Eq, Hash)]
 pub struct Cursor {
     bucket: u32,
+    opening: u32,
     from: u64,
 }
 
@@ -41,20 +43,20 @@ impl Cursor {
     /// ```
     #[must_use]
     pub const fn first() -> Cursor {
-        Cursor { bucket: 0, from: 0 }
+        Cursor { bucket: 0, opening: 0, from: 0 }
     }
 
-    /// What a walk gives next, by as many calls as it takes, as long as each takes the cursor further.
+    /// What a walk that borrows its handle gives next, by as many calls as it takes, as long as each takes the cursor further.
     #[inline]
     pub(crate) fn go_on<G>(
         &mut self,
-        call: impl Fn(&mut Cursor) -> Result<Option<G>, OutOfSteps>,
+        call: impl Fn(&mut Cursor) -> Result<Option<G>, WalkError>,
     ) -> Result<Option<G>, OutOfSteps> {
         loop {
             let before = *self;
             let told = call(self);
-            if told.is_ok() || *self == before {
-                return told;
+            if told.is_ok() || (self.bucket, self.from) == (before.bucket, before.from) {
+                return told.map_err(WalkError::of_borrowed);
             }
         }
     }

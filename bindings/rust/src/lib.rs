@@ -60,7 +60,7 @@
 //! `contains_key` of a map.
 //!
 //! A call that takes no slot (look-ups, removes, walks) is refused for one reason alone, so its error is [`OutOfSteps`]; `?` makes a
-//! [`Refusal`] of it. There is no `FromIterator` and no `Extend`, since each opening and each insert may be refused:
+//! [`Refusal`] of it. A walk by a cursor of the program may also meet a renewal ([`WalkError`]). There is no `FromIterator` and no `Extend`, since each opening and each insert may be refused:
 //! [`PassOf::try_extend`] puts in what an iterator gives, [`Pass::insert_all`] and its kin what a slice has, and each says how far it
 //! came ([`Stopped`]). Handles, loans, turns, passes and reports are gone over by `for` loops.
 //!
@@ -305,7 +305,7 @@ pub use bits::{Bits, ByBits};
 pub use calling::Growth;
 pub use changing::{Change, Compared};
 pub use entry::{Entry, ModifiedEntry};
-pub use errors::{CloseError, KeysError, LendError, OpenError, OutOfSteps, Refusal, RenewError, ReportError, Unclosed};
+pub use errors::{CloseError, KeysError, LendError, OpenError, OutOfSteps, Refusal, RenewError, ReportError, Unclosed, WalkError};
 pub use extending::Stopped;
 pub use handle::HandleOf;
 pub use holding::{Held, Incarnation};

@@ -1,6 +1,6 @@
 //! The calls of the library, and which of them are those of a set and which those of a map.
 use crate::reporting::Contents;
-use crate::{order, Bits, Compared, Cursor, Entries, Keys, Kind, MapReport, OutOfSteps, PassOf, Refusal, Report};
+use crate::{order, Bits, Compared, Cursor, Entries, Keys, Kind, MapReport, OutOfSteps, PassOf, Refusal, Report, WalkError};
 use core::cell::UnsafeCell;
 use core::ffi::{c_int, c_void};
 use core::ptr::null_mut;
@@ -16,31 +16,33 @@ pub(crate) mod code {
     pub(crate) const NO_MEMORY: i32 = -8;
     pub(crate) const NO_ROOM: i32 = -11;
     pub(crate) const HELD: i32 = -14;
+    pub(crate) const RESHAPED: i32 = -15;
     /// Of what answers neither yes nor no.
     pub(crate) const DONE: i32 = 0;
 }
 
 /// As C sees a handle: what it owns, null where it is empty, and the budget of its calls, which the library leaves alone. The mark
-/// that a call is under way is in use where processes share the handle.
+/// that a call is under way is in use where processes share the handle. The library tells by `opening` whether the set was renewed.
 #[repr(C)]
 pub(crate) struct Raw {
     pub(crate) owned: *mut c_void,
     pub(crate) steps: u32,
     pub(crate) in_call: u32,
+    pub(crate) opening: u32,
 }
 
 impl Raw {
-    pub(crate) const EMPTY: Raw = Raw { owned: null_mut(), steps: 0, in_call: 0 };
+    pub(crate) const EMPTY: Raw = Raw { owned: null_mut(), steps: 0, in_call: 0, opening: 0 };
 }
 
 /// A handle as it lies in memory that processes share, on lines of the cache of its own.
 #[repr(C)]
 pub(crate) struct SharedRaw {
     pub(crate) raw: UnsafeCell<Raw>,
-    unused: [u64; 14],
+    unused: [u64; 13],
 }
 
-const _: () = assert!(size_of::<Raw>() == 16 && size_of::<SharedRaw>() == 128);
+const _: () = assert!(size_of::<Raw>() == 24 && size_of::<SharedRaw>() == 128);
 
 #[repr(C)]
 #[derive(Default)]
@@ -468,7 +470,16 @@ pub(crate) fn updated(told: i32) -> Result<bool, Refusal> {
     }
 }
 
-/// The answer of a call that takes no slot: of a look-up, a remove or a walk.
+/// The answer of a call of a walk.
+#[inline]
+pub(crate) fn walked(told: i32) -> Result<bool, WalkError> {
+    match told {
+        code::RESHAPED => Err(WalkError::Reshaped),
+        told => Ok(looked_up(told)?),
+    }
+}
+
+/// The answer of a call that takes no slot: of a look-up or a remove.
 #[inline]
 pub(crate) fn looked_up(told: i32) -> Result<bool, OutOfSteps> {
     match told {

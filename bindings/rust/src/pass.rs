@@ -1,7 +1,7 @@
 //! Passes: the calls that sets and maps have alike.
 // tools/interface makes this file of bindings/interface/pass.rs.in.
-use crate::library::{answer_all, looked_up, Raw};
-use crate::{order, Bits, Cursor, Iter, Kind, OutOfSteps, Steps};
+use crate::library::{answer_all, looked_up, walked, Raw};
+use crate::{order, Bits, Cursor, Iter, Kind, OutOfSteps, Steps, WalkError};
 use core::cell::UnsafeCell;
 use core::fmt;
 use core::marker::PhantomData;
@@ -292,20 +292,22 @@ impl<T: Kind> PassOf<T> {
     ///
     /// # Errors
     ///
-    /// [`OutOfSteps`]. The cursor keeps how far it has come, so make the call again. While the other handles
+    /// [`WalkError::OutOfSteps`]. The cursor keeps how far it has come, so make the call again. While the other handles
     /// stand still, it has come to a later bucket, or the budget was below 5n + 11, with n nodes in the cursor's bucket.
+    ///
+    /// [`WalkError::Reshaped`] if the set was renewed since the walk began: begin anew.
     #[inline]
-    pub fn next(&self, cursor: &mut Cursor) -> Result<Option<T::Item>, OutOfSteps> {
+    pub fn next(&self, cursor: &mut Cursor) -> Result<Option<T::Item>, WalkError> {
         self.next_within(cursor, self.steps())
     }
 
     /// As [`PassOf::next`], with a budget of its own.
     ///
     /// ```
-    /// # use vbr::{Cursor, OutOfSteps, Set, Shape, Steps};
+    /// # use vbr::{Cursor, Set, Shape, Steps, WalkError};
     /// let handle = Set::handles_with(Shape::for_keys(8, 1), &[5])?.remove(0);
     /// let mut cursor = Cursor::first();
-    /// assert_eq!(handle.next_within(&mut cursor, Steps::new(1)), Err(OutOfSteps));
+    /// assert_eq!(handle.next_within(&mut cursor, Steps::new(1)), Err(WalkError::OutOfSteps));
     /// assert_eq!(handle.next_within(&mut cursor, Steps::new(100)), Ok(Some(5)));
     /// # Ok::<(), vbr::OpenError>(())
     /// ```
@@ -314,11 +316,11 @@ impl<T: Kind> PassOf<T> {
     ///
     /// The same as for [`PassOf::next`].
     #[inline]
-    pub fn next_within(&self, cursor: &mut Cursor, steps: Steps) -> Result<Option<T::Item>, OutOfSteps> {
+    pub fn next_within(&self, cursor: &mut Cursor, steps: Steps) -> Result<Option<T::Item>, WalkError> {
         let mut given = T::Plain::default();
         // SAFETY: as for `has_within`; nothing else has the cursor and what is given.
         let told = unsafe { T::NEXT(self.raw(), cursor, &mut given, steps.count()) };
-        if !looked_up(told)? {
+        if !walked(told)? {
             return Ok(None);
         }
         order::finds(T::key(&given), || told);

@@ -8,7 +8,7 @@ use vbr::{
 };
 use vbr::{
     OutOfSteps, OwnedLent, Pass, PassOf, Refusal, RenewError, Report, ReportError, Set, Shape, ShapeError, Steps, Table,
-    Unclosed,
+    Unclosed, WalkError,
 };
 
 of_sets_and_maps! {
@@ -301,7 +301,7 @@ fn errors_pass_as_any_error<K: Both>() {
 #[test]
 fn hashes() {
     fn is_hashed<T: std::hash::Hash + Eq>() {}
-    is_hashed::<(OpenError, KeysError, Refusal, OutOfSteps, ReportError, RenewError)>();
+    is_hashed::<(OpenError, KeysError, Refusal, OutOfSteps, WalkError, ReportError, RenewError)>();
     is_hashed::<(ShapeError, Shape, Steps, Report, MapReport)>();
 }
 
@@ -313,7 +313,7 @@ fn budgets_of_handles<K: Both>() {
         pass.has_all(&[5], &mut answers);
         let walks = [
             pass.iter().next().map(|it| it.map(K::key)),
-            pass.next(&mut Cursor::first()).map(|it| it.map(K::key)).transpose(),
+            pass.next(&mut Cursor::first()).map(|it| it.map(K::key)).map_err(|_| OutOfSteps).transpose(),
         ];
         let refused = [pass.has(5) == Err(OutOfSteps), answers == [Err(OutOfSteps)], walks == [Some(Err(OutOfSteps)); 2]];
         assert!(refused.iter().all(|it| *it == refused[0]));

@@ -9,7 +9,7 @@ use std::fmt::Debug;
 use std::iter::FusedIterator;
 use std::sync::atomic::{AtomicU64, Ordering};
 use std::thread;
-use vbr::{Cursor, HandleOf, Map, OutOfSteps, Set, Shape, Steps, Table, MAX_EPOCH};
+use vbr::{Cursor, HandleOf, Map, OutOfSteps, RenewError, Set, Shape, Steps, Table, WalkError, MAX_EPOCH};
 
 /// The keys from 1 to 9 as they come in four buckets with seed 0: a key's is the upper two bits of its product with 2^64 over
 /// the golden ratio, 0x9e3779b97f4a7c15.
@@ -29,7 +29,7 @@ fn all_keys<K: Both>(handle: &HandleOf<K>) -> Vec<u64> {
 }
 
 /// A call of a walk. One that tells where the key stands takes as many steps, and the cursor as far.
-fn next_key_within<K: Both>(handle: &HandleOf<K>, cursor: &mut Cursor, steps: Steps) -> Result<Option<u64>, OutOfSteps> {
+fn next_key_within<K: Both>(handle: &HandleOf<K>, cursor: &mut Cursor, steps: Steps) -> Result<Option<u64>, WalkError> {
     let mut of_other = *cursor;
     let other = handle.next_at_within(&mut of_other, steps);
     let told = handle.next_within(cursor, steps).map(|given| given.map(K::key));
@@ -37,7 +37,7 @@ fn next_key_within<K: Both>(handle: &HandleOf<K>, cursor: &mut Cursor, steps: St
     told
 }
 
-fn next_key<K: Both>(handle: &HandleOf<K>, cursor: &mut Cursor) -> Result<Option<u64>, OutOfSteps> {
+fn next_key<K: Both>(handle: &HandleOf<K>, cursor: &mut Cursor) -> Result<Option<u64>, WalkError> {
     next_key_within(handle, cursor, Steps::AMPLE)
 }
 
@@ -52,6 +52,7 @@ of_sets_and_maps! {
     empty_buckets_that_one_call_cannot_pass
     a_budget_that_is_too_small
     calls_between_those_of_a_walk
+    a_renewal_between_calls_of_a_walk
     what_threads_leave_alone_and_what_they_change
 }
 
@@ -74,10 +75,10 @@ fn budgets_that_are_just_enough<K: Both>() {
     let mut cursor = Cursor::first();
     for (key, least, stays) in [(Some(4), 14, false), (Some(7), 16, true), (Some(1), 11, true), (None, 8, true)] {
         let mut short = cursor;
-        assert_eq!(next_key_within(&handle, &mut short, Steps::new(least - 1)), Err(OutOfSteps));
+        assert_eq!(next_key_within(&handle, &mut short, Steps::new(least - 1)), Err(WalkError::OutOfSteps));
         assert_eq!(short == cursor, stays);
         let again = next_key_within(&handle, &mut short, Steps::new(least - 1));
-        assert_eq!(again, if stays { Err(OutOfSteps) } else { Ok(key) });
+        assert_eq!(again, if stays { Err(WalkError::OutOfSteps) } else { Ok(key) });
         assert_eq!(next_key_within(&handle, &mut cursor, Steps::new(least)), Ok(key));
         assert_eq!(short == cursor, !stays);
     }
@@ -89,7 +90,7 @@ fn a_marked_node_is_passed<K: Both>() {
     let mut handle = open::<K>(Shape::new(8, 4, 10), 1, &[4, 7]).remove(0);
     assert_eq!(K::remove_within(&mut handle, 4, Steps::new(16)), Ok(true));
     let mut cursor = Cursor::first();
-    assert_eq!(next_key_within(&handle, &mut cursor.clone(), Steps::new(16)), Err(OutOfSteps));
+    assert_eq!(next_key_within(&handle, &mut cursor.clone(), Steps::new(16)), Err(WalkError::OutOfSteps));
     assert_eq!(next_key_within(&handle, &mut cursor, Steps::new(17)), Ok(Some(7)));
     assert_eq!(all_keys(&handle), [7]);
 }
@@ -101,7 +102,7 @@ fn empty_buckets_that_one_call_cannot_pass<K: Both>() {
         let mut cursor = Cursor::first();
         for _ in 0..refusals {
             let before = cursor;
-            assert_eq!(next_key_within(&handle, &mut cursor, Steps::new(budget)), Err(OutOfSteps));
+            assert_eq!(next_key_within(&handle, &mut cursor, Steps::new(budget)), Err(WalkError::OutOfSteps));
             assert_ne!(cursor, before);
         }
         assert_eq!(next_key_within(&handle, &mut cursor, Steps::new(budget)), Ok(None));
@@ -135,6 +136,32 @@ fn a_budget_that_is_too_small<K: Both>() {
     assert_eq!(all_keys(&handles[0]), [3, 4, 5]);
     assert_eq!(handles[0].iter_within(Steps::new(21)).count(), 3);
     assert_eq!(handles[0].iter_within(Steps::new(7)).next(), Some(Err(OutOfSteps)));
+}
+
+/// After a renewal, with more buckets, fewer or as many, each call of a walk from before is refused, by each handle, and one that begins
+/// anew gives each key once. A renewal that is refused, or one of other handles, leaves the walk as it is.
+fn a_renewal_between_calls_of_a_walk<K: Both>() {
+    let keys: Vec<u64> = (1..10).collect();
+    for buckets in [16, 1, 4] {
+        let mut handles = open::<K>(Shape::new(16, 4, 10), 2, &keys);
+        let mut cursor = Cursor::first();
+        let first: Vec<_> = (0..5).map(|i| next_key(&handles[i % 2], &mut cursor).expect("steps").expect("a key")).collect();
+        assert_eq!(first, ORDER[..5]);
+        assert_eq!(HandleOf::renew_all(&mut handles, Shape::new(8, 4, 10)), Err(RenewError::Slots));
+        let mut apart = open::<K>(Shape::new(16, 4, 10), 1, &keys);
+        HandleOf::renew_all(&mut apart, Shape::new(16, 4, 10)).expect("memory");
+        assert_eq!(next_key(&handles[0], &mut cursor.clone()), Ok(Some(ORDER[5])));
+        HandleOf::renew_all(&mut handles, Shape::new(16, buckets, 10)).expect("memory");
+        for handle in &handles {
+            let before = cursor;
+            assert_eq!(next_key(handle, &mut cursor), Err(WalkError::Reshaped));
+            assert_eq!(next_key_within(handle, &mut cursor, Steps::new(0)), Err(WalkError::Reshaped));
+            assert_eq!(cursor, before);
+            let mut given = all_keys(handle);
+            given.sort_unstable();
+            assert_eq!(given, keys);
+        }
+    }
 }
 
 /// Each key that comes is taken out, and another one put in, which comes too unless its place is passed.

@@ -9,7 +9,7 @@ ghost use Rattle.vbr_handles.specs.Iterating.{TellsNextEntry};
 ghost use Rattle.vbr_handles.specs.ValueCalls.{TellsExchange, TellsGetEntry, TellsGetOrInsert, TellsPut, TellsRemoveEntry, TellsRemoveIf, TellsReplace};
 ghost use Rattle.vbr_handles.specs.Opening.{AreEmpty, entries_start};
 ghost use Rattle.vbr_handles.specs.OpeningCodes.{TellsMapOpeningMany, TellsMapOpeningWith};
-ghost use Rattle.vbr_handles.specs.AllHandles.{KeepMapSteps, map_members_in};
+ghost use Rattle.vbr_handles.specs.AllHandles.{KeepMapOpenings, KeepMapSteps, map_members_in};
 ghost use Rattle.vbr_handles.specs.Renewals.{TellsMapRenewal};
 ghost use Rattle.vbr_handles.specs.Reports.{TellsMapCloseAll, TellsMapReport, TellsMapReportSlots};
 ghost use Rattle.vbr_set.specs.members.AllMembers.{AreOfOneSet};
@@ -17,8 +17,9 @@ ghost use Rattle.vbr_handles.specs.Shown.{IsSeedOf, balance_shown, buckets_of, e
 
 use std::alloc::Global;
 use vbr_handles::coded_calls::{batches, entries, giving_slots_back, iterating};
-use vbr_handles::{Entry, Found, MapHandle, ReportNumbers, ShapeNumbers, accessors, coded_calls};
-use vbr_set::Cursor;
+use vbr_handles::{
+    Entry, Found, HandleCursor, MapHandle, ReportNumbers, ShapeNumbers, accessors, coded_calls,
+};
 use vbr_words::Entries;
 
 /// Opens a map of these entries, with its keys spread by the seed: `vbr_map_open_seeded` of
@@ -86,6 +87,7 @@ pub extern "C" fn vbr_map_insert_within(
     ensures called { TellsInsertEntry handle.old.owned.member handle.new.owned.member
         key value budget result }
     ensures steps { handle.new.steps ≡ handle.old.steps }
+    ensures opening { handle.new.opening ≡ handle.old.opening }
 {
     entries::insert(handle.owned.owner_mut(), key, value, budget)
 }
@@ -102,6 +104,7 @@ pub extern "C" fn vbr_map_remove_within(
     ensures called { TellsRemoveEntry handle.old.owned.member handle.new.owned.member
         key budget value.old value.new result }
     ensures steps { handle.new.steps ≡ handle.old.steps }
+    ensures opening { handle.new.opening ≡ handle.old.opening }
 {
     entries::remove(handle.owned.owner_mut(), key, value, budget)
 }
@@ -117,6 +120,7 @@ pub extern "C" fn vbr_map_get_within(
     ensures called { TellsGetEntry handle.old.owned.member handle.new.owned.member
         key budget value.old value.new result }
     ensures steps { handle.new.steps ≡ handle.old.steps }
+    ensures opening { handle.new.opening ≡ handle.old.opening }
 {
     entries::get(handle.owned.owner_mut(), key, value, budget)
 }
@@ -134,6 +138,7 @@ pub extern "C" fn vbr_map_replace_within(
     ensures called { TellsReplace handle.old.owned.member handle.new.owned.member key value budget
         there.old there.new result }
     ensures steps { handle.new.steps ≡ handle.old.steps }
+    ensures opening { handle.new.opening ≡ handle.old.opening }
 {
     entries::replace(handle.owned.owner_mut(), key, value, there, budget)
 }
@@ -151,6 +156,7 @@ pub extern "C" fn vbr_map_put_within(
     ensures called { TellsPut handle.old.owned.member handle.new.owned.member key value budget
         there.old there.new result }
     ensures steps { handle.new.steps ≡ handle.old.steps }
+    ensures opening { handle.new.opening ≡ handle.old.opening }
 {
     entries::put(handle.owned.owner_mut(), key, value, there, budget)
 }
@@ -168,6 +174,7 @@ pub extern "C" fn vbr_map_get_or_insert_within(
     ensures called { TellsGetOrInsert handle.old.owned.member handle.new.owned.member
         key value budget there.old there.new result }
     ensures steps { handle.new.steps ≡ handle.old.steps }
+    ensures opening { handle.new.opening ≡ handle.old.opening }
 {
     entries::get_or_insert(handle.owned.owner_mut(), key, value, there, budget)
 }
@@ -186,6 +193,7 @@ pub extern "C" fn vbr_map_compare_exchange_within(
     ensures called { TellsExchange handle.old.owned.member handle.new.owned.member
         key expected value budget there.old there.new result }
     ensures steps { handle.new.steps ≡ handle.old.steps }
+    ensures opening { handle.new.opening ≡ handle.old.opening }
 {
     entries::compare_exchange(
         handle.owned.owner_mut(),
@@ -210,6 +218,7 @@ pub extern "C" fn vbr_map_remove_if_within(
     ensures called { TellsRemoveIf handle.old.owned.member handle.new.owned.member
         key expected budget there.old there.new result }
     ensures steps { handle.new.steps ≡ handle.old.steps }
+    ensures opening { handle.new.opening ≡ handle.old.opening }
 {
     entries::remove_if(handle.owned.owner_mut(), key, expected, there, budget)
 }
@@ -221,6 +230,7 @@ pub extern "C" fn vbr_map_has_within(handle: &mut MapHandle, key: u64, budget: u
     ensures called { TellsCall Has handle.old.owned.member handle.new.owned.member
         key budget result }
     ensures steps { handle.new.steps ≡ handle.old.steps }
+    ensures opening { handle.new.opening ≡ handle.old.opening }
 {
     coded_calls::has(handle.owned.owner_mut(), key, budget)
 }
@@ -239,6 +249,7 @@ pub extern "C" fn vbr_map_has_all_within(
     ensures called { TellsHasAll handle.old.owned.member handle.new.owned.member
         keys.now budget answers.new }
     ensures steps { handle.new.steps ≡ handle.old.steps }
+    ensures opening { handle.new.opening ≡ handle.old.opening }
 {
     batches::has_all(handle.owned.owner_mut(), keys, answers, budget);
 }
@@ -257,6 +268,7 @@ pub extern "C" fn vbr_map_get_all_within(
     ensures called { TellsGetAll handle.old.owned.member handle.new.owned.member
         keys.now budget found.new }
     ensures steps { handle.new.steps ≡ handle.old.steps }
+    ensures opening { handle.new.opening ≡ handle.old.opening }
 {
     batches::get_all(handle.owned.owner_mut(), keys, found, budget);
 }
@@ -267,6 +279,7 @@ pub extern "C" fn vbr_map_epoch(handle: &mut MapHandle) -> u64
     ensures same { handle.new.owned.member ≡ handle.old.owned.member }
     ensures epoch { result ≡ epoch_of_handle handle.old.owned.member }
     ensures steps { handle.new.steps ≡ handle.old.steps }
+    ensures opening { handle.new.opening ≡ handle.old.opening }
 {
     accessors::epoch(handle.owned.owner_mut())
 }
@@ -278,6 +291,7 @@ pub extern "C" fn vbr_map_last_epoch(handle: &mut MapHandle) -> u64
     ensures same { handle.new.owned.member ≡ handle.old.owned.member }
     ensures last { result ≡ last_epoch_of handle.old.owned.member }
     ensures steps { handle.new.steps ≡ handle.old.steps }
+    ensures opening { handle.new.opening ≡ handle.old.opening }
 {
     accessors::last_epoch(handle.owned.owner_mut())
 }
@@ -289,6 +303,7 @@ pub extern "C" fn vbr_map_slots(handle: &mut MapHandle) -> u32
     ensures same { handle.new.owned.member ≡ handle.old.owned.member }
     ensures slots { result ≡ slots_of handle.old.owned.member }
     ensures steps { handle.new.steps ≡ handle.old.steps }
+    ensures opening { handle.new.opening ≡ handle.old.opening }
 {
     accessors::slots(handle.owned.owner_mut())
 }
@@ -300,6 +315,7 @@ pub extern "C" fn vbr_map_buckets(handle: &mut MapHandle) -> u32
     ensures same { handle.new.owned.member ≡ handle.old.owned.member }
     ensures buckets { result ≡ buckets_of handle.old.owned.member }
     ensures steps { handle.new.steps ≡ handle.old.steps }
+    ensures opening { handle.new.opening ≡ handle.old.opening }
 {
     accessors::buckets(handle.owned.owner_mut())
 }
@@ -311,6 +327,7 @@ pub extern "C" fn vbr_map_seed(handle: &mut MapHandle) -> u64
     ensures same { handle.new.owned.member ≡ handle.old.owned.member }
     ensures seed { IsSeedOf handle.old.owned.member result }
     ensures steps { handle.new.steps ≡ handle.old.steps }
+    ensures opening { handle.new.opening ≡ handle.old.opening }
 {
     accessors::seed(handle.owned.owner_mut())
 }
@@ -322,6 +339,7 @@ pub extern "C" fn vbr_map_balance(handle: &mut MapHandle) -> i64
     ensures same { handle.new.owned.member ≡ handle.old.owned.member }
     ensures balance { result ≡ balance_shown handle.old.owned.member }
     ensures steps { handle.new.steps ≡ handle.old.steps }
+    ensures opening { handle.new.opening ≡ handle.old.opening }
 {
     accessors::balance(handle.owned.owner_mut())
 }
@@ -338,6 +356,7 @@ pub extern "C" fn vbr_map_close(
     ensures closes { ClosesMapHandle handle.old.owned.member handle.new.owned.member
         entries.old entries.new report.old report.new result }
     ensures steps { handle.new.steps ≡ handle.old.steps }
+    ensures opening { handle.new.opening ≡ handle.old.opening }
 {
     giving_slots_back::close::<Entries, Entry>(alloc, handle.owned.owner_mut(), entries, report)
 }
@@ -355,6 +374,7 @@ pub extern "C" fn vbr_map_close_all(
     ensures closes { TellsMapCloseAll handles.old handles.new entries.old entries.new
         report.old report.new result }
     ensures steps { KeepMapSteps handles.old handles.new }
+    ensures openings { KeepMapOpenings handles.old handles.new }
 {
     coded_calls::close_all::<Entries, Entry, MapHandle>(alloc, handles, entries, report)
 }
@@ -372,6 +392,7 @@ pub extern "C" fn vbr_map_report_all(
     ensures reports { TellsMapReport handles.old handles.new entries.old entries.new
         report.old report.new result }
     ensures steps { KeepMapSteps handles.old handles.new }
+    ensures openings { KeepMapOpenings handles.old handles.new }
 {
     coded_calls::report_all::<Entries, Entry, MapHandle>(alloc, handles, entries, report)
 }
@@ -392,6 +413,7 @@ pub extern "C" fn vbr_map_report_slots(
     ensures reports { TellsMapReportSlots handles.old handles.new entries.old entries.new
         slots.old slots.new report.old report.new result }
     ensures steps { KeepMapSteps handles.old handles.new }
+    ensures openings { KeepMapOpenings handles.old handles.new }
 {
     coded_calls::report_all_with_slots::<Entries, Entry, MapHandle>(
         alloc, handles, entries, slots, report,
@@ -428,6 +450,7 @@ pub extern "C" fn vbr_map_renew_all_seeded(
 pub extern "C" fn vbr_map_drop(alloc: Global, handle: &mut MapHandle)
     ensures empty { handle.new.owned.member ≡ None }
     ensures steps { handle.new.steps ≡ handle.old.steps }
+    ensures opening { handle.new.opening ≡ handle.old.opening }
 {
     vbr_handles::abandon(alloc, handle.owned.owner_mut());
 }
@@ -437,6 +460,7 @@ pub extern "C" fn vbr_map_drop(alloc: Global, handle: &mut MapHandle)
 pub extern "C" fn vbr_map_end_all(alloc: Global, handles: &mut [MapHandle])
     ensures empty { AreEmpty (λ (handle : MapHandle). handle.owned.member) handles.new }
     ensures steps { KeepMapSteps handles.old handles.new }
+    ensures openings { KeepMapOpenings handles.old handles.new }
 {
     vbr_handles::abandon_all::<Entries, MapHandle>(alloc, handles);
 }
@@ -446,14 +470,16 @@ pub extern "C" fn vbr_map_end_all(alloc: Global, handles: &mut [MapHandle])
 #[unsafe(no_mangle)]
 pub extern "C" fn vbr_map_next_within(
     handle: &mut MapHandle,
-    cursor: &mut Cursor,
+    cursor: &mut HandleCursor,
     entry: &mut Entry,
     budget: u32,
 ) -> i32
     ensures next { TellsNextEntry handle.old.owned.member handle.new.owned.member
-        cursor.old cursor.new budget
+        handle.old.opening cursor.old cursor.new budget
         (entry.old.key, entry.old.value) (entry.new.key, entry.new.value) result }
     ensures steps { handle.new.steps ≡ handle.old.steps }
+    ensures opening { handle.new.opening ≡ handle.old.opening }
 {
-    iterating::next_entry(handle.owned.owner_mut(), cursor, entry, budget)
+    let opening = handle.opening;
+    iterating::next_entry(handle.owned.owner_mut(), opening, cursor, entry, budget)
 }

@@ -13,6 +13,7 @@ use vbr_handles::{Handle, MapHandle};
 pub extern "C" fn vbr_spare(handle: &mut Handle) -> u32
     ensures given { TellsGivenBack handle.old.owned.member handle.new.owned.member result }
     ensures steps { handle.new.steps ≡ handle.old.steps }
+    ensures opening { handle.new.opening ≡ handle.old.opening }
 {
     giving_slots_back::give_slots_back(handle.owned.owner_mut())
 }
@@ -23,6 +24,7 @@ pub extern "C" fn vbr_spare(handle: &mut Handle) -> u32
 pub extern "C" fn vbr_map_spare(handle: &mut MapHandle) -> u32
     ensures given { TellsGivenBack handle.old.owned.member handle.new.owned.member result }
     ensures steps { handle.new.steps ≡ handle.old.steps }
+    ensures opening { handle.new.opening ≡ handle.old.opening }
 {
     giving_slots_back::give_slots_back(handle.owned.owner_mut())
 }
@@ -33,6 +35,7 @@ pub extern "C" fn vbr_map_spare(handle: &mut MapHandle) -> u32
 pub extern "C" fn vbr_reserve(handle: &mut Handle, wanted: u32) -> u32
     ensures took { TellsReserve handle.old.owned.member handle.new.owned.member wanted result }
     ensures steps { handle.new.steps ≡ handle.old.steps }
+    ensures opening { handle.new.opening ≡ handle.old.opening }
 {
     reserving::reserve(handle.owned.owner_mut(), wanted)
 }
@@ -43,6 +46,7 @@ pub extern "C" fn vbr_reserve(handle: &mut Handle, wanted: u32) -> u32
 pub extern "C" fn vbr_map_reserve(handle: &mut MapHandle, wanted: u32) -> u32
     ensures took { TellsReserve handle.old.owned.member handle.new.owned.member wanted result }
     ensures steps { handle.new.steps ≡ handle.old.steps }
+    ensures opening { handle.new.opening ≡ handle.old.opening }
 {
     reserving::reserve(handle.owned.owner_mut(), wanted)
 }
@@ -54,6 +58,7 @@ pub extern "C" fn vbr_map_reserve(handle: &mut MapHandle, wanted: u32) -> u32
 pub extern "C" fn vbr_forsake(handle: &mut Handle)
     ensures forsaken { HasForsaken handle.old.owned.member handle.new.owned.member }
     ensures steps { handle.new.steps ≡ handle.old.steps }
+    ensures opening { handle.new.opening ≡ handle.old.opening }
 {
     forsaking::forsake_slots(handle.owned.owner_mut());
 }
@@ -63,6 +68,7 @@ pub extern "C" fn vbr_forsake(handle: &mut Handle)
 pub extern "C" fn vbr_map_forsake(handle: &mut MapHandle)
     ensures forsaken { HasForsaken handle.old.owned.member handle.new.owned.member }
     ensures steps { handle.new.steps ≡ handle.old.steps }
+    ensures opening { handle.new.opening ≡ handle.old.opening }
 {
     forsaking::forsake_slots(handle.owned.owner_mut());
 }

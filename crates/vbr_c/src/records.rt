@@ -6,8 +6,7 @@ ghost use Rattle.vbr_handles.specs.Iterating.{TellsNextNamed, TellsNextNamedKey}
 ghost use Rattle.vbr_handles.specs.Incarnations.{TellsGetNamed, TellsHasNamed, TellsIfStill, TellsRemoveKeyNamed, TellsRemoveNamed, entry_named};
 
 use vbr_handles::coded_calls::{entry_records, records};
-use vbr_handles::{Handle, Incarnation, MapHandle};
-use vbr_set::Cursor;
+use vbr_handles::{Handle, HandleCursor, Incarnation, MapHandle};
 
 /// Takes a slot, which the handle then holds: `vbr_hold_within` of vbr.h, which has its answers
 /// and budgets.
@@ -16,6 +15,7 @@ pub extern "C" fn vbr_hold_within(handle: &mut Handle, slot: &mut u32, budget: u
     ensures holds { TellsHold handle.old.owned.member handle.new.owned.member budget
         slot.old slot.new result }
     ensures steps { handle.new.steps ≡ handle.old.steps }
+    ensures opening { handle.new.opening ≡ handle.old.opening }
 {
     records::hold(handle.owned.owner_mut(), slot, budget)
 }
@@ -27,6 +27,7 @@ pub extern "C" fn vbr_map_hold_within(handle: &mut MapHandle, slot: &mut u32, bu
     ensures holds { TellsHold handle.old.owned.member handle.new.owned.member budget
         slot.old slot.new result }
     ensures steps { handle.new.steps ≡ handle.old.steps }
+    ensures opening { handle.new.opening ≡ handle.old.opening }
 {
     records::hold(handle.owned.owner_mut(), slot, budget)
 }
@@ -36,6 +37,7 @@ pub extern "C" fn vbr_map_hold_within(handle: &mut MapHandle, slot: &mut u32, bu
 pub extern "C" fn vbr_let_go(handle: &mut Handle) -> i32
     ensures lets_go { TellsLetGo handle.old.owned.member handle.new.owned.member result }
     ensures steps { handle.new.steps ≡ handle.old.steps }
+    ensures opening { handle.new.opening ≡ handle.old.opening }
 {
     records::let_go(handle.owned.owner_mut())
 }
@@ -45,6 +47,7 @@ pub extern "C" fn vbr_let_go(handle: &mut Handle) -> i32
 pub extern "C" fn vbr_map_let_go(handle: &mut MapHandle) -> i32
     ensures lets_go { TellsLetGo handle.old.owned.member handle.new.owned.member result }
     ensures steps { handle.new.steps ≡ handle.old.steps }
+    ensures opening { handle.new.opening ≡ handle.old.opening }
 {
     records::let_go(handle.owned.owner_mut())
 }
@@ -56,6 +59,7 @@ pub extern "C" fn vbr_insert_held_within(handle: &mut Handle, key: u64, budget: 
     ensures called { TellsInsertHeld handle.old.owned.member handle.new.owned.member
         key budget result }
     ensures steps { handle.new.steps ≡ handle.old.steps }
+    ensures opening { handle.new.opening ≡ handle.old.opening }
 {
     records::insert_held(handle.owned.owner_mut(), key, budget)
 }
@@ -72,6 +76,7 @@ pub extern "C" fn vbr_map_insert_held_within(
     ensures called { TellsInsertEntryHeld handle.old.owned.member handle.new.owned.member
         key value budget result }
     ensures steps { handle.new.steps ≡ handle.old.steps }
+    ensures opening { handle.new.opening ≡ handle.old.opening }
 {
     entry_records::insert_held(handle.owned.owner_mut(), key, value, budget)
 }
@@ -89,6 +94,7 @@ pub extern "C" fn vbr_map_put_held_within(
     ensures called { TellsPutHeld handle.old.owned.member handle.new.owned.member key value budget
         there.old there.new result }
     ensures steps { handle.new.steps ≡ handle.old.steps }
+    ensures opening { handle.new.opening ≡ handle.old.opening }
 {
     entry_records::put_held(handle.owned.owner_mut(), key, value, there, budget)
 }
@@ -106,6 +112,7 @@ pub extern "C" fn vbr_map_replace_held_within(
     ensures called { TellsReplaceHeld handle.old.owned.member handle.new.owned.member
         key (entry_named at.now) value budget result }
     ensures steps { handle.new.steps ≡ handle.old.steps }
+    ensures opening { handle.new.opening ≡ handle.old.opening }
 {
     entry_records::replace_held(handle.owned.owner_mut(), key, at, value, budget)
 }
@@ -122,6 +129,7 @@ pub extern "C" fn vbr_get_entry_within(
     ensures called { TellsHasNamed handle.old.owned.member handle.new.owned.member key budget
         (entry_named at.old) (entry_named at.new) result }
     ensures steps { handle.new.steps ≡ handle.old.steps }
+    ensures opening { handle.new.opening ≡ handle.old.opening }
 {
     records::get_entry(handle.owned.owner_mut(), key, at, budget)
 }
@@ -138,6 +146,7 @@ pub extern "C" fn vbr_map_get_entry_within(
     ensures called { TellsGetNamed handle.old.owned.member handle.new.owned.member key budget
         (entry_named at.old) (entry_named at.new) result }
     ensures steps { handle.new.steps ≡ handle.old.steps }
+    ensures opening { handle.new.opening ≡ handle.old.opening }
 {
     entry_records::get_entry(handle.owned.owner_mut(), key, at, budget)
 }
@@ -154,6 +163,7 @@ pub extern "C" fn vbr_remove_entry_within(
     ensures called { TellsRemoveKeyNamed handle.old.owned.member handle.new.owned.member
         key (entry_named at.now) budget result }
     ensures steps { handle.new.steps ≡ handle.old.steps }
+    ensures opening { handle.new.opening ≡ handle.old.opening }
 {
     records::remove_entry(handle.owned.owner_mut(), key, at, budget)
 }
@@ -170,6 +180,7 @@ pub extern "C" fn vbr_map_remove_entry_within(
     ensures called { TellsRemoveNamed handle.old.owned.member handle.new.owned.member
         key (entry_named at.now) budget result }
     ensures steps { handle.new.steps ≡ handle.old.steps }
+    ensures opening { handle.new.opening ≡ handle.old.opening }
 {
     entry_records::remove_entry(handle.owned.owner_mut(), key, at, budget)
 }
@@ -179,17 +190,19 @@ pub extern "C" fn vbr_map_remove_entry_within(
 #[unsafe(no_mangle)]
 pub extern "C" fn vbr_next_at_within(
     handle: &mut Handle,
-    cursor: &mut Cursor,
+    cursor: &mut HandleCursor,
     key: &mut u64,
     at: &mut Incarnation,
     budget: u32,
 ) -> i32
     ensures next { TellsNextNamedKey handle.old.owned.member handle.new.owned.member
-        cursor.old cursor.new budget
+        handle.old.opening cursor.old cursor.new budget
         (key.old, entry_named at.old) (key.new, entry_named at.new) result }
     ensures steps { handle.new.steps ≡ handle.old.steps }
+    ensures opening { handle.new.opening ≡ handle.old.opening }
 {
-    records::next_at(handle.owned.owner_mut(), cursor, key, at, budget)
+    let opening = handle.opening;
+    records::next_at(handle.owned.owner_mut(), opening, cursor, key, at, budget)
 }
 
 /// Writes the next key of a walk with its value, and where it stands: `vbr_map_next_at_within` of
@@ -197,17 +210,19 @@ pub extern "C" fn vbr_next_at_within(
 #[unsafe(no_mangle)]
 pub extern "C" fn vbr_map_next_at_within(
     handle: &mut MapHandle,
-    cursor: &mut Cursor,
+    cursor: &mut HandleCursor,
     key: &mut u64,
     at: &mut Incarnation,
     budget: u32,
 ) -> i32
     ensures next { TellsNextNamed handle.old.owned.member handle.new.owned.member
-        cursor.old cursor.new budget
+        handle.old.opening cursor.old cursor.new budget
         (key.old, entry_named at.old) (key.new, entry_named at.new) result }
     ensures steps { handle.new.steps ≡ handle.old.steps }
+    ensures opening { handle.new.opening ≡ handle.old.opening }
 {
-    entry_records::next_at(handle.owned.owner_mut(), cursor, key, at, budget)
+    let opening = handle.opening;
+    entry_records::next_at(handle.owned.owner_mut(), opening, cursor, key, at, budget)
 }
 
 /// Asks whether the slot of an entry still shows the birth of its node: `vbr_is_still` of vbr.h,
@@ -217,6 +232,7 @@ pub extern "C" fn vbr_is_still(handle: &mut Handle, at: &Incarnation) -> i32
     ensures asked { TellsIfStill handle.old.owned.member handle.new.owned.member
         (entry_named at.now) result }
     ensures steps { handle.new.steps ≡ handle.old.steps }
+    ensures opening { handle.new.opening ≡ handle.old.opening }
 {
     records::is_still(handle.owned.owner_mut(), at)
 }
@@ -228,6 +244,7 @@ pub extern "C" fn vbr_map_is_still(handle: &mut MapHandle, at: &Incarnation) -> 
     ensures asked { TellsIfStill handle.old.owned.member handle.new.owned.member
         (entry_named at.now) result }
     ensures steps { handle.new.steps ≡ handle.old.steps }
+    ensures opening { handle.new.opening ≡ handle.old.opening }
 {
     records::is_still(handle.owned.owner_mut(), at)
 }

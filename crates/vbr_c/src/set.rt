@@ -7,7 +7,7 @@ ghost use Rattle.vbr_handles.specs.GivingSlotsBack.{ClosesHandle};
 ghost use Rattle.vbr_handles.specs.Iterating.{TellsNext};
 ghost use Rattle.vbr_handles.specs.Opening.{AreEmpty, spread_start};
 ghost use Rattle.vbr_handles.specs.OpeningCodes.{TellsOpeningMany, TellsOpeningWith};
-ghost use Rattle.vbr_handles.specs.AllHandles.{KeepSteps, members_in};
+ghost use Rattle.vbr_handles.specs.AllHandles.{KeepOpenings, KeepSteps, members_in};
 ghost use Rattle.vbr_handles.specs.Renewals.{TellsRenewal};
 ghost use Rattle.vbr_handles.specs.Reports.{TellsCloseAll, TellsReport, TellsReportSlots};
 ghost use Rattle.vbr_set.specs.members.AllMembers.{AreOfOneSet};
@@ -15,8 +15,7 @@ ghost use Rattle.vbr_handles.specs.Shown.{IsSeedOf, balance_shown, buckets_of, e
 
 use std::alloc::Global;
 use vbr_handles::coded_calls::{batches, giving_slots_back, iterating};
-use vbr_handles::{Handle, ReportNumbers, ShapeNumbers, accessors, coded_calls};
-use vbr_set::Cursor;
+use vbr_handles::{Handle, HandleCursor, ReportNumbers, ShapeNumbers, accessors, coded_calls};
 use vbr_words::Keys;
 
 /// Opens a set of these keys, spread over the buckets by the seed: `vbr_open_seeded` of vbr.h,
@@ -78,6 +77,7 @@ pub extern "C" fn vbr_insert_within(handle: &mut Handle, key: u64, budget: u32) 
     ensures called { TellsInsert handle.old.owned.member handle.new.owned.member
         key budget result }
     ensures steps { handle.new.steps ≡ handle.old.steps }
+    ensures opening { handle.new.opening ≡ handle.old.opening }
 {
     coded_calls::insert(handle.owned.owner_mut(), key, budget)
 }
@@ -88,6 +88,7 @@ pub extern "C" fn vbr_remove_within(handle: &mut Handle, key: u64, budget: u32) 
     ensures called { TellsCall Remove handle.old.owned.member handle.new.owned.member
         key budget result }
     ensures steps { handle.new.steps ≡ handle.old.steps }
+    ensures opening { handle.new.opening ≡ handle.old.opening }
 {
     coded_calls::remove(handle.owned.owner_mut(), key, budget)
 }
@@ -98,6 +99,7 @@ pub extern "C" fn vbr_has_within(handle: &mut Handle, key: u64, budget: u32) -> 
     ensures called { TellsCall Has handle.old.owned.member handle.new.owned.member
         key budget result }
     ensures steps { handle.new.steps ≡ handle.old.steps }
+    ensures opening { handle.new.opening ≡ handle.old.opening }
 {
     coded_calls::has(handle.owned.owner_mut(), key, budget)
 }
@@ -116,6 +118,7 @@ pub extern "C" fn vbr_has_all_within(
     ensures called { TellsHasAll handle.old.owned.member handle.new.owned.member
         keys.now budget answers.new }
     ensures steps { handle.new.steps ≡ handle.old.steps }
+    ensures opening { handle.new.opening ≡ handle.old.opening }
 {
     batches::has_all(handle.owned.owner_mut(), keys, answers, budget);
 }
@@ -126,6 +129,7 @@ pub extern "C" fn vbr_epoch(handle: &mut Handle) -> u64
     ensures same { handle.new.owned.member ≡ handle.old.owned.member }
     ensures epoch { result ≡ epoch_of_handle handle.old.owned.member }
     ensures steps { handle.new.steps ≡ handle.old.steps }
+    ensures opening { handle.new.opening ≡ handle.old.opening }
 {
     accessors::epoch(handle.owned.owner_mut())
 }
@@ -137,6 +141,7 @@ pub extern "C" fn vbr_last_epoch(handle: &mut Handle) -> u64
     ensures same { handle.new.owned.member ≡ handle.old.owned.member }
     ensures last { result ≡ last_epoch_of handle.old.owned.member }
     ensures steps { handle.new.steps ≡ handle.old.steps }
+    ensures opening { handle.new.opening ≡ handle.old.opening }
 {
     accessors::last_epoch(handle.owned.owner_mut())
 }
@@ -148,6 +153,7 @@ pub extern "C" fn vbr_slots(handle: &mut Handle) -> u32
     ensures same { handle.new.owned.member ≡ handle.old.owned.member }
     ensures slots { result ≡ slots_of handle.old.owned.member }
     ensures steps { handle.new.steps ≡ handle.old.steps }
+    ensures opening { handle.new.opening ≡ handle.old.opening }
 {
     accessors::slots(handle.owned.owner_mut())
 }
@@ -159,6 +165,7 @@ pub extern "C" fn vbr_buckets(handle: &mut Handle) -> u32
     ensures same { handle.new.owned.member ≡ handle.old.owned.member }
     ensures buckets { result ≡ buckets_of handle.old.owned.member }
     ensures steps { handle.new.steps ≡ handle.old.steps }
+    ensures opening { handle.new.opening ≡ handle.old.opening }
 {
     accessors::buckets(handle.owned.owner_mut())
 }
@@ -170,6 +177,7 @@ pub extern "C" fn vbr_seed(handle: &mut Handle) -> u64
     ensures same { handle.new.owned.member ≡ handle.old.owned.member }
     ensures seed { IsSeedOf handle.old.owned.member result }
     ensures steps { handle.new.steps ≡ handle.old.steps }
+    ensures opening { handle.new.opening ≡ handle.old.opening }
 {
     accessors::seed(handle.owned.owner_mut())
 }
@@ -181,6 +189,7 @@ pub extern "C" fn vbr_balance(handle: &mut Handle) -> i64
     ensures same { handle.new.owned.member ≡ handle.old.owned.member }
     ensures balance { result ≡ balance_shown handle.old.owned.member }
     ensures steps { handle.new.steps ≡ handle.old.steps }
+    ensures opening { handle.new.opening ≡ handle.old.opening }
 {
     accessors::balance(handle.owned.owner_mut())
 }
@@ -197,6 +206,7 @@ pub extern "C" fn vbr_close(
     ensures closes { ClosesHandle handle.old.owned.member handle.new.owned.member keys.old keys.new
         report.old report.new result }
     ensures steps { handle.new.steps ≡ handle.old.steps }
+    ensures opening { handle.new.opening ≡ handle.old.opening }
 {
     giving_slots_back::close::<Keys, u64>(alloc, handle.owned.owner_mut(), keys, report)
 }
@@ -214,6 +224,7 @@ pub extern "C" fn vbr_close_all(
     ensures closes { TellsCloseAll handles.old handles.new keys.old keys.new
         report.old report.new result }
     ensures steps { KeepSteps handles.old handles.new }
+    ensures openings { KeepOpenings handles.old handles.new }
 {
     coded_calls::close_all::<Keys, u64, Handle>(alloc, handles, keys, report)
 }
@@ -231,6 +242,7 @@ pub extern "C" fn vbr_report_all(
     ensures reports { TellsReport handles.old handles.new keys.old keys.new
         report.old report.new result }
     ensures steps { KeepSteps handles.old handles.new }
+    ensures openings { KeepOpenings handles.old handles.new }
 {
     coded_calls::report_all::<Keys, u64, Handle>(alloc, handles, keys, report)
 }
@@ -251,6 +263,7 @@ pub extern "C" fn vbr_report_slots(
     ensures reports { TellsReportSlots handles.old handles.new keys.old keys.new
         slots.old slots.new report.old report.new result }
     ensures steps { KeepSteps handles.old handles.new }
+    ensures openings { KeepOpenings handles.old handles.new }
 {
     coded_calls::report_all_with_slots::<Keys, u64, Handle>(alloc, handles, keys, slots, report)
 }
@@ -285,6 +298,7 @@ pub extern "C" fn vbr_renew_all_seeded(
 pub extern "C" fn vbr_drop(alloc: Global, handle: &mut Handle)
     ensures empty { handle.new.owned.member ≡ None }
     ensures steps { handle.new.steps ≡ handle.old.steps }
+    ensures opening { handle.new.opening ≡ handle.old.opening }
 {
     vbr_handles::abandon(alloc, handle.owned.owner_mut());
 }
@@ -294,6 +308,7 @@ pub extern "C" fn vbr_drop(alloc: Global, handle: &mut Handle)
 pub extern "C" fn vbr_end_all(alloc: Global, handles: &mut [Handle])
     ensures empty { AreEmpty (λ (handle : Handle). handle.owned.member) handles.new }
     ensures steps { KeepSteps handles.old handles.new }
+    ensures openings { KeepOpenings handles.old handles.new }
 {
     vbr_handles::abandon_all::<Keys, Handle>(alloc, handles);
 }
@@ -302,13 +317,15 @@ pub extern "C" fn vbr_end_all(alloc: Global, handles: &mut [Handle])
 #[unsafe(no_mangle)]
 pub extern "C" fn vbr_next_within(
     handle: &mut Handle,
-    cursor: &mut Cursor,
+    cursor: &mut HandleCursor,
     key: &mut u64,
     budget: u32,
 ) -> i32
     ensures next { TellsNext handle.old.owned.member handle.new.owned.member
-        cursor.old cursor.new budget key.old key.new result }
+        handle.old.opening cursor.old cursor.new budget key.old key.new result }
     ensures steps { handle.new.steps ≡ handle.old.steps }
+    ensures opening { handle.new.opening ≡ handle.old.opening }
 {
-    iterating::next_key(handle.owned.owner_mut(), cursor, key, budget)
+    let opening = handle.opening;
+    iterating::next_key(handle.owned.owner_mut(), opening, cursor, key, budget)
 }

@@ -26,13 +26,13 @@ use Rattle.vbr_handles.specs.declared.asking_all.Answer.TheVariants as answering
 use Rattle.vbr_handles.specs.declared.asking_all.Question.{Question}
 use Rattle.vbr_handles.specs.declared.asking_all.Question.TheVariants as question
 use Rattle.vbr_handles.specs.Listings.{Listing, with_slots}
-use Rattle.vbr_handles.specs.Opening.{spread_shape}
+use Rattle.vbr_handles.specs.Opening.{listed_start, spread_shape}
 use Rattle.vbr_handles.specs.OpeningReserves.{StartWithReserves, StartsWithReserve}
 use Rattle.vbr_handles.specs.RenewingAll.{RenewsTo}
 use Rattle.vbr_handles.specs.declared.closing_all.CloseAllRefusal.{CloseAllRefusal}
 use Rattle.vbr_handles.specs.declared.opening.ShapeNumbers.{ShapeNumbers}
 use Rattle.vbr_handles.proofs.AllHandles.{moved}
-use Rattle.vbr_handles.proofs.Opened.{new_count}
+use Rattle.vbr_handles.proofs.Opened.{new_count, still_opened}
 
 module _ {H : Type 0} (member : H → Option Member) where
   -- a handle of those from a number on, and the others
@@ -314,3 +314,13 @@ module _ {H : Type 0} (member : H → Option Member) where
           members = full;
         };
       }
+
+  -- and stay so where their openings alone change
+  pub still_renewed : {Item R I : Type 0} (kind : KindOf Item R) (L : Listing R I) (members : List Member)
+      (numbers : ShapeNumbers) (handles after : List H) → map member after ≡ map member handles →
+      RenewsTo kind L member members numbers handles → RenewsTo kind L member members numbers after
+  still_renewed kind L members numbers handles after same r = record {
+    report = r.report;
+    reports = r.reports;
+    opened = still_opened member (listed_start L numbers (L.items r.report)) handles after same r.opened;
+  }

@@ -3,6 +3,8 @@ mod Bounds
 mod Owning
 mod Recast
 mod Opened
+mod FreshOpenings
+mod OpeningNumbers
 mod AllHandles
 mod AskingAll
 mod EachOnce

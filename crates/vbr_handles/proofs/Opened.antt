@@ -55,3 +55,19 @@ one_more_owned owners owners' owner m left rest whole more split is so_far =
     ∙ ap (λ (o : Option MemberView). map f owners ++ o ∷ map Some rest) is
     ∙ sym (ap (λ (ms : List MemberView). map f owners ++ map Some ms) split)
     ∙ so_far
+
+-- and they stay so where their openings alone change
+pub still_opened : {H : Type 0} (member : H → Option MemberView) (start : Start) (handles after : List H) →
+    map member after ≡ map member handles → AreOpened member start handles → AreOpened member start after
+still_opened member start handles after same opened =
+    let long : length after ≡ length handles =
+    sym (length-map after member) ∙ ap (λ (os : List (Option MemberView)). length os) same ∙ length-map handles member
+    in
+    record {
+      set = opened.set;
+      shaped = opened.shaped;
+      counted = opened.counted ∙ sym long;
+      came = opened.came;
+      reserves = subst (λ (n : ℕ). StartWithReserves (new_members opened.set n) opened.came) (sym long) opened.reserves;
+      members = same ∙ opened.members;
+    }

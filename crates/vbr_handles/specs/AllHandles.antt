@@ -35,6 +35,13 @@ KeepSteps before after = map (λ (handle : Handle). handle.steps) after ≡ map 
 abbrev pub KeepMapSteps : List MapHandle → List MapHandle → Type 0
 KeepMapSteps before after = map (λ (handle : MapHandle). handle.steps) after ≡ map (λ (handle : MapHandle). handle.steps) before
 
+-- the handles are of the openings that they were of
+abbrev pub KeepOpenings : List Handle → List Handle → Type 0
+KeepOpenings before after = map (λ (handle : Handle). handle.opening) after ≡ map (λ (handle : Handle). handle.opening) before
+
+abbrev pub KeepMapOpenings : List MapHandle → List MapHandle → Type 0
+KeepMapOpenings before after = map (λ (handle : MapHandle). handle.opening) after ≡ map (λ (handle : MapHandle). handle.opening) before
+
 module _ {H : Type 0} (member : H → Option Member) where
   -- each handle has a member
   abbrev pub AreFull : List H → Type 0

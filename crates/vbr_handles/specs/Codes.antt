@@ -37,6 +37,10 @@ empty_code = negsuc 3
 abbrev pub held_code : ℤ
 held_code = negsuc 13
 
+-- for a walk that began on another opening: -15
+abbrev pub reshaped_code : ℤ
+reshaped_code = negsuc 14
+
 -- for a hold: 1 a slot is held; otherwise one was held before, or it is the refusal of a call
 abbrev pub hold_code : Result ℕ HoldRefusal → ℤ
 hold_code (Ok slot) = pos 1

@@ -8,6 +8,7 @@ pub mod ListedKeys
 pub mod ToppingUp
 pub mod OpeningReserves
 pub mod Opening
+pub mod Openings
 pub mod Closing
 pub mod Codes
 pub mod EachOnce

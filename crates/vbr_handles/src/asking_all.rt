@@ -69,6 +69,7 @@ pub(crate) fn ask_all<N: Kind, H: HandleOf<N>>(
     requires { AreOfOneSet (members_by H.member handles.old) }
     ensures asks { AsksAllOf N.kind H.member question handles.old handles.new result }
     ensures steps { map H.steps handles.new ≡ map H.steps handles.old }
+    ensures openings { map H.opening handles.new ≡ map H.opening handles.old }
 {
     if !are_full::<N, H>(handles) {
         return Err(AskRefusal::Empty);
@@ -163,7 +164,8 @@ fn take_all_out<N: Nodes, H: HandleOf<N>>(
     ensures many { length result.0.items ≡ length handles.old }
     ensures blocks { length result.1.items ≡ length handles.old }
     ensures long { length handles.new ≡ length handles.old }
-    ensures steps { map H.steps handles.new ≡ map H.steps handles.old }
+    ensures kept { (map H.steps handles.new ≡ map H.steps handles.old)
+        × (map H.opening handles.new ≡ map H.opening handles.old) }
 {
     for i in 0..handles.len() {
         let Some((member, vacant)) = take_out::<N, H>(alloc, &mut handles[i]) else {
@@ -187,6 +189,7 @@ fn put_all_back<N: Nodes, H: HandleOf<N>>(
     requires blocks { length blocks.items ≡ length handles.old }
     ensures members { map H.member handles.new ≡ map Some members.items }
     ensures steps { map H.steps handles.new ≡ map H.steps handles.old }
+    ensures openings { map H.opening handles.new ≡ map H.opening handles.old }
 {
     let mut members = members.into_iter();
     let mut blocks = blocks.into_iter();
@@ -286,6 +289,7 @@ fn take_out<N: Nodes, H: HandleOf<N>>(
     ensures there { IsSome (H.member handle.old) → IsSome result }
     ensures left { H.member handle.new ≡ None }
     ensures steps { H.steps handle.new ≡ H.steps handle.old }
+    ensures opening { H.opening handle.new ≡ H.opening handle.old }
 {
     let mut owner = Owner::empty(alloc);
     handle.swap(&mut owner);
@@ -302,6 +306,7 @@ fn put_back<N: Nodes, H: HandleOf<N>>(
 )
     ensures member { H.member handle.new ≡ Some member }
     ensures steps { H.steps handle.new ≡ H.steps handle.old }
+    ensures opening { H.opening handle.new ≡ H.opening handle.old }
 {
     let mut owner = Owner::empty(alloc);
     owner.put_back(member, block);

@@ -46,6 +46,7 @@ pub fn report_all<N: Kind, I: Listed<N>, H: HandleOf<N>>(
     ensures reports { ReportsAllOf H.member (ClosesBy N.kind) I.listing
         handles.old handles.new room result }
     ensures steps { map H.steps handles.new ≡ map H.steps handles.old }
+    ensures openings { map H.opening handles.new ≡ map H.opening handles.old }
 {
     let report = match ask_all::<N, H>(alloc, handles, Question::Report) {
         Ok(Answer::Report(report)) => report,
@@ -73,6 +74,7 @@ pub fn report_all_with_slots<N: Kind, I: Listed<N>, H: HandleOf<N>>(
     ensures reports { ReportsAllOf H.member (ClosesWithSlots N.kind) (with_slots I.listing)
         handles.old handles.new room result }
     ensures steps { map H.steps handles.new ≡ map H.steps handles.old }
+    ensures openings { map H.opening handles.new ≡ map H.opening handles.old }
 {
     let told = match ask_all::<N, H>(alloc, handles, Question::ReportSlots) {
         Ok(Answer::ReportSlots(told)) => told,
@@ -101,6 +103,7 @@ pub fn close_all<N: Kind, I: Listed<N>, H: HandleOf<N>>(
     ensures closes { ClosesAll H.member (ClosesBy N.kind) I.listing
         handles.old handles.new room result }
     ensures steps { map H.steps handles.new ≡ map H.steps handles.old }
+    ensures openings { map H.opening handles.new ≡ map H.opening handles.old }
 {
     let report = report_all::<N, I, H>(alloc, handles, room)?;
     abandon_all::<N, H>(alloc, handles);
@@ -112,6 +115,7 @@ pub fn close_all<N: Kind, I: Listed<N>, H: HandleOf<N>>(
 pub fn abandon_all<N: Nodes, H: HandleOf<N>>(alloc: Global, handles: &mut [H])
     ensures empty { AreEmpty H.member handles.new }
     ensures steps { map H.steps handles.new ≡ map H.steps handles.old }
+    ensures openings { map H.opening handles.new ≡ map H.opening handles.old }
 {
     for i in 0..handles.len() {
         let mut owner = Owner::empty(alloc);

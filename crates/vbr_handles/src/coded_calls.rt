@@ -73,6 +73,8 @@ const MIXED: i32 = -13;
 
 const HELD: i32 = -14;
 
+const RESHAPED: i32 = -15;
+
 /// Opens a set of these keys for handles, or a map of these entries, as [`crate::open_with`] does.
 pub fn open_with<N: Kind, I: Listed<N>, H: HandleOf<N>>(
     alloc: Global,
@@ -80,7 +82,7 @@ pub fn open_with<N: Kind, I: Listed<N>, H: HandleOf<N>>(
     numbers: ShapeNumbers,
     items: &[I],
 ) -> i32
-    ensures opens { TellsOpeningBy H.member MAX_PASSES handles.old handles.new
+    ensures opens { TellsOpeningBy H.member H.opening MAX_PASSES handles.old handles.new
         (listed_start I.listing numbers items.now) result }
     ensures steps { map H.steps handles.new ≡ map H.steps handles.old }
 {
@@ -94,7 +96,7 @@ pub fn open_many<N: Kind, I: Listed<N>, H: HandleOf<N>>(
     numbers: ShapeNumbers,
     items: &[I],
 ) -> i32
-    ensures opens { TellsOpeningBy H.member MAX_MANY_PASSES handles.old handles.new
+    ensures opens { TellsOpeningBy H.member H.opening MAX_MANY_PASSES handles.old handles.new
         (listed_start I.listing numbers items.now) result }
     ensures steps { map H.steps handles.new ≡ map H.steps handles.old }
 {
@@ -176,6 +178,7 @@ pub fn close_all<N: Kind, I: Listed<N>, H: HandleOf<N>>(
     ensures closes { TellsCloseAllBy I.listing (ClosesBy N.kind) H.member handles.old handles.new
         items.old items.new told.old told.new result }
     ensures steps { map H.steps handles.new ≡ map H.steps handles.old }
+    ensures openings { map H.opening handles.new ≡ map H.opening handles.old }
 {
     let answer = crate::closing_all::close_all::<N, I, H>(alloc, handles, items.len());
     write_all::<N, I>(&answer, items, told);
@@ -194,6 +197,7 @@ pub fn report_all<N: Kind, I: Listed<N>, H: HandleOf<N>>(
     ensures reports { TellsReportBy I.listing (ClosesBy N.kind) H.member handles.old handles.new
         items.old items.new told.old told.new result }
     ensures steps { map H.steps handles.new ≡ map H.steps handles.old }
+    ensures openings { map H.opening handles.new ≡ map H.opening handles.old }
 {
     let answer = crate::closing_all::report_all::<N, I, H>(alloc, handles, items.len());
     write_all::<N, I>(&answer, items, told);
@@ -215,6 +219,7 @@ pub fn report_all_with_slots<N: Kind, I: Listed<N>, H: HandleOf<N>>(
     ensures reports { TellsReportSlotsBy I.listing N.kind H.member handles.old handles.new
         items.old items.new slots.old slots.new told.old told.new result }
     ensures steps { map H.steps handles.new ≡ map H.steps handles.old }
+    ensures openings { map H.opening handles.new ≡ map H.opening handles.old }
 {
     let room = items.len();
     let answer = crate::closing_all::report_all_with_slots::<N, I, H>(alloc, handles, room);
@@ -229,7 +234,7 @@ pub fn renew_all<N: Kind, I: Listed<N>, H: HandleOf<N>>(
     numbers: ShapeNumbers,
 ) -> i32
     requires { AreOfOneSet (members_by H.member handles.old) }
-    ensures renews { TellsRenewalBy N.kind I.listing H.member handles.old handles.new
+    ensures renews { TellsRenewalBy N.kind I.listing H.member H.opening handles.old handles.new
         numbers result }
     ensures steps { map H.steps handles.new ≡ map H.steps handles.old }
 {

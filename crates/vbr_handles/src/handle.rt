@@ -44,6 +44,11 @@ pub struct Handle {
     /// The budget of calls that are given none, or 0 for the ample one. It belongs to the caller: no
     /// call here reads or writes it.
     pub steps: u32,
+    /// The mark that a process has a call under way. It belongs to the caller as well.
+    pub in_call: u32,
+    /// Which opening it is of: 0 before the first, and another number after each opening and each
+    /// renewal ([`crate::openings`]). A close and a drop leave it.
+    pub opening: u32,
 }
 
 /// A handle to a map.
@@ -53,4 +58,8 @@ pub struct MapHandle {
     pub owned: MapOwner,
     /// The budget of calls that are given none, as in a [`Handle`].
     pub steps: u32,
+    /// The mark that a process has a call under way, as in a [`Handle`].
+    pub in_call: u32,
+    /// Which opening it is of, as in a [`Handle`].
+    pub opening: u32,
 }

@@ -17,6 +17,8 @@ pub trait HandleOf<N: Nodes>: Sized {
 
     ghost steps: { Self → ℕ };
 
+    ghost opening: { Self → ℕ };
+
     /// Whether it is empty. It stays as it is.
     fn is_empty(&mut self) -> bool
         ensures { (result ≡ false → IsSome (member self.old))
@@ -43,10 +45,21 @@ pub trait HandleOf<N: Nodes>: Sized {
         requires other { IsSome (member other.old) }
         ensures { (self.new ≡ self.old) × (other.new ≡ other.old) };
 
-    /// Gives its member to an owner, and takes over what this has. Its budget stays.
+    /// Gives its member to an owner, and takes over what this has. Its budget and its opening stay.
     fn swap(&mut self, owner: &mut Owner<Member<N>>)
         ensures given { owner.new.member ≡ member self.old }
         ensures taken { member self.new ≡ owner.old.member }
+        ensures steps { steps self.new ≡ steps self.old }
+        ensures opening { opening self.new ≡ opening self.old };
+
+    /// The number of its opening. It stays as it is.
+    fn opening_number(&mut self) -> u32
+        ensures { (result ≡ opening self.old) × (self.new ≡ self.old) };
+
+    /// Gives it the number of an opening. Its member and its budget stay.
+    fn set_opening(&mut self, number: u32)
+        ensures opening { opening self.new ≡ number }
+        ensures member { member self.new ≡ member self.old }
         ensures steps { steps self.new ≡ steps self.old };
 }
 
@@ -54,6 +67,8 @@ impl HandleOf<Keys> for Handle {
     ghost member = { λ h. h.owned.member };
 
     ghost steps = { λ h. h.steps };
+
+    ghost opening = { λ h. h.opening };
 
     fn is_empty(&mut self) -> bool {
         self.owned.owner_mut().is_empty()
@@ -79,12 +94,22 @@ impl HandleOf<Keys> for Handle {
     fn swap(&mut self, owner: &mut Owner<Member<Keys>>) {
         swap(self.owned.owner_mut(), owner);
     }
+
+    fn opening_number(&mut self) -> u32 {
+        self.opening
+    }
+
+    fn set_opening(&mut self, number: u32) {
+        self.opening = number;
+    }
 }
 
 impl HandleOf<Entries> for MapHandle {
     ghost member = { λ h. h.owned.member };
 
     ghost steps = { λ h. h.steps };
+
+    ghost opening = { λ h. h.opening };
 
     fn is_empty(&mut self) -> bool {
         self.owned.owner_mut().is_empty()
@@ -109,5 +134,13 @@ impl HandleOf<Entries> for MapHandle {
 
     fn swap(&mut self, owner: &mut Owner<Member<Entries>>) {
         swap(self.owned.owner_mut(), owner);
+    }
+
+    fn opening_number(&mut self) -> u32 {
+        self.opening
+    }
+
+    fn set_opening(&mut self, number: u32) {
+        self.opening = number;
     }
 }

@@ -3,9 +3,11 @@ ghost use Rattle.std.specs.Prelude.{◌≡◌, ◌≤◌, true, false, length, m
 ghost use Rattle.vbr_words.specs.Dimensions.{IsShape};
 ghost use Rattle.vbr_slots.specs.declared.opening.TheConstants.{MAX_MANY_PASSES, MAX_PASSES};
 ghost use Rattle.vbr_handles.specs.Opening.{AreEmpty, Opens, listed_start, spread_shape};
+ghost use Rattle.vbr_handles.specs.Openings.{BeginAnew};
 
 use crate::handle_of::HandleOf;
 use crate::items::Listed;
+use crate::openings::begin_anew;
 use crate::owner::Owner;
 use crate::reserves::with_reserves;
 use std::alloc::{AllocError, Global};
@@ -67,6 +69,7 @@ pub fn open_with<N: Kind, I: Listed<N>, H: HandleOf<N>>(
     ensures opens { Opens H.member MAX_PASSES handles.old handles.new
         (listed_start I.listing numbers items.now) result }
     ensures steps { map H.steps handles.new ≡ map H.steps handles.old }
+    ensures begins { BeginAnew H.opening handles.old handles.new result }
 {
     open_up_to::<N, I, H>(alloc, handles, MAX_PASSES, numbers, items)
 }
@@ -82,6 +85,7 @@ pub fn open_many<N: Kind, I: Listed<N>, H: HandleOf<N>>(
     ensures opens { Opens H.member MAX_MANY_PASSES handles.old handles.new
         (listed_start I.listing numbers items.now) result }
     ensures steps { map H.steps handles.new ≡ map H.steps handles.old }
+    ensures begins { BeginAnew H.opening handles.old handles.new result }
 {
     open_up_to::<N, I, H>(alloc, handles, MAX_MANY_PASSES, numbers, items)
 }
@@ -98,6 +102,7 @@ fn open_up_to<N: Kind, I: Listed<N>, H: HandleOf<N>>(
     ensures opens { Opens H.member most handles.old handles.new
         (listed_start I.listing numbers items.now) result }
     ensures steps { map H.steps handles.new ≡ map H.steps handles.old }
+    ensures begins { BeginAnew H.opening handles.old handles.new result }
 {
     let Some(shape) = numbers.shape() else {
         return Err(OpenRefusal::Shape);
@@ -120,6 +125,7 @@ fn open_up_to<N: Kind, I: Listed<N>, H: HandleOf<N>>(
         return Err(OpenRefusal::Memory);
     };
     fill(handles, opened);
+    begin_anew::<N, H>(handles);
     Ok(())
 }
 
@@ -157,6 +163,7 @@ fn fill<N: Nodes, H: HandleOf<N>>(handles: &mut [H], owners: Vec<Owner<Member<N>
     requires { length owners.items ≡ length handles.old }
     ensures members { map H.member handles.new ≡ map (λ o. o.member) owners.items }
     ensures steps { map H.steps handles.new ≡ map H.steps handles.old }
+    ensures openings { map H.opening handles.new ≡ map H.opening handles.old }
 {
     let mut owners = owners.into_iter();
     for i in 0..handles.len() {

@@ -2,12 +2,14 @@
 ghost use Rattle.std.specs.Prelude.{◌≡◌, map};
 ghost use Rattle.vbr_set.specs.members.AllMembers.{AreOfOneSet};
 ghost use Rattle.vbr_handles.specs.AllHandles.{members_by};
+ghost use Rattle.vbr_handles.specs.Openings.{BeginAnew};
 ghost use Rattle.vbr_handles.specs.RenewingAll.{RenewsAll};
 
 use crate::asking_all::{Answer, AskRefusal, Question, ask_all};
 use crate::handle_of::HandleOf;
 use crate::items::Listed;
 use crate::opening::ShapeNumbers;
+use crate::openings::begin_anew;
 use std::alloc::Global;
 use vbr_set::Kind;
 
@@ -44,12 +46,16 @@ pub fn renew_all<N: Kind, I: Listed<N>, H: HandleOf<N>>(
     requires { AreOfOneSet (members_by H.member handles.old) }
     ensures renews { RenewsAll N.kind I.listing H.member handles.old handles.new numbers result }
     ensures steps { map H.steps handles.new ≡ map H.steps handles.old }
+    ensures begins { BeginAnew H.opening handles.old handles.new result }
 {
     let Some(shape) = numbers.shape() else {
         return Err(RenewAllRefusal::Shape);
     };
     match ask_all::<N, H>(alloc, handles, Question::Renew(shape)) {
-        Ok(Answer::Renewed) => Ok(()),
+        Ok(Answer::Renewed) => {
+            begin_anew::<N, H>(handles);
+            Ok(())
+        }
         Ok(Answer::Room) => Err(RenewAllRefusal::Room),
         Ok(Answer::Memory) => Err(RenewAllRefusal::Memory),
         Ok(Answer::Report(_) | Answer::ReportSlots(_)) => unreachable!(),

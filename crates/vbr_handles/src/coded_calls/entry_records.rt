@@ -13,10 +13,11 @@ use crate::coded_calls::records::{
     give_incarnation, give_named, has_added_held, held_call_code, make_room,
 };
 use crate::coded_calls::topping_up::top_up_after;
-use crate::coded_calls::{EMPTY, NO, YES, call_code};
+use crate::coded_calls::{EMPTY, NO, RESHAPED, YES, call_code};
+use crate::cursor::HandleCursor;
 use crate::incarnation::Incarnation;
 use crate::owner::Owner;
-use vbr_set::{Cursor, HeldRefusal, MapMember, Refusal};
+use vbr_set::{HeldRefusal, MapMember, Refusal};
 
 /// Adds a key with its value by the slot that the member of a handle holds, as [`records::insert_held`] adds a key.
 ///
@@ -103,22 +104,30 @@ pub fn remove_entry(owner: &mut Owner<MapMember>, key: u64, at: &Incarnation, bu
     taken_code(owner.member_mut().remove_exactly(key, &at.entry(), budget))
 }
 
-/// Finds the next key at a cursor by the member of a handle, and writes it and where it stands, with
+/// Finds the next key at a cursor by the member of a handle of this opening, and writes it and where it stands, with
 /// its value (`next_named` of [`MapMember`]).
 pub fn next_at(
     owner: &mut Owner<MapMember>,
-    cursor: &mut Cursor,
+    opening: u32,
+    cursor: &mut HandleCursor,
     key: &mut u64,
     at: &mut Incarnation,
     budget: u32,
 ) -> i32
-    ensures { TellsNextNamed owner.old.member owner.new.member cursor.old cursor.new budget
+    ensures { TellsNextNamed owner.old.member owner.new.member opening
+        cursor.old cursor.new budget
         (key.old, entry_named at.old) (key.new, entry_named at.new) result }
 {
     if owner.is_empty() {
         return EMPTY;
     }
-    give_named(owner.member_mut().next_named(cursor, budget), key, at)
+    if cursor.began_elsewhere(opening) {
+        return RESHAPED;
+    }
+    let mut place = cursor.place();
+    let answer = owner.member_mut().next_named(&mut place, budget);
+    cursor.come_to(place, opening);
+    give_named(answer, key, at)
 }
 
 // Writes the value of an answer, if it has one, and returns the number of the answer.

@@ -1,5 +1,5 @@
 //! The calls of an iteration with their answers as numbers. What is next is written if there is a next
-//! one, otherwise nothing is.
+//! one, otherwise nothing is. If the walk began on another opening than the handle's, nothing is done.
 ghost use Rattle.std.specs.Prelude.{◌≡◌};
 ghost use Rattle.vbr_list.specs.calls.Told.{is_yes};
 ghost use Rattle.vbr_handles.specs.Codes.{call_code};
@@ -7,43 +7,61 @@ ghost use Rattle.vbr_handles.specs.Iterating.{TellsNext, TellsNextEntry};
 ghost use Rattle.vbr_handles.specs.ValueCalls.{WritesGiven};
 
 use crate::coded_calls::entries::give;
-use crate::coded_calls::{EMPTY, NO, YES, call_code};
+use crate::coded_calls::{EMPTY, NO, RESHAPED, YES, call_code};
+use crate::cursor::HandleCursor;
 use crate::entry::Entry;
 use crate::owner::Owner;
 use vbr_set::member::Member;
-use vbr_set::{Cursor, MapMember, Refusal};
+use vbr_set::{MapMember, Refusal};
 use vbr_words::Nodes;
 
-/// Finds the next key at a cursor by the member of a handle, and writes it.
+/// Finds the next key at a cursor by the member of a handle of this opening, and writes it.
 pub fn next_key<N: Nodes>(
     owner: &mut Owner<Member<N>>,
-    cursor: &mut Cursor,
+    opening: u32,
+    cursor: &mut HandleCursor,
     key: &mut u64,
     budget: u32,
 ) -> i32
-    ensures { TellsNext owner.old.member owner.new.member cursor.old cursor.new budget
+    ensures { TellsNext owner.old.member owner.new.member opening
+        cursor.old cursor.new budget
         key.old key.new result }
 {
     if owner.is_empty() {
         return EMPTY;
     }
-    give(owner.member_mut().next_key(cursor, budget), key)
+    if cursor.began_elsewhere(opening) {
+        return RESHAPED;
+    }
+    let mut place = cursor.place();
+    let answer = owner.member_mut().next_key(&mut place, budget);
+    cursor.come_to(place, opening);
+    give(answer, key)
 }
 
-/// Finds the next entry at a cursor by the member of a handle, and writes its key and its value.
+/// Finds the next entry at a cursor by the member of a handle of this opening, and writes its key and
+/// its value.
 pub fn next_entry(
     owner: &mut Owner<MapMember>,
-    cursor: &mut Cursor,
+    opening: u32,
+    cursor: &mut HandleCursor,
     entry: &mut Entry,
     budget: u32,
 ) -> i32
-    ensures { TellsNextEntry owner.old.member owner.new.member cursor.old cursor.new budget
+    ensures { TellsNextEntry owner.old.member owner.new.member opening
+        cursor.old cursor.new budget
         (entry.old.key, entry.old.value) (entry.new.key, entry.new.value) result }
 {
     if owner.is_empty() {
         return EMPTY;
     }
-    give_entry(owner.member_mut().next_entry(cursor, budget), entry)
+    if cursor.began_elsewhere(opening) {
+        return RESHAPED;
+    }
+    let mut place = cursor.place();
+    let answer = owner.member_mut().next_entry(&mut place, budget);
+    cursor.come_to(place, opening);
+    give_entry(answer, entry)
 }
 
 // Writes the key and the value of an answer, if it has an entry, and returns the number of the answer.

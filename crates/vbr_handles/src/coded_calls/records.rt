@@ -11,12 +11,13 @@ ghost use Rattle.vbr_handles.specs.ValueCalls.{WritesGiven};
 
 use crate::ample::budget_of;
 use crate::coded_calls::topping_up::top_up_after;
-use crate::coded_calls::{EMPTY, HELD, NO, OUT_OF_STEPS, YES, call_code};
+use crate::coded_calls::{EMPTY, HELD, NO, OUT_OF_STEPS, RESHAPED, YES, call_code};
+use crate::cursor::HandleCursor;
 use crate::incarnation::Incarnation;
 use crate::owner::Owner;
 use vbr_list::Entry;
 use vbr_set::member::Member;
-use vbr_set::{Cursor, HeldRefusal, HoldRefusal, Refusal};
+use vbr_set::{HeldRefusal, HoldRefusal, Refusal};
 use vbr_slots::pass::POOL;
 use vbr_words::{Keys, Nodes};
 
@@ -89,22 +90,30 @@ pub fn remove_entry(owner: &mut Owner<Member<Keys>>, key: u64, at: &Incarnation,
     call_code(owner.member_mut().remove_exactly(key, &at.entry(), budget))
 }
 
-/// Finds the next key at a cursor by the member of a handle, and writes it and where it stands
+/// Finds the next key at a cursor by the member of a handle of this opening, and writes it and where it stands
 /// (`next_named` of [`Member`]).
 pub fn next_at(
     owner: &mut Owner<Member<Keys>>,
-    cursor: &mut Cursor,
+    opening: u32,
+    cursor: &mut HandleCursor,
     key: &mut u64,
     at: &mut Incarnation,
     budget: u32,
 ) -> i32
-    ensures { TellsNextNamedKey owner.old.member owner.new.member cursor.old cursor.new budget
+    ensures { TellsNextNamedKey owner.old.member owner.new.member opening
+        cursor.old cursor.new budget
         (key.old, entry_named at.old) (key.new, entry_named at.new) result }
 {
     if owner.is_empty() {
         return EMPTY;
     }
-    give_named(owner.member_mut().next_named(cursor, budget), key, at)
+    if cursor.began_elsewhere(opening) {
+        return RESHAPED;
+    }
+    let mut place = cursor.place();
+    let answer = owner.member_mut().next_named(&mut place, budget);
+    cursor.come_to(place, opening);
+    give_named(answer, key, at)
 }
 
 /// Whether the slot of an entry still shows its birth, by the member of a handle

@@ -23,4 +23,6 @@ loop-i-preserved g c =
           c.in-Some-Some.member _ _ _ (omega arith) c.in-Some-Some.ensures.items c.put_back.ensures.member i.so_far;
       steps = map-set_same g.H.HandleOf.steps c.loop-i.handles c.loop-i.i c.put_back.new.handle c.index-handles-i.result
           c.put_back.ensures.steps ∙ i.steps;
+      openings = map-set_same g.H.HandleOf.opening c.loop-i.handles c.loop-i.i c.put_back.new.handle
+          c.index-handles-i.result c.put_back.ensures.opening ∙ i.openings;
     }

@@ -13,4 +13,5 @@ invariant-loop-i g l = record {
   so_far : take l.i (map g.H.HandleOf.member l.handles) ++ map Some (into_iter_items l.members)
       ≡ map Some (into_iter_items l.initial.members);
   steps : map g.H.HandleOf.steps l.handles ≡ map g.H.HandleOf.steps l.initial.handles;
+  openings : map g.H.HandleOf.opening l.handles ≡ map g.H.HandleOf.opening l.initial.handles;
 }

@@ -40,4 +40,6 @@ loop-i-preserved g c =
           (omega arith) i.full;
       steps = map-set_same g.H.HandleOf.steps c.loop-i.handles c.loop-i.i c.take_out.new.handle c.index-handles-i.result
           c.take_out.ensures.steps ∙ i.steps;
+      openings = map-set_same g.H.HandleOf.opening c.loop-i.handles c.loop-i.i c.take_out.new.handle
+          c.index-handles-i.result c.take_out.ensures.opening ∙ i.openings;
     }

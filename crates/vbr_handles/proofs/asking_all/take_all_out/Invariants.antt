@@ -15,4 +15,5 @@ invariant-loop-i g l = record {
       ≡ members_by g.H.HandleOf.member l.initial.handles;
   full : AreFull g.H.HandleOf.member (drop l.i l.handles);
   steps : map g.H.HandleOf.steps l.handles ≡ map g.H.HandleOf.steps l.initial.handles;
+  openings : map g.H.HandleOf.opening l.handles ≡ map g.H.HandleOf.opening l.initial.handles;
 }

@@ -15,4 +15,6 @@ loop-i-preserved g c =
           (c.swap.ensures.taken ∙ c.empty-owner.ensures) c.loop-i.invariant.empty k d (omega (arith, low));
       steps = map-set_same g.H.HandleOf.steps c.loop-i.handles c.loop-i.i c.swap.new.self c.index-handles-i.result
           c.swap.ensures.steps ∙ c.loop-i.invariant.steps;
+      openings = map-set_same g.H.HandleOf.opening c.loop-i.handles c.loop-i.i c.swap.new.self c.index-handles-i.result
+          c.swap.ensures.opening ∙ c.loop-i.invariant.openings;
     }

@@ -7,4 +7,5 @@ invariant-loop-i g l = record {
   long : length l.handles ≡ length l.initial.handles;
   empty : (k : ℕ) (d : g.row.H.Denot) → k < l.i → g.H.HandleOf.member (slice_index_or l.handles k d) ≡ None;
   steps : map g.H.HandleOf.steps l.handles ≡ map g.H.HandleOf.steps l.initial.handles;
+  openings : map g.H.HandleOf.opening l.handles ≡ map g.H.HandleOf.opening l.initial.handles;
 }

@@ -19,4 +19,6 @@ loop-i-preserved g c =
           _ _ _ (omega arith) split c.swap.ensures.taken c.loop-i.invariant.so_far;
       steps = map-set_same g.H.HandleOf.steps c.loop-i.handles c.loop-i.i c.swap.new.self c.index-handles-i.result
           c.swap.ensures.steps ∙ c.loop-i.invariant.steps;
+      openings = map-set_same g.H.HandleOf.opening c.loop-i.handles c.loop-i.i c.swap.new.self c.index-handles-i.result
+          c.swap.ensures.opening ∙ c.loop-i.invariant.openings;
     }

@@ -11,4 +11,5 @@ invariant-loop-i g l = record {
   so_far : take l.i (map g.H.HandleOf.member l.handles) ++ map (λ o. o.member) (into_iter_items l.owners)
       ≡ map (λ o. o.member) (into_iter_items l.initial.owners);
   steps : map g.H.HandleOf.steps l.handles ≡ map g.H.HandleOf.steps l.initial.handles;
+  openings : map g.H.HandleOf.opening l.handles ≡ map g.H.HandleOf.opening l.initial.handles;
 }

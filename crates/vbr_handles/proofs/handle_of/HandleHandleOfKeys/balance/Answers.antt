@@ -12,6 +12,6 @@ returns c =
     let fits : FitsSigned w64 c.balance.result = omega (arith, ints, low) in (
       to_z-of_z w64 c.balance.result fits ∙ c.balance.ensures.0
           ∙ ap (λ (o : Owner MemberView). balance_shown o.member) c.owner_mut.ensures.value,
-      ap (λ o. record { owned = set_owner o; steps = c.args.self.now.steps })
+      ap (λ o. record c.args.self.now { owned = set_owner o })
           (c.balance.ensures.1 ∙ c.owner_mut.ensures.value),
     )

@@ -8,6 +8,6 @@ use Rattle.vbr_handles.proofs.handle_of.HandleHandleOfKeys.number.Goals as goal
 pub returns : goal.returns
 returns c = (
   c.number.ensures.0 ∙ ap (λ (o : Owner MemberView). number_shown o.member) c.owner_mut.ensures.value,
-  ap (λ o. record { owned = set_owner o; steps = c.args.self.now.steps })
+  ap (λ o. record c.args.self.now { owned = set_owner o })
       (c.number.ensures.1 ∙ c.owner_mut.ensures.value),
 )

@@ -8,6 +8,6 @@ pub returns : goal.returns
 returns c = (
   subst (λ (o : Owner MemberView). IfSome o.member (λ m. c.passes.result ≡ m.set.passes)) c.owner_mut.ensures.value
       c.passes.ensures.0,
-  ap (λ o. record { owned = set_owner o; steps = c.args.self.now.steps })
+  ap (λ o. record c.args.self.now { owned = set_owner o })
       (c.passes.ensures.1 ∙ c.owner_mut.ensures.value),
 )

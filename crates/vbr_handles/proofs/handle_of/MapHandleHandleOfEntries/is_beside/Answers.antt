@@ -4,8 +4,8 @@ use Rattle.vbr_handles.proofs.handle_of.MapHandleHandleOfEntries.is_beside.Goals
 
 pub returns : goal.returns
 returns c = (
-  ap (λ o. record { owned = map_owner o; steps = c.args.self.now.steps })
+  ap (λ o. record c.args.self.now { owned = map_owner o })
       (c.is_beside.ensures.0 ∙ c.owner_mut-one.ensures.value),
-  ap (λ o. record { owned = map_owner o; steps = c.args.other.now.steps })
+  ap (λ o. record c.args.other.now { owned = map_owner o })
       (c.is_beside.ensures.1 ∙ c.owner_mut.ensures.value),
 )

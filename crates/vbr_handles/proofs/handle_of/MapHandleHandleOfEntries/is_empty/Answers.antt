@@ -3,5 +3,5 @@ use Rattle.vbr_handles.proofs.AllHandles.{told_empty}
 use Rattle.vbr_handles.proofs.handle_of.MapHandleHandleOfEntries.is_empty.Goals as goal
 
 pub returns : goal.returns
-returns c = told_empty (λ o. record { owned = map_owner o; steps = c.args.self.now.steps }) c.owner_mut.ensures.value
+returns c = told_empty (λ o. record c.args.self.now { owned = map_owner o }) c.owner_mut.ensures.value
     c.is_empty.ensures
