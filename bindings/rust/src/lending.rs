@@ -355,6 +355,8 @@ pub struct LentBy<T: Kind, B: Deref<Target = Table<T>>> {
     number: usize,
     /// Where the handle is, in the table: so a call loads no more words than by a handle of one's own.
     place: NonNull<Place<T>>,
+    /// The budget that the handle has again after the loan, if this one has another.
+    before: Option<Steps>,
 }
 
 // SAFETY: a loan is a handle, which may be sent, and a table, which threads share.
@@ -391,7 +393,7 @@ impl<T: Kind, B: Deref<Target = Table<T>>> LentBy<T, B> {
     #[inline]
     pub(crate) fn of(table: B, number: usize) -> LentBy<T, B> {
         let place = NonNull::from(&table.lender.places[number]);
-        LentBy { table, number, place }
+        LentBy { table, number, place, before: None }
     }
 
     /// The number of the handle, from 0 on and below [`Table::handle_count`]: for data that lies beside each handle. While it is on
@@ -409,6 +411,31 @@ impl<T: Kind, B: Deref<Target = Table<T>>> LentBy<T, B> {
     #[inline]
     pub fn number(&self) -> usize {
         self.number
+    }
+
+    /// Gives the calls of this loan another budget. After the loan the handle has its own again.
+    ///
+    /// ```
+    /// # use vbr::{OutOfSteps, Set, Shape, Steps};
+    /// let set = Set::open_with(Shape::for_keys(8, 1), &[5])?;
+    /// let mut mine = set.lend_wait();
+    /// mine.set_steps(Steps::new(1));
+    /// assert_eq!(mine.has(5), Err(OutOfSteps));
+    /// drop(mine);
+    /// assert_eq!(set.lend_wait().has(5), Ok(true));
+    /// # Ok::<(), vbr::OpenError>(())
+    /// ```
+    #[inline]
+    pub fn set_steps(&mut self, steps: Steps) {
+        let before = self.steps();
+        self.before.get_or_insert(before);
+        self.handle().set_steps(steps);
+    }
+
+    #[inline]
+    fn handle(&mut self) -> &mut HandleOf<T> {
+        // SAFETY: the handle is lent to this alone, and `&mut` is exclusive.
+        unsafe { &mut *self.place().handle.get() }
     }
 
     #[inline]
@@ -431,14 +458,16 @@ impl<T: Kind, B: Deref<Target = Table<T>>> Deref for LentBy<T, B> {
 impl<T: Kind, B: Deref<Target = Table<T>>> DerefMut for LentBy<T, B> {
     #[inline]
     fn deref_mut(&mut self) -> &mut PassOf<T> {
-        // SAFETY: the handle is lent to this alone, and `&mut` is exclusive.
-        unsafe { &mut *self.place().handle.get() }
+        self.handle()
     }
 }
 
 impl<T: Kind, B: Deref<Target = Table<T>>> Drop for LentBy<T, B> {
     #[inline]
     fn drop(&mut self) {
+        if let Some(before) = self.before {
+            self.handle().set_steps(before);
+        }
         self.place().is_lent.store(false, Ordering::Release);
         self.table.lender.waiters.wake_one();
     }

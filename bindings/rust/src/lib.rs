@@ -305,7 +305,9 @@ pub use bits::{Bits, ByBits};
 pub use calling::Growth;
 pub use changing::{Change, Compared};
 pub use entry::{Entry, ModifiedEntry};
-pub use errors::{CloseError, KeysError, LendError, OpenError, OutOfSteps, Refusal, RenewError, ReportError, Unclosed, WalkError};
+pub use errors::{
+    CloseError, KeysError, LendError, OpenError, OutOfSteps, Refusal, RenewError, ReportError, Unclosed, WalkError,
+};
 pub use extending::Stopped;
 pub use handle::HandleOf;
 pub use holding::{Held, Incarnation};

@@ -3,7 +3,8 @@
 /// A budget: the most steps that a call may make, each one atomic operation on one word that threads share.
 ///
 /// A handle has one for all its calls, [`Steps::AMPLE`] unless its shape ([`Shape::with_steps`](crate::Shape::with_steps)) or
-/// [`HandleOf::set_steps`](crate::HandleOf::set_steps) gave it another. Most calls have a form beside them, with `_within` in its
+/// [`HandleOf::set_steps`](crate::HandleOf::set_steps) gave it another; a loan may have one of its own
+/// ([`LentBy::set_steps`](crate::LentBy::set_steps)). Most calls have a form beside them, with `_within` in its
 /// name, that takes a budget for itself. What makes several calls, as `fetch_update` and `retain` do, has the budget for each of them.
 ///
 /// ```

@@ -12,7 +12,8 @@ use std::sync::Arc;
 use std::thread;
 use std::time::{Duration, Instant};
 use vbr::{
-    HandleOf, Keys, Lent, LentBy, OwnedLent, Pass, RenewError, ReportError, Set, Shape, ShapeError, Steps, Table, MAX_EPOCH,
+    HandleOf, Keys, Lent, LentBy, OutOfSteps, OwnedLent, Pass, RenewError, ReportError, Set, Shape, ShapeError, Steps, Table,
+    MAX_EPOCH,
 };
 
 const SOME: u64 = 64;
@@ -26,6 +27,7 @@ of_sets_and_maps! {
     loans_that_other_threads_drop
     a_loan_that_is_waited_for
     a_wait_that_is_over
+    a_loan_with_a_budget_of_its_own
     loans_that_own_their_set
     tasks_that_wait
     a_renewal_keeps_what_is_in
@@ -222,6 +224,20 @@ fn a_wait_that_is_over<K: Both>() {
         drop(kept);
     });
     assert!(!waits.into_inner() && set.lend().is_some());
+}
+
+fn a_loan_with_a_budget_of_its_own<K: Both>() {
+    let set = Arc::new(lending::<K>(1, &[5]));
+    let mut mine = set.lend_wait();
+    mine.set_steps(Steps::new(2));
+    mine.set_steps(Steps::new(1));
+    assert_eq!((mine.steps(), mine.has(5)), (Steps::new(1), Err(OutOfSteps)));
+    drop(mine);
+    let mut owned = set.lend_owned().expect("the one handle");
+    assert_eq!((owned.steps(), owned.has(5)), (Steps::AMPLE, Ok(true)));
+    owned.set_steps(Steps::new(1));
+    drop(owned);
+    assert_eq!(set.lend_wait().steps(), Steps::AMPLE);
 }
 
 fn loans_that_own_their_set<K: Both>() {
