@@ -5,14 +5,8 @@
 
    Four threads borrow three handles. First each loan adds one key, then each adds one and takes one out, then each takes one out. The set
    is renewed twice while keys are added, each time in a larger shape. One thread asks all the while how many keys are in. */
+#include "client.h"
 #include "vbr_lend.h"
-
-#include <pthread.h>
-#include <sched.h>
-#include <stdio.h>
-#include <stdlib.h>
-
-#define CHECK(x) do { if (!(x)) { fprintf(stderr, "counted.c:%d: %s\n", __LINE__, #x); exit(1); } } while (0)
 
 enum { THREADS = 4, HANDLES = 3, OPENED = 5, MOST = 50000 };
 enum { ADDS, ADDS_AND_TAKES, TAKES };

@@ -1,19 +1,15 @@
 /* Misuse that ends a program by abort, with a sentence on standard error, if the program is checked: a handle that is given back twice,
    one that is given to a lender that didn't lend it, and one that two threads use at a time, or a thread and a signal handler that
    interrupts it. Each is made in a process of its own. It wants VBR_CHECKED, and no NDEBUG. */
+#include "client.h"
 #include "vbr_lend.h"
 
-#include <pthread.h>
 #include <signal.h>
-#include <stdio.h>
-#include <stdlib.h>
 #include <string.h>
 #include <sys/resource.h>
 #include <sys/time.h>
 #include <sys/wait.h>
 #include <unistd.h>
-
-#define CHECK(x) do { if (!(x)) { fprintf(stderr, "misuses.c:%d: FAILED: %s\n", __LINE__, #x); exit(1); } } while (0)
 
 static vbr_handle handles[4], others[2];
 static vbr_lender lender, other;

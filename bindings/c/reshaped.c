@@ -1,14 +1,9 @@
 /* Walks over a renewal. Once the set behind a handle is another one than when a walk began, each call of the walk answers VBR_RESHAPED,
    gives nothing and leaves the cursor as it was; a walk that begins anew gives each key once. The set is renewed with more buckets, with
    fewer and with as many, between two calls of one thread and by another thread. What renews nothing refuses no walk. */
-#include "vbr.h"
+#include "client.h"
 
-#include <pthread.h>
-#include <sched.h>
-#include <stdio.h>
 #include <string.h>
-
-#define CHECK(x) do { if (!(x)) { fprintf(stderr, "reshaped: FAILED: line %d: %s\n", __LINE__, #x); return 1; } } while (0)
 
 enum { KEYS = 10000, SLOTS = KEYS + 2 * 64, BUCKETS = 4096, PART = 4000, ROUNDS = 60 };
 

@@ -1,11 +1,7 @@
 /* How calls are answered, counted by vbr_stats.h: numbers that are worked by hand, those of four threads, and those of more handles than
    it has lines for. It wants VBR_STATS. */
+#include "client.h"
 #include "vbr_lend.h"
-
-#include <pthread.h>
-#include <stdio.h>
-
-#define CHECK(x) do { if (!(x)) { fprintf(stderr, "stats.c:%d: FAILED: %s\n", __LINE__, #x); return 1; } } while (0)
 
 enum { THREADS = 4, ROUNDS = 20000, CROWD = 2000 };
 
