@@ -23,7 +23,10 @@
    `mine - handle`: for data that lies beside each handle. vbr_lender_count_about says how many keys are in while threads run. A signal
    handler may borrow. Once all are given back, the handles are closed by vbr_close as always, or go on over a fresh set by
    vbr_lender_renew. That doesn't wait for them either: a program calls it again until all are back. Handles to a map are lent by the
-   calls with `vbr_map_` in their names. It is written for GCC and Clang, in C99 to C++23. */
+   calls with `vbr_map_` in their names. It is written for GCC and Clang, in C99 to C++23.
+
+   Parameters:
+   - lender: all zero, or one that has handles by vbr_lender_init or vbr_lender_init_many. Many threads may use it at a time. */
 #ifndef VBR_LEND_H
 #define VBR_LEND_H
 
@@ -199,8 +202,15 @@ VBR_NONNULL static inline void vbr_lend_recounts(vbr_lend_word *words, const vbr
     for (number = 0; number < count; number++) words[number].carried = words[number].keys - vbr_balance(&handles[number]);
 }
 
-/* Lends these `count` handles, open or empty, from now on: VBR_OK. VBR_BAD_COUNT: they are none, or more than VBR_MAX_FEW_HANDLES, and the
-   lender stays as it was. No thread may use the lender before. A program whose count is right for certain needn't look at the answer.
+/* Lends these handles from now on.
+   Parameters:
+   - lender: no thread may use it before.
+   - handles, count: from 1 to VBR_MAX_FEW_HANDLES, open or empty.
+   Returns:
+   - VBR_OK: they may be borrowed.
+   - VBR_BAD_COUNT.
+   Leaves: none of them on loan; after VBR_BAD_COUNT the lender as it was.
+   Notes: A program whose count is right for certain needn't look at the answer.
 
        vbr_lender lender = {0};
        if (vbr_lender_init(&lender, handle, 2) != VBR_OK) return 1; // VBR_BAD_COUNT: there are more than 64 */
@@ -214,8 +224,13 @@ VBR_NONNULL static inline vbr_answer vbr_lender_init(vbr_lender *lender, vbr_han
     return VBR_OK;
 }
 
-/* Lends up to VBR_MAX_MANY_HANDLES handles, as vbr_lender_init does, with a word for each: VBR_OK. VBR_BAD_COUNT: they are none, or more
-   than that, and the lender and the words stay as they were. The words stay where they are as long as the lender is used.
+/* Lends up to VBR_MAX_MANY_HANDLES handles, as vbr_lender_init does otherwise.
+   Parameters:
+   - lender: as of vbr_lender_init.
+   - handles, count: from 1 to VBR_MAX_MANY_HANDLES, open or empty.
+   - words: one for each handle. They stay where they are as long as the lender is used.
+   Returns: what vbr_lender_init returns; VBR_BAD_COUNT if count isn't in that range.
+   Leaves: what vbr_lender_init leaves; after VBR_BAD_COUNT the words too as they were.
 
        if (vbr_lender_init_many(&of_many, many, 1000, many_words) != VBR_OK) return 1; // of handles that vbr_open_many opened */
 VBR_NONNULL static inline vbr_answer vbr_lender_init_many(vbr_lender *lender, vbr_handle *handles, size_t count,
@@ -229,8 +244,11 @@ VBR_NONNULL static inline vbr_answer vbr_lender_init_many(vbr_lender *lender, vb
     return VBR_OK;
 }
 
-/* Lends a free handle, or returns a null pointer if each was lent at some moment of the call, or they are being renewed. It tries each handle
-   at most once, so it never waits, and begins with the one that this thread was lent last.
+/* Lends a free handle.
+   Parameters: lender.
+   Returns: the handle, or a null pointer if each was lent at some moment of the call, or they are being renewed.
+   Leaves: the handle on loan, until it is given back.
+   Notes: It tries each handle at most once, so it never waits, and begins with the one that this thread was lent last.
 
        vbr_handle *mine = vbr_lend(&lender); // NULL: both are lent */
 VBR_NODISCARD VBR_NONNULL static inline vbr_handle *vbr_lend(vbr_lender *lender) VBR_NOEXCEPT {
@@ -238,8 +256,12 @@ VBR_NODISCARD VBR_NONNULL static inline vbr_handle *vbr_lend(vbr_lender *lender)
     return number == SIZE_MAX ? VBR_LENDS_NONE : &lender->handles[number];
 }
 
-/* Gives back a handle that was lent by this lender, and isn't in a call. Given back twice, a handle may be lent to two threads, and given to
-   another lender it is lost to its own: VBR_LEND_CHECKED says whether these end the program.
+/* Gives back a handle that was lent.
+   Parameters: lender.
+   - handle: one that was lent by this lender, and isn't in a call. Given back twice, it may be lent to two threads, and given to another lender
+     it is lost to its own: VBR_LEND_CHECKED says whether these end the program.
+   Returns: nothing.
+   Leaves: the handle free, for whoever borrows it next.
 
        vbr_give_back(&lender, mine); // and mine isn't used any more */
 VBR_NONNULL static inline void vbr_give_back(vbr_lender *lender, vbr_handle *handle) VBR_NOEXCEPT {
@@ -252,22 +274,27 @@ VBR_NONNULL static inline void vbr_give_back(vbr_lender *lender, vbr_handle *han
     vbr_lend_takes_back(word);
 }
 
-/* Returns how many handles are on loan. It looks at each once, one after another. So while others borrow and give back the number is of
-   no one moment: a handle is counted if it was on loan when it was looked at. It is exact if nobody does so meanwhile, and 0 after the
-   last return. A handle that a renewal has isn't counted, unless a thread tried to borrow it just as the renewal took it. The call takes
-   a load for each handle, and orders nothing.
+/* Returns how many handles are on loan.
+   Parameters: lender.
+   Returns: that number, exact if nobody borrows or gives back meanwhile, and 0 after the last return. Else it is of no one moment: the call
+   looks at each handle once, one after another, and a handle is counted if it was on loan when it was looked at.
+   Leaves: all as it was. It takes a load for each handle, and orders nothing.
+   Notes: A handle that a renewal has isn't counted, unless a thread tried to borrow it just as the renewal took it.
 
        size_t out = vbr_lender_on_loan(&lender); // 1: mine */
 VBR_NODISCARD VBR_NONNULL static inline size_t vbr_lender_on_loan(const vbr_lender *lender) VBR_NOEXCEPT {
     return vbr_lend_out(VBR_LEND_WORDS(lender), lender->count);
 }
 
-/* Returns how many keys are in, about: what the handles have added, less what they took out, as each was given back last. It is exact if
-   no handle is on loan during the call. Else it is off by at most the updates of some loans: by one for each of their calls that added a
-   key or took one out. These are the loans that began during the call, or weren't given back before it by the program's own
-   synchronisation. It is the number of keys if the lender has all handles of the set, opened before it was given them, and all calls are
-   made by loans. It goes on over renewals by vbr_lender_renew. It takes a load for each handle, from a cache line that a return writes if
-   the loan changed how many keys there are. It orders nothing, and is never negative.
+/* Returns how many keys are in, about.
+   Parameters: lender.
+   Returns: what the handles have added, less what they took out, as each was given back last; never a negative number. It is exact if no handle
+   is on loan during the call. Else it is off by at most the updates of some loans: by one for each of their calls that added a key or took one
+   out. These are the loans that began during the call, or weren't given back before it by the program's own synchronisation.
+   Leaves: all as it was. It takes a load for each handle, from a cache line that a return writes if the loan changed how many keys there are.
+   It orders nothing.
+   Notes: It is the number of keys if the lender has all handles of the set, opened before it was given them, and all calls are made by loans.
+   It goes on over renewals by vbr_lender_renew.
 
        int64_t about = vbr_lender_count_about(&lender); // 1: mine is back, and has added 5 */
 VBR_NODISCARD VBR_NONNULL static inline int64_t vbr_lender_count_about(const vbr_lender *lender) VBR_NOEXCEPT {
@@ -275,17 +302,26 @@ VBR_NODISCARD VBR_NONNULL static inline int64_t vbr_lender_count_about(const vbr
     return keys > 0 ? keys : 0;
 }
 
-/* Adds up how many keys are in anew, after a renewal that wasn't the lender's: by a thread that has all handles of the lender on loan, and
-   called vbr_renew_all or vbr_records_renew_all on them. Without it vbr_lender_count_about goes wrong then.
+/* Adds up how many keys are in anew, after a renewal that wasn't the lender's.
+   Parameters:
+   - lender: one whose handles are all on loan to this thread, which called vbr_renew_all or vbr_records_renew_all on them.
+   Returns: nothing.
+   Leaves: vbr_lender_count_about right again. Without this call it goes wrong after such a renewal.
 
        vbr_lender_recount(&lender); // all handles are on loan to this thread */
 VBR_NONNULL static inline void vbr_lender_recount(vbr_lender *lender) VBR_NOEXCEPT {
     if (lender->count) vbr_lend_recounts(VBR_LEND_WORDS(lender), lender->handles, lender->count);
 }
 
-/* Lets the handles go on over a fresh set of this shape, as vbr_renew_all does, once none is on loan. From the first call on none is lent.
-   VBR_IN_USE: a handle is still on loan, so call it again when it may be back. Otherwise it returns what vbr_renew_all returns, and then all
-   are lent again. Only one thread at a time may renew a lender. It waits for nobody.
+/* Lets the handles go on over a fresh set of this shape, as vbr_renew_all does, once none is on loan.
+   Parameters: slots, buckets, last_epoch.
+   - lender: all zero, or one with handles. Only one thread at a time may renew it.
+   Returns: what vbr_renew_all returns. These two are tested before it.
+   - VBR_MISSING: the lender has no handles.
+   - VBR_IN_USE: a handle is still on loan, so call it again when it may be back.
+   Leaves: no handle to be lent after VBR_IN_USE, from the first call on. After any other answer what vbr_renew_all leaves, and all are lent
+   again.
+   Notes: It waits for nobody.
 
        while ((renewed = vbr_lender_renew(&lender, 2048 + 2 * 64, 2048, VBR_MAX_EPOCH)) == VBR_IN_USE) sched_yield(); // until all are back */
 VBR_NODISCARD VBR_NONNULL static inline vbr_answer vbr_lender_renew(vbr_lender *lender, uint32_t slots, uint32_t buckets,
@@ -300,6 +336,9 @@ VBR_NODISCARD VBR_NONNULL static inline vbr_answer vbr_lender_renew(vbr_lender *
 }
 
 /* Lends again, after a renewal that was answered VBR_IN_USE and is given up.
+   Parameters: lender.
+   Returns: nothing.
+   Leaves: each handle that isn't on loan free, and the set as it was.
 
        if (vbr_lender_renew(&lender, 1024 + 2 * 64, 1024, VBR_MAX_EPOCH) == VBR_IN_USE) vbr_lender_lend_on(&lender); // not now */
 VBR_NONNULL static inline void vbr_lender_lend_on(vbr_lender *lender) VBR_NOEXCEPT {
@@ -324,7 +363,15 @@ VBR_NONNULL static inline void vbr_map_lend_recounts(vbr_lend_word *words, const
     for (number = 0; number < count; number++) words[number].carried = words[number].keys - vbr_map_balance(&handles[number]);
 }
 
-/* Lends these `count` handles to a map from now on, as vbr_lender_init does for a set: VBR_OK or VBR_BAD_COUNT.
+/* Lends these handles to a map from now on.
+   Parameters:
+   - lender: no thread may use it before.
+   - handles, count: from 1 to VBR_MAX_FEW_HANDLES, open or empty.
+   Returns:
+   - VBR_OK: they may be borrowed.
+   - VBR_BAD_COUNT.
+   Leaves: none of them on loan; after VBR_BAD_COUNT the lender as it was.
+   Notes: A program whose count is right for certain needn't look at the answer.
 
        vbr_map_lender lender = {0};
        if (vbr_map_lender_init(&lender, map, 2) != VBR_OK) return 1; */
@@ -338,7 +385,13 @@ VBR_NONNULL static inline vbr_answer vbr_map_lender_init(vbr_map_lender *lender,
     return VBR_OK;
 }
 
-/* Lends up to VBR_MAX_MANY_HANDLES handles to a map, as vbr_lender_init_many does for a set: VBR_OK or VBR_BAD_COUNT.
+/* Lends up to VBR_MAX_MANY_HANDLES handles to a map, as vbr_map_lender_init does otherwise.
+   Parameters:
+   - lender: as of vbr_map_lender_init.
+   - handles, count: from 1 to VBR_MAX_MANY_HANDLES, open or empty.
+   - words: one for each handle. They stay where they are as long as the lender is used.
+   Returns: what vbr_map_lender_init returns; VBR_BAD_COUNT if count isn't in that range.
+   Leaves: what vbr_map_lender_init leaves; after VBR_BAD_COUNT the words too as they were.
 
        if (vbr_map_lender_init_many(&of_many, many, 1000, many_words) != VBR_OK) return 1; */
 VBR_NONNULL static inline vbr_answer vbr_map_lender_init_many(vbr_map_lender *lender, vbr_map_handle *handles, size_t count,
@@ -352,7 +405,11 @@ VBR_NONNULL static inline vbr_answer vbr_map_lender_init_many(vbr_map_lender *le
     return VBR_OK;
 }
 
-/* As vbr_lend: lends a free handle to a map, or returns a null pointer.
+/* Lends a free handle to a map.
+   Parameters: lender.
+   Returns: the handle, or a null pointer if each was lent at some moment of the call, or they are being renewed.
+   Leaves: the handle on loan, until it is given back.
+   Notes: It tries each handle at most once, so it never waits, and begins with the one that this thread was lent last.
 
        vbr_map_handle *mine = vbr_map_lend(&lender); // NULL: both are lent */
 VBR_NODISCARD VBR_NONNULL static inline vbr_map_handle *vbr_map_lend(vbr_map_lender *lender) VBR_NOEXCEPT {
@@ -360,7 +417,12 @@ VBR_NODISCARD VBR_NONNULL static inline vbr_map_handle *vbr_map_lend(vbr_map_len
     return number == SIZE_MAX ? VBR_LENDS_NONE : &lender->handles[number];
 }
 
-/* Gives back a handle to a map that was lent by this lender, and isn't in a call, as vbr_give_back does for a set.
+/* Gives back a handle to a map that was lent.
+   Parameters: lender.
+   - handle: one that was lent by this lender, and isn't in a call. Given back twice, it may be lent to two threads, and given to another lender
+     it is lost to its own: VBR_LEND_CHECKED says whether these end the program.
+   Returns: nothing.
+   Leaves: the handle free, for whoever borrows it next.
 
        vbr_map_give_back(&lender, mine); // and mine isn't used any more */
 VBR_NONNULL static inline void vbr_map_give_back(vbr_map_lender *lender, vbr_map_handle *handle) VBR_NOEXCEPT {
@@ -373,14 +435,27 @@ VBR_NONNULL static inline void vbr_map_give_back(vbr_map_lender *lender, vbr_map
     vbr_lend_takes_back(word);
 }
 
-/* Returns how many handles to a map are on loan, as vbr_lender_on_loan does for a set.
+/* Returns how many handles to a map are on loan.
+   Parameters: lender.
+   Returns: that number, exact if nobody borrows or gives back meanwhile, and 0 after the last return. Else it is of no one moment: the call
+   looks at each handle once, one after another, and a handle is counted if it was on loan when it was looked at.
+   Leaves: all as it was. It takes a load for each handle, and orders nothing.
+   Notes: A handle that a renewal has isn't counted, unless a thread tried to borrow it just as the renewal took it.
 
        size_t out = vbr_map_lender_on_loan(&lender); // 1: mine */
 VBR_NODISCARD VBR_NONNULL static inline size_t vbr_map_lender_on_loan(const vbr_map_lender *lender) VBR_NOEXCEPT {
     return vbr_lend_out(VBR_LEND_WORDS(lender), lender->count);
 }
 
-/* Returns how many keys are in a map, about, as vbr_lender_count_about does for a set.
+/* Returns how many keys are in a map, about.
+   Parameters: lender.
+   Returns: what the handles have added, less what they took out, as each was given back last; never a negative number. It is exact if no handle
+   is on loan during the call. Else it is off by at most the updates of some loans: by one for each of their calls that added a key or took one
+   out. These are the loans that began during the call, or weren't given back before it by the program's own synchronisation.
+   Leaves: all as it was. It takes a load for each handle, from a cache line that a return writes if the loan changed how many keys there are.
+   It orders nothing.
+   Notes: It is the number of keys if the lender has all handles of the map, opened before it was given them, and all calls are made by loans.
+   It goes on over renewals by vbr_map_lender_renew.
 
        int64_t about = vbr_map_lender_count_about(&lender); */
 VBR_NODISCARD VBR_NONNULL static inline int64_t vbr_map_lender_count_about(const vbr_map_lender *lender) VBR_NOEXCEPT {
@@ -388,14 +463,26 @@ VBR_NODISCARD VBR_NONNULL static inline int64_t vbr_map_lender_count_about(const
     return keys > 0 ? keys : 0;
 }
 
-/* Adds up how many keys are in a map anew, as vbr_lender_recount does for a set.
+/* Adds up how many keys are in a map anew, after a renewal that wasn't the lender's.
+   Parameters:
+   - lender: one whose handles are all on loan to this thread, which called vbr_map_renew_all or vbr_map_records_renew_all on them.
+   Returns: nothing.
+   Leaves: vbr_map_lender_count_about right again. Without this call it goes wrong after such a renewal.
 
        vbr_map_lender_recount(&lender); // all handles are on loan to this thread */
 VBR_NONNULL static inline void vbr_map_lender_recount(vbr_map_lender *lender) VBR_NOEXCEPT {
     if (lender->count) vbr_map_lend_recounts(VBR_LEND_WORDS(lender), lender->handles, lender->count);
 }
 
-/* As vbr_lender_renew, for handles to a map: each key keeps its value.
+/* Lets the handles go on over a fresh map of this shape, as vbr_map_renew_all does, once none is on loan.
+   Parameters: slots, buckets, last_epoch.
+   - lender: all zero, or one with handles. Only one thread at a time may renew it.
+   Returns: what vbr_map_renew_all returns. These two are tested before it.
+   - VBR_MISSING: the lender has no handles.
+   - VBR_IN_USE: a handle is still on loan, so call it again when it may be back.
+   Leaves: no handle to be lent after VBR_IN_USE, from the first call on. After any other answer what vbr_map_renew_all leaves, and all are lent
+   again.
+   Notes: It waits for nobody.
 
        vbr_answer renewed = vbr_map_lender_renew(&lender, 2048 + 2 * 64, 2048, VBR_MAX_EPOCH); // VBR_IN_USE: a handle is on loan */
 VBR_NODISCARD VBR_NONNULL static inline vbr_answer vbr_map_lender_renew(vbr_map_lender *lender, uint32_t slots, uint32_t buckets,
@@ -410,6 +497,9 @@ VBR_NODISCARD VBR_NONNULL static inline vbr_answer vbr_map_lender_renew(vbr_map_
 }
 
 /* Lends again, after a renewal that was answered VBR_IN_USE and is given up.
+   Parameters: lender.
+   Returns: nothing.
+   Leaves: each handle that isn't on loan free, and the map as it was.
 
        vbr_map_lender_lend_on(&lender); // and the renewal isn't made */
 VBR_NONNULL static inline void vbr_map_lender_lend_on(vbr_map_lender *lender) VBR_NOEXCEPT {
