@@ -161,7 +161,7 @@ static inline void vbr_end(vbr_shared_handle *handle) VBR_NOEXCEPT {
 
 /* Takes over the handle of a process that is dead, as waitpid has reported.
    Parameters:
-   - handle: that one. Any process that has the mapping may do it. All others may be in calls meanwhile.
+   - handle: that of the dead process. Any process that has the mapping may do it. All others may be in calls meanwhile.
    Returns:
    - VBR_YES: no call was under way, and the handle is as the last call left it, with its slots.
    - VBR_NO: a call was under way, which was made or it wasn't.
