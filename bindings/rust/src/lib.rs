@@ -23,7 +23,7 @@
 //! # What to know before you take it
 //!
 //! - **Platform.** Linux on x86-64, processors of x86-64-v2 or later (SSE4.2 and POPCNT). It was run on Xeons in virtual machines
-//!   under Debian 12, and nowhere else. Rust 1.81 or later, with `std`.
+//!   under Debian 12, and nowhere else. Rust 1.85 or later, with `std`.
 //! - **Limits.** Keys and values of at most 64 bits, and [`Records`] of any size beside them. Up to [`MAX_SLOTS`] slots
 //!   (2,147,483,647), of which each key takes one and each handle keeps up to 64; [`MAX_MANY_HANDLES`] handles; memory that is
 //!   taken at the opening, 8 × (2 + buckets + 4 × slots + ⌈slots / 64⌉) bytes for a set, and 8 more for each slot of a map. A
