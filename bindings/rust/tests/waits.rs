@@ -3,7 +3,7 @@
 mod both;
 
 use both::Both;
-use std::sync::atomic::{compiler_fence, AtomicBool, AtomicU64, Ordering};
+use std::sync::atomic::{compiler_fence, AtomicBool, Ordering};
 use std::sync::Barrier;
 use std::thread;
 use std::time::{Duration, Instant};
@@ -13,31 +13,33 @@ of_sets_and_maps! {
     nobody_sleeps_while_a_handle_is_free
 }
 
-/// Who waits for so long has slept while a handle was free: loans of this test take microseconds.
-const ASLEEP: Duration = Duration::from_secs(5);
+/// Who waits for so long has slept while a handle was free: loans of this test take microseconds, and a thread of a busy machine
+/// waits less than a second for a processor.
+const ASLEEP: Duration = Duration::from_secs(30);
 
 /// For how long rounds begin.
 const EACH: Duration = Duration::from_millis(200);
 
+/// How many rounds there are at least, however busy the machine is: in twelve each thread makes loans of each kind.
+const ROUNDS: u64 = 12;
+
 fn nobody_sleeps_while_a_handle_is_free<K: Both>() {
     for (threads, handles, has_pauses) in [(2, 1, false), (4, 1, false), (4, 2, false), (4, 2, true), (8, 3, true)] {
-        let (rounds, longest) = longest_wait::<K>(threads, handles, has_pauses);
-        assert!(rounds > 2 && longest < ASLEEP, "{longest:?} of {threads} threads and {handles} handles");
+        let longest = longest_wait::<K>(threads, handles, has_pauses);
+        assert!(longest < ASLEEP, "{longest:?} of {threads} threads and {handles} handles");
     }
 }
 
-/// How many rounds were made, and how long the longest wait of one lasted. With pauses the first thread also counts the keys, so
-/// it waits for all handles.
-fn longest_wait<K: Both>(threads: usize, handles: usize, has_pauses: bool) -> (u64, Duration) {
+/// How long the longest wait lasted. With pauses the first thread also counts the keys, so it waits for all handles.
+fn longest_wait<K: Both>(threads: usize, handles: usize, has_pauses: bool) -> Duration {
     let set = Table::<K>::open(Shape::for_keys(100, handles)).expect("a set");
-    let (begins, ends, rounds) = (Barrier::new(threads), AtomicBool::new(false), AtomicU64::new(0));
+    let (begins, ends) = (Barrier::new(threads), AtomicBool::new(false));
     let begun = Instant::now();
     let waits = |number: u64| {
         let mut longest = Duration::ZERO;
         for round in 0.. {
             if begins.wait().is_leader() {
-                ends.store(begun.elapsed() > EACH, Ordering::Relaxed);
-                rounds.store(round, Ordering::Relaxed);
+                ends.store(round >= ROUNDS && begun.elapsed() > EACH, Ordering::Relaxed);
             }
             begins.wait();
             if ends.load(Ordering::Relaxed) {
@@ -68,5 +70,5 @@ fn longest_wait<K: Both>(threads: usize, handles: usize, has_pauses: bool) -> (u
         let threads: Vec<_> = (0..threads as u64).map(|number| scope.spawn(move || waits(number))).collect();
         threads.into_iter().map(|it| it.join().expect("a thread that ends")).max()
     });
-    (rounds.into_inner(), longest.expect("a thread"))
+    longest.expect("a thread")
 }
