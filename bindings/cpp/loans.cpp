@@ -323,8 +323,9 @@ static void lends_none_meanwhile() {
     std::atomic<int> wrong{0};
     std::thread renews([&] { wrong += !lender.renew(wanted); });
     while (lender.lend()) std::this_thread::yield(); // until it has begun
-    for (int turns = 0; turns < 1000000 && lender.on_loan() != 1; turns++) std::this_thread::yield();
-    CHECK(lender.on_loan() == 1); // the renewal waits for that one, and may have the other
+    std::size_t out = lender.on_loan(); // while the renewal takes the other one, that may be counted
+    for (int turns = 0; turns < 1000000 && out != 1; turns++, out = lender.on_loan()) std::this_thread::yield();
+    CHECK(out == 1); // the renewal waits for that one, and may have the other
     CHECK(!lender.lend() && !lender.lend_for(20ms) && lender.close() == vbr::refusal::on_loan && lender.slots() != wanted.slots);
     std::thread waits([&] {
         auto mine = lender.lend_wait();
