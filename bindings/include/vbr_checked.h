@@ -1,5 +1,7 @@
 /* Finds two threads in one handle at a time, for programs that can't be run under ThreadSanitizer. vbr.h includes this if a program
-   defines VBR_CHECKED, in C and C++; a program needs no other line for it.
+   defines VBR_CHECKED, in C and C++; a program needs no other line for it. Where a program is compiled for ThreadSanitizer it isn't
+   included, since vbr_tsan.h finds more. In C++ all files of a program define it, or none does: the members of vbr.hpp are inline, and
+   the linker takes those of one file for all.
 
    The calls go through functions that mark a handle in its `in_call` while a call runs, by an atomic exchange at its beginning and one
    at its end. If it is marked already, the program is ended by abort, with a sentence on standard error that names the later call. A

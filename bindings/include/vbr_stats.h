@@ -8,8 +8,10 @@
    are such lines for 1,024 handles, by their address, from a handle's first call to the end of the program. So a handle that is moved
    begins anew, and one that is opened in the same place goes on. Whoever wants the numbers of some time takes the difference. Handles for
    which no line is free share one more, and only vbr_stats_of_all has their counts. Calls in files that are compiled without VBR_STATS
-   aren't counted, nor those of other processes. The names of the calls stand for functions, as in vbr_tsan.h, and go together with those
-   of vbr_tsan.h and vbr_checked.h. */
+   aren't counted, nor those of other processes. In C++ all files of a program define it, or none does: the members of vbr.hpp are
+   inline, and the linker takes those of one file for all. A program over vbr.hpp asks vbr_stats_of_all, since its handles show no
+   vbr_handle. The names of the calls stand for functions, as in vbr_tsan.h, and go together with those of vbr_tsan.h and
+   vbr_checked.h. */
 #ifndef VBR_STATS_H
 #define VBR_STATS_H
 
