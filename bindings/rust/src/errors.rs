@@ -50,7 +50,7 @@ pub enum KeysError {
     },
 }
 
-/// Why a look-up, a remove or a walk gave no answer, the only reason that there is: its budget is spent. It made no call then.
+/// Why a look-up, a remove or an iterator gave no answer, the only reason that there is: its budget is spent. It made no call then.
 /// [`Refusal::OutOfSteps`] says what helps. It converts into a [`Refusal`], so `?` serves both.
 ///
 /// ```
@@ -98,8 +98,8 @@ impl WalkError {
 
 /// Why a call gave no answer. It made no call then.
 ///
-/// These are all the reasons that there are, so a program can match each, and the compiler says which it left out. A call that takes
-/// no slot is refused for one of them alone, and so by [`OutOfSteps`].
+/// These are all the reasons that there are, so a program can match each, and the compiler says which it left out. A look-up
+/// and a remove are refused for one of them alone, and so by [`OutOfSteps`], and a call of a walk for two ([`WalkError`]).
 ///
 /// ```
 /// # use vbr::{Refusal, Set, Shape, Steps};

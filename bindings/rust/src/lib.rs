@@ -59,10 +59,11 @@
 //! [`MapPass::try_insert`] adds a key that is absent and leaves one that is there. [`PassOf::has`] is `contains` of a set and
 //! `contains_key` of a map.
 //!
-//! A call that takes no slot (look-ups, removes, walks) is refused for one reason alone, so its error is [`OutOfSteps`]; `?` makes a
-//! [`Refusal`] of it. A walk by a cursor of the program may also meet a renewal ([`WalkError`]). There is no `FromIterator` and no `Extend`, since each opening and each insert may be refused:
-//! [`PassOf::try_extend`] puts in what an iterator gives, [`Pass::insert_all`] and its kin what a slice has, and each says how far it
-//! came ([`Stopped`]). Handles, loans, turns, passes and reports are gone over by `for` loops.
+//! A call that takes no slot (look-ups, removes, iterators) is refused for one reason alone, so its error is [`OutOfSteps`]; `?` makes
+//! a [`Refusal`] of it. A walk by a cursor of the program may also meet a renewal ([`WalkError`]). There is no `FromIterator` and no
+//! `Extend`, since each opening and each insert may be refused: [`PassOf::try_extend`] puts in what an iterator gives,
+//! [`Pass::insert_all`] and its kin what a slice has, and each says how far it came ([`Stopped`]). Handles, loans, turns, passes and
+//! reports are gone over by `for` loops.
 //!
 //! # Keys and values
 //!
@@ -94,8 +95,8 @@
 //! handles holds for maps and theirs too. [`MapPass::replace`], [`MapPass::put`], [`MapPass::compare_exchange`] and
 //! [`MapPass::fetch_update`] change a value at one moment, so nobody finds the key absent. [`MapPass::get_or_insert`] and
 //! [`MapPass::remove_if`] do one thing or another, depending on what is there, and [`MapPass::compute`] whatever a closure says
-//! of it; [`MapPass::entry`] has the form of `HashMap`, and [`MapPass::retain`] takes out what is no longer wanted. [`Table`], [`HandleOf`] and [`PassOf`] have the
-//! calls of both, for either [`Kind`].
+//! of it; [`MapPass::entry`] has the form of `HashMap`, and [`MapPass::retain`] takes out what is no longer wanted. [`Table`],
+//! [`HandleOf`] and [`PassOf`] have the calls of both, for either [`Kind`].
 //!
 //! ```
 //! use vbr::{Map, Shape};
