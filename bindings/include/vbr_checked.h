@@ -12,9 +12,10 @@
    - a signal handler that makes a call by the handle of the thread that it interrupts.
 
    Two threads that use a handle in turn, with no order between them, aren't found: ThreadSanitizer finds those. Nor is what happens in
-   files that are compiled without it, nor calls of vbr_shared.h. Openings don't mark, since they may be given a count that is wrong. The
-   mark is another bit than those of vbr_begin, so processes may share a handle that is marked. If a process dies in a call, the mark stays
-   until vbr_inherit, which then answers VBR_NO. The names of the calls stand for the functions, as in vbr_tsan.h. */
+   files that are compiled without it, nor calls of vbr_shared.h, nor two turns of vbr_shared.hpp by one handle, since each makes its calls
+   by a copy. Openings don't mark, since they may be given a count that is wrong. The mark is another bit than those of vbr_begin, so
+   processes may share a handle that is marked. If a process dies in a call, the mark stays until vbr_inherit, which then answers VBR_NO.
+   The names of the calls stand for the functions, as in vbr_tsan.h. */
 #ifndef VBR_CHECKED_H
 #define VBR_CHECKED_H
 
