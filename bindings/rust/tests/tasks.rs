@@ -9,7 +9,7 @@ use std::sync::mpsc::{channel, Sender};
 use std::sync::{Arc, Mutex};
 use std::task::{Context, Poll, Wake, Waker};
 use std::thread;
-use std::time::Duration;
+use std::time::{Duration, Instant};
 use vbr::{OwnedLent, Set, Shape, Table};
 
 of_sets_and_maps! {
@@ -48,10 +48,13 @@ impl Wake for Task {
     }
 }
 
+/// Tasks that go on for so long wait for what nobody wakes them for.
+const AT_LAST: Duration = Duration::from_secs(600);
+
 /// Runs the tasks on so many threads until all have ended.
 fn run(threads: usize, tasks: Vec<Pin<Box<dyn Future<Output = ()> + Send>>>) {
     let (queue, woken) = channel::<Arc<Task>>();
-    let (left, woken) = (AtomicUsize::new(tasks.len()), Mutex::new(woken));
+    let (left, woken, begun) = (AtomicUsize::new(tasks.len()), Mutex::new(woken), Instant::now());
     for work in tasks {
         queue.send(Arc::new(Task { work: Mutex::new(work), queue: queue.clone() })).expect("a queue");
     }
@@ -59,6 +62,7 @@ fn run(threads: usize, tasks: Vec<Pin<Box<dyn Future<Output = ()> + Send>>>) {
         for _ in 0..threads {
             scope.spawn(|| {
                 while left.load(Ordering::SeqCst) > 0 {
+                    assert!(begun.elapsed() < AT_LAST, "a task that nobody wakes");
                     let next = woken.lock().expect("a queue").recv_timeout(Duration::from_millis(1));
                     let Ok(task) = next else { continue };
                     let waker = Waker::from(Arc::clone(&task));
