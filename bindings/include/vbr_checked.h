@@ -3,8 +3,8 @@
    included, since vbr_tsan.h finds more. In C++ all files of a program define it, or none does: the members of vbr.hpp are inline, and
    the linker takes those of one file for all.
 
-   The calls go through functions that mark a handle in its `in_call` while a call runs, by an atomic exchange at its beginning and one
-   at its end. If it is marked already, the program is ended by abort, with a sentence on standard error that names the later call. A
+   The calls go through functions that mark a handle in its `in_call` while a call runs, by an atomic `or` at its beginning and an atomic
+   `and` at its end. If it is marked already, the program is ended by abort, with a sentence on standard error that names the later call. A
    call that takes all handles marks each of them, and one that shows a number of a const handle looks for a mark before and after. So
    these are found:
 
