@@ -25,12 +25,15 @@ static int of_sets(void) {
     vbr_has_all(&handle[1], wanted, 3, answers);
     CHECK(answers[2] == VBR_NO && are(vbr_stats_of(&handle[1], 1), 2, 1, 0, 0, 0, 0, 0, 0));
     CHECK(vbr_next(&handle[1], &cursor, &key) == VBR_YES && vbr_has(&none, 1) == VBR_NO_HANDLE);
-    CHECK(are(vbr_stats_of(handle, 2), 5, 2, 0, 1, 1, 0, 0, 0) && are(vbr_stats_of(&none, 1), 0, 0, 0, 0, 0, 0, 0, 1));
+    vbr_stats told = vbr_stats_of(handle, 2); // of both handles
+    uint64_t calls = told.yes + told.no, refused = told.out_of_steps + told.no_slot;
+    CHECK(are(told, 5, 2, 0, 1, 1, 0, 0, 0) && calls == 7 && refused == 2 && are(vbr_stats_of(&none, 1), 0, 0, 0, 0, 0, 0, 0, 1));
     CHECK(vbr_remove(&handle[0], 1) == VBR_YES && vbr_hold(&handle[0], &slot) == VBR_YES && vbr_hold(&handle[0], &slot) == VBR_HELD);
     CHECK(vbr_let_go(&handle[0]) == VBR_YES && are(vbr_stats_of(&handle[0], 1), 4, 1, 0, 1, 1, 0, 1, 0));
     moved = handle[1], handle[1].owned = NULL;
     CHECK(vbr_has(&moved, 2) == VBR_YES && are(vbr_stats_of(&moved, 1), 1, 0, 0, 0, 0, 0, 0, 0));
-    CHECK(are(vbr_stats_of_all(), 8, 2, 0, 1, 1, 0, 1, 1));
+    vbr_stats all = vbr_stats_of_all(); // of sets and maps
+    CHECK(are(all, 8, 2, 0, 1, 1, 0, 1, 1));
     vbr_drop(&moved), vbr_drop(&handle[0]);
     return 0;
 }
@@ -45,7 +48,8 @@ static int of_maps(void) {
     CHECK(vbr_map_compare_exchange(&map[0], 1, 11, 12, NULL) == VBR_OTHER && vbr_map_remove_if(&map[0], 1, 10, NULL) == VBR_YES);
     CHECK(vbr_map_insert(&map[0], 1, 10) == VBR_EPOCH_SPENT);
     vbr_map_get_all(&map[0], wanted, 2, found);
-    CHECK(are(vbr_map_stats_of(map, 1), 2, 2, 1, 0, 0, 1, 0, 0));
+    vbr_stats told = vbr_map_stats_of(map, 1); // of the one handle
+    CHECK(are(told, 2, 2, 1, 0, 0, 1, 0, 0));
     CHECK(vbr_map_next(&map[0], &cursor, &entry) == VBR_NO && vbr_map_renew_all(map, 1, 2, 2, 2) == VBR_OK);
     CHECK(vbr_map_next(&map[0], &cursor, &entry) == VBR_RESHAPED && vbr_map_stats_of(map, 1).reshaped == 1);
     vbr_map_drop(map);

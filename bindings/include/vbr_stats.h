@@ -26,12 +26,14 @@ extern "C" {
 #define VBR_STATS_BYTES(pointer) ((const char *)(pointer))
 #endif
 
-/* How many calls got each answer. VBR_NO_HANDLE is counted by `no_handle`, and the others by the counters of their names. */
+/* How many calls got each answer. VBR_NO_HANDLE is counted by `no_handle`, and the others by the counters of their names.
+
+       uint64_t calls = told.yes + told.no, refused = told.out_of_steps + told.no_slot; */
 typedef struct vbr_stats {
     uint64_t yes, no, other, out_of_steps, no_slot, epoch_spent, held, reshaped, no_handle;
 } vbr_stats;
 
-/* The counts of a handle, and those of the handles that have no line. */
+/* The counts of a handle, and those of the handles that have no line. It is no part of the interface. */
 typedef struct vbr_stats_line {
     const void *handle;
     vbr_stats counts;
@@ -44,7 +46,7 @@ __attribute__((weak, aligned(128))) vbr_stats_line vbr_stats_lines[VBR_STATS_LIN
 }
 #endif
 
-/* The line of a handle, which is taken for it if `takes` isn't 0; else the shared one. */
+/* The line of a handle, which is taken for it if `takes` isn't 0; else the shared one. It is no part of the interface. */
 static inline vbr_stats_line *vbr_stats_line_of(const void *handle, int takes) VBR_NOEXCEPT {
     size_t tried, first = VBR_STATS_ADDRESS(handle) / sizeof(vbr_handle);
     for (tried = 0; tried < 16; tried++) {
@@ -71,7 +73,8 @@ static inline uint64_t *vbr_stats_counter(vbr_stats *counts, vbr_answer answer) 
     }
 }
 
-/* Counts an answer of a call by this handle, and returns it. Only the thread that has the handle writes its line. */
+/* Counts an answer of a call by this handle, and returns it. Only the thread that has the handle writes its line.
+   It is no part of the interface. */
 static inline vbr_answer vbr_stats_counts(const void *handle, vbr_answer answer) VBR_NOEXCEPT {
     vbr_stats_line *line = vbr_stats_line_of(handle, 1);
     uint64_t *counter = vbr_stats_counter(&line->counts, answer);
@@ -92,7 +95,7 @@ static inline void vbr_stats_adds(vbr_stats *sum, const vbr_stats_line *line) VB
     sum->no_handle += __atomic_load_n(&line->counts.no_handle, __ATOMIC_RELAXED);
 }
 
-/* Adds up the counts of `count` handles of either kind, which lie side by side from the first on. */
+/* Adds up the counts of `count` handles of either kind, which lie side by side from the first on. It is no part of the interface. */
 static inline vbr_stats vbr_stats_sum(const char *handles, size_t count) VBR_NOEXCEPT {
     vbr_stats sum = {0, 0, 0, 0, 0, 0, 0, 0, 0};
     for (size_t i = 0; i < count; i++) {
@@ -105,21 +108,21 @@ static inline vbr_stats vbr_stats_sum(const char *handles, size_t count) VBR_NOE
 /* Returns the counts of `count` handles, added up: of a lender, those that it was given. Each number is one that it had during the call,
    and exact if no thread makes calls by these handles meanwhile.
 
-       vbr_stats told = vbr_stats_of(handle, 8); */
+       vbr_stats told = vbr_stats_of(handle, 2); // of both handles */
 VBR_NODISCARD VBR_NONNULL static inline vbr_stats vbr_stats_of(const vbr_handle *handles, size_t count) VBR_NOEXCEPT {
     return vbr_stats_sum(VBR_STATS_BYTES(handles), count);
 }
 
 /* Returns the counts of handles to a map, added up, as vbr_stats_of does for a set.
 
-       vbr_stats told = vbr_map_stats_of(map, 8); */
+       vbr_stats told = vbr_map_stats_of(map, 1); // of the one handle */
 VBR_NODISCARD VBR_NONNULL static inline vbr_stats vbr_map_stats_of(const vbr_map_handle *handles, size_t count) VBR_NOEXCEPT {
     return vbr_stats_sum(VBR_STATS_BYTES(handles), count);
 }
 
 /* Returns the counts of all handles of the program, added up.
 
-       vbr_stats told = vbr_stats_of_all(); */
+       vbr_stats all = vbr_stats_of_all(); // of sets and maps */
 VBR_NODISCARD static inline vbr_stats vbr_stats_of_all(void) VBR_NOEXCEPT {
     vbr_stats sum = {0, 0, 0, 0, 0, 0, 0, 0, 0};
     for (size_t i = 0; i <= VBR_STATS_LINES; i++) vbr_stats_adds(&sum, &vbr_stats_lines[i]);
