@@ -16,7 +16,7 @@
    gets the handle that it had last, from any lender, if that one is free: a loan and its return are then one atomic exchange on a
    word that other threads don't write, and if there are no more threads than handles, each comes to have its own. A lender has words
    for 64 handles; for more, give vbr_lender_init_many some. No pointer that a call is given may be null. VBR_LEND_CHECKED says whether
-   a program that gives a handle back twice, or to another lender, is ended with a sentence.
+   a program that gives a handle back twice, or to another lender, is ended with a sentence; a return is a second exchange then.
 
    What is done with a handle before it is given back comes before what the next borrower does (a release and an acquire). The handles
    and the lender stay where they are while there are loans. A lender takes 8 KiB, since its words lie apart. The number of a loan is
