@@ -159,7 +159,8 @@ typedef enum vbr_answer {
     VBR_NO_HANDLE = -4,    /* the handle, or one of them, is empty, or null where null is allowed; nothing was done */
     VBR_IN_USE = -5,       /* what is to be opened isn't empty, or a handle is on loan; nothing was done */
     VBR_BAD_SHAPE = -6,    /* slots, buckets or last_epoch is out of range; nothing was done */
-    VBR_BAD_COUNT = -7,    /* count is not from 1 to 64, of open_many and open_shared to 65,536; nothing was done */
+    VBR_BAD_COUNT = -7,    /* count is not from 1 to 64, of open_many, open_shared and lender_init_many to
+                              65,536; nothing was done */
     VBR_NO_MEMORY = -8,    /* there is no memory; handles stay as they were */
     VBR_LOST = -9,         /* the handle was the last, and a pass is missing; the set is gone, and its memory is freed.
                               A dropped handle gives its pass back, and a forgotten one keeps its set open (VBR_NO),

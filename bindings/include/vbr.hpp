@@ -166,7 +166,8 @@ enum class [[nodiscard]] refusal : std::int32_t {
                                         has none */
     on_loan = VBR_IN_USE,            /* of a lender, and of processes: a handle is on loan, or in a turn; all stays as it was */
     bad_shape = VBR_BAD_SHAPE,       /* slots, buckets or last_epoch is out of range; nothing was done */
-    bad_count = VBR_BAD_COUNT,       /* count is not from 1 to 64, of open_many and open_shared to 65,536; nothing was done */
+    bad_count = VBR_BAD_COUNT,       /* count is not from 1 to 64, of open_many, open_shared and lender_init_many to 65,536; nothing was
+                                        done */
     no_memory = VBR_NO_MEMORY,       /* there is no memory; handles stay as they were */
     lost = VBR_LOST,                 /* the handle was the last, and a pass is missing; the set is gone, and its memory is freed. A
                                         dropped handle gives its pass back, and a forgotten one keeps its set open, so no program is

@@ -120,7 +120,7 @@ VBR_NODISCARD VBR_NONNULL static inline vbr_stats vbr_map_stats_of(const vbr_map
     return vbr_stats_sum(VBR_STATS_BYTES(handles), count);
 }
 
-/* Returns the counts of all handles of the program, added up.
+/* Returns the counts of all handles of the program, added up. A shared object that hides its symbols has counts of its own.
 
        vbr_stats all = vbr_stats_of_all(); // of sets and maps */
 VBR_NODISCARD static inline vbr_stats vbr_stats_of_all(void) VBR_NOEXCEPT {

@@ -413,7 +413,7 @@ impl<T: Kind, B: Deref<Target = Table<T>>> LentBy<T, B> {
         self.number
     }
 
-    /// Gives the calls of this loan another budget. After the loan the handle has its own again.
+    /// Gives the calls of this loan another budget. After the loan the handle has its own again, unless the loan is forgotten.
     ///
     /// ```
     /// # use vbr::{OutOfSteps, Set, Shape, Steps};
