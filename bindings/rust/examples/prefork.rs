@@ -276,7 +276,7 @@ impl Master<'_> {
 fn ended(process: c_int) -> io::Result<c_int> {
     let mut status = 0;
     // SAFETY: nothing else has the status.
-    if unsafe { waitpid(process, &mut status, 0) } == process {
+    if unsafe { waitpid(process, &raw mut status, 0) } == process {
         Ok(status)
     } else {
         Err(io::Error::last_os_error())

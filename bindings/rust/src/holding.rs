@@ -143,11 +143,11 @@ impl<T: Kind> PassOf<T> {
     pub fn hold_within(&mut self, steps: Steps) -> Result<Held<'_, T>, Refusal> {
         let mut slot = 0;
         // SAFETY: `&mut` is exclusive, and nothing else has the number.
-        let mut told = unsafe { T::HOLD(self.raw(), &mut slot, steps.count()) };
+        let mut told = unsafe { T::HOLD(self.raw(), &raw mut slot, steps.count()) };
         if told == code::HELD {
             // that of one that was forgotten
             // SAFETY: as above.
-            told = unsafe { (T::LET_GO(self.raw()), T::HOLD(self.raw(), &mut slot, steps.count())).1 };
+            told = unsafe { (T::LET_GO(self.raw()), T::HOLD(self.raw(), &raw mut slot, steps.count())).1 };
         }
         updated(told)?;
         Ok(Held { pass: self, slot })
@@ -187,7 +187,7 @@ impl<T: Kind> PassOf<T> {
         let (key, mut stands) = (key.to_bits(), Stands::default());
         // SAFETY: one thread at a time has the pass, which is not `Sync`, and the call lends it to nobody; nothing else has what is
         // written.
-        let told = order::finds(key, || unsafe { T::GET_ENTRY(self.raw(), key, &mut stands, steps.count()) });
+        let told = order::finds(key, || unsafe { T::GET_ENTRY(self.raw(), key, &raw mut stands, steps.count()) });
         Ok(looked_up(told)?.then_some(Incarnation { stands, kind: PhantomData }))
     }
 
@@ -210,7 +210,7 @@ impl<T: Kind> PassOf<T> {
     #[must_use]
     pub fn is_still(&self, at: &Incarnation<T>) -> bool {
         // SAFETY: as for `get_entry_within`.
-        unsafe { T::IS_STILL(self.raw(), &at.stands) == code::YES }
+        unsafe { T::IS_STILL(self.raw(), &raw const at.stands) == code::YES }
     }
 
     /// Takes a key out if it still has the very entry that was found, and says whether it had. Otherwise nothing was changed.
@@ -264,7 +264,7 @@ impl<T: Kind> PassOf<T> {
     pub fn remove_entry_within(&mut self, key: T::Key, at: &Incarnation<T>, steps: Steps) -> Result<bool, OutOfSteps> {
         let key = key.to_bits();
         // SAFETY: `&mut` is exclusive.
-        looked_up(order::removes(key, || unsafe { T::REMOVE_ENTRY(self.raw(), key, &at.stands, steps.count()) }))
+        looked_up(order::removes(key, || unsafe { T::REMOVE_ENTRY(self.raw(), key, &raw const at.stands, steps.count()) }))
     }
 
     /// Returns the next key of a walk, and where it stands; `None` at the end. Otherwise it is as [`PassOf::next`].
@@ -311,7 +311,7 @@ impl<T: Kind> PassOf<T> {
     pub fn next_at_within(&self, cursor: &mut Cursor, steps: Steps) -> Result<Option<(T::Key, Incarnation<T>)>, WalkError> {
         let (mut key, mut stands) = (0, Stands::default());
         // SAFETY: as for `get_entry_within`.
-        let told = unsafe { T::NEXT_AT(self.raw(), cursor, &mut key, &mut stands, steps.count()) };
+        let told = unsafe { T::NEXT_AT(self.raw(), cursor, &raw mut key, &raw mut stands, steps.count()) };
         if !walked(told)? {
             return Ok(None);
         }
@@ -487,7 +487,7 @@ impl<'p, K: Bits, V: Bits> Held<'p, Entries<K, V>> {
         self.spent_by(|pass| {
             order::changes(key, || {
                 // SAFETY: `&mut` is exclusive.
-                unsafe { vbr_map_replace_held_within(pass.raw(), key, &at.stands, value, steps.count()) }
+                unsafe { vbr_map_replace_held_within(pass.raw(), key, &raw const at.stands, value, steps.count()) }
             })
         })
     }

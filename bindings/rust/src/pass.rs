@@ -319,7 +319,7 @@ impl<T: Kind> PassOf<T> {
     pub fn next_within(&self, cursor: &mut Cursor, steps: Steps) -> Result<Option<T::Item>, WalkError> {
         let mut given = T::Plain::default();
         // SAFETY: as for `has_within`; nothing else has the cursor and what is given.
-        let told = unsafe { T::NEXT(self.raw(), cursor, &mut given, steps.count()) };
+        let told = unsafe { T::NEXT(self.raw(), cursor, &raw mut given, steps.count()) };
         if !walked(told)? {
             return Ok(None);
         }

@@ -176,7 +176,7 @@ impl<T: Kind> SharedTable<T> {
         check_version();
         let items = plain::<T>(items, shape.slots)?;
         let mut first = null_mut();
-        let told = open(&mut first, shape.handles, shape, &items);
+        let told = open(&raw mut first, shape.handles, shape, &items);
         let refused = if told == code::NO_ROOM { OpenError::ShortFile } else { OpenError::Memory };
         let handles = NonNull::new(first).filter(|_| told == code::DONE).ok_or(refused)?;
         let table = SharedTable { handles, count: shape.handles, kind: PhantomData };

@@ -45,7 +45,7 @@ impl<T: Kind> Room<T> {
         call: impl FnOnce(*mut T::Plain, usize, *mut ReportNumbers) -> i32,
     ) -> Result<ReportNumbers, Unreported> {
         let mut numbers = ReportNumbers::default();
-        match order::of_all(|| call(self.plain.as_mut_ptr(), self.plain.len(), &mut numbers)) {
+        match order::of_all(|| call(self.plain.as_mut_ptr(), self.plain.len(), &raw mut numbers)) {
             code::YES => Ok(numbers),
             code::NO_MEMORY => Err(Unreported::Memory),
             _ => Err(Unreported::Lost),

@@ -316,7 +316,7 @@ fn a_process_that_dies_in_a_report<K: Both>() {
     }
     let mut status = 0;
     // SAFETY: nothing else has the status.
-    assert_eq!((unsafe { waitpid(child, &mut status, 0) }, status), (child, SIGKILL));
+    assert_eq!((unsafe { waitpid(child, &raw mut status, 0) }, status), (child, SIGKILL));
     // SAFETY: the child is dead, and no other thread has the set.
     unsafe {
         assert_eq!(set.report().err(), Some(ReportError::Missing));

@@ -49,7 +49,7 @@ fn forked(work: impl FnOnce() -> bool) -> c_int {
 fn end_of(child: c_int) -> End {
     let mut status = 0;
     // SAFETY: nothing else has the status.
-    assert_eq!(unsafe { waitpid(child, &mut status, 0) }, child);
+    assert_eq!(unsafe { waitpid(child, &raw mut status, 0) }, child);
     match status {
         0 => End::Well,
         SIGKILL => End::Killed,
