@@ -60,7 +60,7 @@ use core::num::NonZero;
 #[diagnostic::on_unimplemented(
     message = "`{Self}` isn't kept in 64 bits",
     label = "a key or a value has to implement `Bits`",
-    note = "keep a number or a hash for it, or a record beside the slot (`Records`)",
+    note = "a `RecordMap` has keys and values of any size; or keep a number for it, or a record beside the slot (`Records`)",
     note = "for a type of at most 64 bits implement `Bits`; for a struct around one that has it use `vbr::impl_bits!`"
 )]
 pub trait Bits: Copy + Eq + Debug + Send + Sync + 'static {

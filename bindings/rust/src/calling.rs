@@ -1,4 +1,5 @@
 //! Calls of a set or a map itself, each by a loan that it makes and gives back.
+use crate::records::Words;
 use crate::{
     max_epoch, Bits, Change, Compared, Entries, Keys, Kind, OutOfSteps, PassOf, Refusal, Shape, Table, MAX_BUCKETS, MAX_SLOTS,
 };
@@ -39,6 +40,11 @@ impl Growth {
     #[must_use]
     pub const fn up_to(slots: u32) -> Growth {
         Growth { most_slots: if slots < MAX_SLOTS { slots } else { MAX_SLOTS } }
+    }
+
+    /// The same, up to so many slots.
+    pub(crate) fn within(self, slots: u32) -> Growth {
+        Growth { most_slots: self.most_slots.min(slots) }
     }
 
     /// The shape after a refusal, of a set that has this one; none if another one is of no use.
@@ -124,12 +130,18 @@ impl<T: Kind> Table<T> {
                 let mut mine = self.lend_wait();
                 (self.lender.renewals(), call(&mut mine))
             };
-            let Err(refusal) = told else { return told };
-            let Some(shape) = growth.after(refusal, self.lender.shape().get()) else { return Err(refusal) };
-            if self.lender.renew_once(renewals, shape).is_err() && self.lender.renewals() == renewals {
-                return Err(refusal);
+            match told {
+                Err(refusal) if self.is_renewed_after(refusal, growth, renewals, None) => {}
+                told => return told,
             }
         }
+    }
+
+    /// Renews it after a refusal, if that is of use, and records with it. Whether it is another one now than after so many renewals,
+    /// by this thread or by another.
+    pub(crate) fn is_renewed_after(&self, why: Refusal, growth: Growth, renewals: usize, records: Option<&Words>) -> bool {
+        let Some(shape) = growth.after(why, self.lender.shape().get()) else { return false };
+        self.lender.renew_once(renewals, shape, records).is_ok() || self.lender.renewals() != renewals
     }
 }
 

@@ -164,8 +164,8 @@ impl<T: Kind> Lender<T> {
     }
 
     /// The same if it was renewed that often: any later renewal serves.
-    pub(crate) fn renew_once(&self, before: usize, shape: Shape) -> Result<(), RenewError> {
-        self.renew_unless(|| self.renewals() != before, shape, None, None)
+    pub(crate) fn renew_once(&self, before: usize, shape: Shape, records: Option<&Words>) -> Result<(), RenewError> {
+        self.renew_unless(|| self.renewals() != before, shape, None, records)
     }
 
     fn renew_unless(

@@ -24,7 +24,8 @@
 //!
 //! - **Platform.** Linux on x86-64, processors of x86-64-v2 or later (SSE4.2 and POPCNT). It was run on Xeons in virtual machines
 //!   under Debian 12, and nowhere else. Rust 1.85 or later, with `std`.
-//! - **Limits.** Keys and values of at most 64 bits, and [`Records`] of any size beside them. Up to [`MAX_SLOTS`] slots
+//! - **Limits.** Keys and values of at most 64 bits, and [`Records`] of any size beside them; keys and values of any size in a
+//!   [`RecordMap`]. Up to [`MAX_SLOTS`] slots
 //!   (2,147,483,647), of which each key takes one and each handle keeps up to 64; [`MAX_MANY_HANDLES`] handles; memory that is
 //!   taken at the opening, 8 × (2 + buckets + 4 × slots + ⌈slots / 64⌉) bytes for a set, and 8 more for each slot of a map. A
 //!   set doesn't grow by itself: [`Table::renew`], [`Table::call`] and [`HandleOf::renew_all`] let it go on in another shape.
@@ -46,7 +47,7 @@
 //! - **Argued and tested**, and not proved: that calls which a program orders (by a lock, a channel, a join, or a release and an
 //!   acquire) stand in that order; that what was written before an insert can be read by whoever finds the key; that handles may
 //!   change threads, and signal handlers make calls; that processes which share a set go on when one is killed. This crate, its
-//!   loans and its waiting are tested, and proved by nobody.
+//!   loans, its waiting and its maps of records are tested, and proved by nobody.
 //!
 //! # Names
 //!
@@ -114,10 +115,42 @@
 //! # Ok::<(), Box<dyn std::error::Error>>(())
 //! ```
 //!
-//! Programs to begin from are in `examples`: `page_cache.rs`, the index of a page cache; `slot_records.rs`, records of any size
+//! Programs to begin from are in `examples`: `record_map.rs`, accounts by name, in a map whose keys and values are of any size;
+//! `page_cache.rs`, the index of a page cache; `slot_records.rs`, records of any size
 //! beside the slots of a map, and `records.rs`, records that values name; `limiter.rs`, a rate limiter; `logins.rs`, logins that
 //! expire; `server.rs`, a map that a clock renews; `visits.rs`, a map that grows; `prefork.rs`, processes that share a map and
 //! are killed; and short ones, `routes.rs`, `interner.rs` and `visited.rs`.
+//!
+//! # Maps of records
+//!
+//! A [`RecordMap`] has keys and values of any size, in fixed memory: values that are structs by [`record!`], and keys that are
+//! numbers, strings of a fixed capacity ([`SmallStr`]), or structs by [`impl_record_key!`]. Its calls are those of a map. A value is
+//! read as a copy, which is whole, and [`RecordMap::compute`] loses no update.
+//!
+//! ```
+//! use vbr::{record, Change, RecordMap, Shape, SmallStr};
+//!
+//! record! {
+//!     #[derive(Clone, Copy, Debug, PartialEq)]
+//!     struct Visits {
+//!         count: u64,
+//!         last: [u8; 16],
+//!     }
+//! }
+//!
+//! let pages: RecordMap<SmallStr<64>, Visits> = RecordMap::open(Shape::for_keys(1_024, 2))?;
+//! let page = SmallStr::new("/docs/using")?; // refused if it is longer than 64 bytes
+//! for last in [[1; 16], [2; 16]] {
+//!     pages.compute(page, |before| Change::Put(Visits { count: before.map_or(0, |it| it.count) + 1, last }))?;
+//! }
+//! assert_eq!(pages.get(page)?, Some(Visits { count: 2, last: [2; 16] }));
+//! # Ok::<(), Box<dyn std::error::Error>>(())
+//! ```
+//!
+//! A key of at most 64 bits is kept as itself. A longer one is hashed to 64 bits, by a hash whose key is drawn at random, and
+//! the whole key is compared. A second key with the same hash is refused ([`RecordRefusal::HashTaken`]): of a million keys some have
+//! one with a probability of 3 in a hundred million. Values are plain data, copied whole: for many bytes of which a call wants few, keep
+//! a number, and [`Records`]. Tasks don't await a loan of such a map, and processes don't share it.
 //!
 //! # Records of any size
 //!
@@ -293,10 +326,15 @@ mod misuse;
 mod order;
 mod pass;
 mod processes;
+mod record_entry;
+mod record_key;
+mod record_lent;
+mod record_map;
 mod records;
 mod reporting;
 mod set;
 mod shape;
+mod small_str;
 mod steps;
 mod table;
 mod tasks;
@@ -318,9 +356,14 @@ pub use lending::{Lent, LentBy, OwnedLent};
 pub use map::{Map, MapHandle, MapPass, MapReport};
 pub use pass::PassOf;
 pub use processes::{Claim, Inherited, SharedMap, SharedSet, SharedTable, Turn};
+pub use record_entry::{RecordEntry, RecordRefusal};
+pub use record_key::RecordKey;
+pub use record_lent::{RecordIter, RecordLent};
+pub use record_map::RecordMap;
 pub use records::{Record, Records};
 pub use set::{Handle, Pass, Report, Set};
 pub use shape::{random_seed, Shape, ShapeError};
+pub use small_str::{SmallStr, TooLong};
 pub use steps::Steps;
 pub use table::Table;
 pub use tasks::LendAsync;

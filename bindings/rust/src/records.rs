@@ -5,10 +5,12 @@ use alloc::vec::Vec;
 use core::fmt;
 use core::marker::PhantomData;
 use core::sync::atomic::{AtomicU64, Ordering};
+use std::time::Instant;
 
 /// A type of records, which are made of words of 64 bits.
 ///
-/// Numbers have it, `bool` and `char`, arrays and pairs of such, and arrays of bytes, eight of which share a word. [`record!`] says
+/// Numbers have it, `bool` and `char`, arrays and pairs of such, arrays of bytes, eight of which share a word,
+/// [`SmallStr`](crate::SmallStr) and `()`. [`record!`] says
 /// it of a struct by its fields. For a type of your own say how it gives its words, one after another, and how it is made of them:
 ///
 /// ```
@@ -87,6 +89,17 @@ mod words {
         bool, |it| it as u64, |bits| bits != 0;
         char, |it| it as u64, |bits| char::from_u32(bits as u32).unwrap_or_default();
     }
+}
+
+/// No words: the value of a [`RecordMap`](crate::RecordMap) whose keys are all that there is.
+impl Record for () {
+    const WORDS: usize = 0;
+
+    #[inline]
+    fn store(&self, _: &mut impl FnMut(u64)) {}
+
+    #[inline]
+    fn load(_: &mut impl FnMut() -> u64) {}
 }
 
 impl<const N: usize> Record for [u8; N] {
@@ -210,7 +223,7 @@ macro_rules! record {
 /// The records are those of one set or map. With a pass of another one a call reads and writes records of slots that aren't its own: what
 /// it gives is a record, and may be any.
 pub struct Records<R> {
-    words: Words,
+    pub(crate) words: Words,
     kind: PhantomData<fn() -> R>,
 }
 
@@ -346,13 +359,7 @@ impl<R: Record> Records<R> {
     /// If there are fewer records than slots.
     #[inline]
     pub fn read_entry<T: Kind>(&self, pass: &PassOf<T>, key: T::Key) -> Result<Option<(R, Incarnation<T>)>, OutOfSteps> {
-        while let Some(at) = pass.get_entry(key)? {
-            let record = self.copy(&at);
-            if pass.is_still(&at) {
-                return Ok(Some((record, at)));
-            }
-        }
-        Ok(None)
+        self.words.read_entry(pass, key)
     }
 
     /// The record of a slot as it is, for a loop of your own. It may be one of two until [`PassOf::is_still`] says yes to the entry that
@@ -378,9 +385,7 @@ impl<R: Record> Records<R> {
     #[inline]
     #[must_use]
     pub fn copy<T: Kind>(&self, at: &Incarnation<T>) -> R {
-        let mut words = self.words.of(at.slot()).iter();
-        // so the question comes after it, and after what its writer did before
-        R::load(&mut || words.next().expect(MORE).load(Ordering::Acquire))
+        self.words.copy(at)
     }
 
     /// Renews the set as [`HandleOf::renew_all`] does, and carries the records over to the slots that its entries have then. It takes 4
@@ -431,8 +436,18 @@ impl<R: Record> Records<R> {
     ///
     /// The same as for [`Records::renew_all`], and all stays as it was.
     pub fn renew<T: Kind>(&self, table: &Table<T>, shape: Shape) -> Result<(), RenewError> {
+        self.renew_until(table, shape, None)
+    }
+
+    /// The same, if all loans are back before the deadline.
+    pub(crate) fn renew_until<T: Kind>(
+        &self,
+        table: &Table<T>,
+        shape: Shape,
+        until: Option<Instant>,
+    ) -> Result<(), RenewError> {
         self.words.have_room(shape)?;
-        table.lender.renew(shape, None, Some(&self.words))
+        table.lender.renew(shape, until, Some(&self.words))
     }
 }
 
@@ -445,6 +460,30 @@ impl Words {
     fn of(&self, slot: u32) -> &[AtomicU64] {
         let from = slot as usize * self.each;
         &self.all[from..from + self.each]
+    }
+
+    /// The record of a key, or what its first words make, and its entry, as [`Records::read_entry`] gives it.
+    #[inline]
+    pub(crate) fn read_entry<R: Record, T: Kind>(
+        &self,
+        pass: &PassOf<T>,
+        key: T::Key,
+    ) -> Result<Option<(R, Incarnation<T>)>, OutOfSteps> {
+        while let Some(at) = pass.get_entry(key)? {
+            let record = self.copy(&at);
+            if pass.is_still(&at) {
+                return Ok(Some((record, at)));
+            }
+        }
+        Ok(None)
+    }
+
+    /// The record of a slot as it is, or what its first words make.
+    #[inline]
+    fn copy<R: Record, T: Kind>(&self, at: &Incarnation<T>) -> R {
+        let mut words = self.of(at.slot()).iter();
+        // so the question comes after it, and after what its writer did before
+        R::load(&mut || words.next().expect(MORE).load(Ordering::Acquire))
     }
 
     fn have_room(&self, shape: Shape) -> Result<(), RenewError> {

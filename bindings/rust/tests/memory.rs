@@ -7,7 +7,7 @@ use std::alloc::{GlobalAlloc, Layout, System};
 use std::cell::Cell;
 use std::ffi::{c_int, c_void};
 use std::panic::{catch_unwind, AssertUnwindSafe};
-use vbr::{CloseError, OpenError, RenewError, ReportError, Set, Shape, SharedTable, Table};
+use vbr::{Change, CloseError, OpenError, RecordMap, RenewError, ReportError, Set, Shape, SharedTable, Table};
 
 /// Counts what this thread asks for, and refuses it while it is told to.
 struct Counting;
@@ -271,6 +271,46 @@ fn handles_that_are_lent_or_not<K: Both>() {
     let set = unclosed.into_table();
     assert!([(); 3].map(|()| set.lend()).iter().flatten().all(|it| it.has(2) == Ok(true)));
     assert_eq!(granted(1, || set.into_handles()).expect("memory for the vector").len(), 3);
+}
+
+/// It is opened whole or not. Its calls ask for no memory, and each block that a renewal asks for is refused in turn.
+#[test]
+fn a_map_of_records() {
+    let (shape, wanted) = (Shape::for_keys(1_000, 2), Shape::for_keys(2_000, 2));
+    let open = || RecordMap::<[u8; 32], [u64; 12]>::open_up_to(shape, wanted.slots);
+    assert_eq!(refused_in_the_library(|| open().err()), Some(OpenError::Memory));
+    for blocks in 0..8 {
+        assert_eq!(granted(blocks, || open().err()), Some(OpenError::Memory));
+    }
+    let map = granted(8, open).expect("seven blocks of a map that lends its handles, and one of the records");
+    let (five, six, whole) = ([5; 32], [6; 32], |number| Some([number; 12]));
+    refused(|| {
+        refused_in_the_library(|| {
+            assert_eq!((map.try_insert(five, [1; 12]), map.put(five, [2; 12])), (Ok(true), Ok(whole(1))));
+            assert_eq!(map.compute(five, |before| before.map_or(Change::Keep, |_| Change::Put([3; 12]))), Ok(whole(2)));
+            assert_eq!(
+                (map.put(six, [6; 12]), map.remove(six), map.replace(five, [4; 12])),
+                (Ok(None), Ok(whole(6)), Ok(whole(3)))
+            );
+            assert_eq!(map.lend_wait().iter().next(), Some(Ok((five, [4; 12]))));
+        });
+    });
+    for by_the_library in [false, true] {
+        let (before, after) = if by_the_library { (wanted, shape) } else { (shape, wanted) };
+        for blocks in 0.. {
+            let refuse = if by_the_library { &LIBRARY_GRANTED } else { &GRANTED };
+            refuse.set(blocks);
+            let told = map.renew(after);
+            refuse.set(usize::MAX);
+            assert_eq!(map.slots(), if told.is_ok() { after.slots } else { before.slots });
+            assert_eq!((map.get(five), map.get(six)), (Ok(whole(4)), Ok(None)));
+            if told.is_ok() {
+                assert!(blocks >= 3);
+                break;
+            }
+            assert_eq!(told, Err(RenewError::Memory));
+        }
+    }
 }
 
 /// What the library notes of a mapping is there for the next one of that size, so each kind has sizes of its own.

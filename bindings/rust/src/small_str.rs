@@ -1,0 +1,205 @@
+//! Strings of a fixed capacity.
+use crate::Record;
+use core::cmp::Ordering;
+use core::error::Error;
+use core::fmt;
+use core::hash::{Hash, Hasher};
+use core::ops::Deref;
+
+/// A string of up to `N` bytes of UTF-8, which lies in itself: a key of a [`RecordMap`](crate::RecordMap), or a part of a [`Record`].
+/// In a record it takes a word for its length, and one for each eight bytes of `N`, however short it is.
+///
+/// It derefs to `str`.
+///
+/// ```
+/// use vbr::{SmallStr, TooLong};
+///
+/// let name: SmallStr<16> = SmallStr::new("Käthe")?;
+/// assert_eq!((name.as_str(), name.len()), ("Käthe", 6));
+/// assert!(name.starts_with('K'));
+/// assert_eq!(SmallStr::<5>::new("Käthe"), Err(TooLong { bytes: 6, most: 5 })); // nothing is cut off
+/// # Ok::<(), TooLong>(())
+/// ```
+#[derive(Clone, Copy)]
+pub struct SmallStr<const N: usize> {
+    length: usize,
+    bytes: [u8; N],
+}
+
+/// Why a text isn't made a [`SmallStr`]: it has more bytes than there is room for.
+///
+/// ```
+/// # use vbr::SmallStr;
+/// let why = "harbour".parse::<SmallStr<4>>().unwrap_err();
+/// assert_eq!(why.to_string(), "the text has 7 bytes, and there is room for 4");
+/// ```
+#[derive(Clone, Copy, Debug, PartialEq, Eq, Hash)]
+pub struct TooLong {
+    /// How many bytes the text has.
+    pub bytes: usize,
+    /// How many there is room for.
+    pub most: usize,
+}
+
+impl<const N: usize> SmallStr<N> {
+    /// The string of this text, whole. It copies the bytes.
+    ///
+    /// ```
+    /// # use vbr::SmallStr;
+    /// assert_eq!(SmallStr::<4>::new("port")?, "port");
+    /// assert!(SmallStr::<4>::new("ports").is_err());
+    /// # Ok::<(), vbr::TooLong>(())
+    /// ```
+    ///
+    /// # Errors
+    ///
+    /// [`TooLong`], if the text has more than `N` bytes.
+    #[inline]
+    pub fn new(text: &str) -> Result<SmallStr<N>, TooLong> {
+        let mut bytes = [0; N];
+        let room = bytes.get_mut(..text.len()).ok_or(TooLong { bytes: text.len(), most: N })?;
+        room.copy_from_slice(text.as_bytes());
+        Ok(SmallStr { length: text.len(), bytes })
+    }
+
+    /// The text. It goes once over the bytes, to see that they are UTF-8: what [`Record::load`] makes of any words may have others,
+    /// and has an empty text then.
+    ///
+    /// ```
+    /// # use vbr::SmallStr;
+    /// assert_eq!(SmallStr::<8>::new("port")?.as_str(), "port");
+    /// # Ok::<(), vbr::TooLong>(())
+    /// ```
+    #[inline]
+    #[must_use]
+    pub fn as_str(&self) -> &str {
+        core::str::from_utf8(self.as_bytes()).unwrap_or_default()
+    }
+
+    /// The bytes of the text.
+    ///
+    /// ```
+    /// # use vbr::SmallStr;
+    /// assert_eq!(SmallStr::<8>::new("ä")?.as_bytes(), [0xc3, 0xa4]);
+    /// # Ok::<(), vbr::TooLong>(())
+    /// ```
+    #[inline]
+    #[must_use]
+    pub fn as_bytes(&self) -> &[u8] {
+        &self.bytes[..self.length]
+    }
+}
+
+impl<const N: usize> Record for SmallStr<N> {
+    const WORDS: usize = 1 + <[u8; N]>::WORDS;
+
+    #[inline]
+    fn store(&self, put: &mut impl FnMut(u64)) {
+        self.length.store(put);
+        self.bytes.store(put);
+    }
+
+    #[inline]
+    fn load(next: &mut impl FnMut() -> u64) -> SmallStr<N> {
+        SmallStr { length: usize::load(next).min(N), bytes: Record::load(next) }
+    }
+}
+
+impl<const N: usize> Deref for SmallStr<N> {
+    type Target = str;
+
+    #[inline]
+    fn deref(&self) -> &str {
+        self.as_str()
+    }
+}
+
+impl<const N: usize> AsRef<str> for SmallStr<N> {
+    fn as_ref(&self) -> &str {
+        self
+    }
+}
+
+/// The empty string.
+impl<const N: usize> Default for SmallStr<N> {
+    fn default() -> SmallStr<N> {
+        SmallStr { length: 0, bytes: [0; N] }
+    }
+}
+
+impl<const N: usize> TryFrom<&str> for SmallStr<N> {
+    type Error = TooLong;
+
+    fn try_from(text: &str) -> Result<SmallStr<N>, TooLong> {
+        SmallStr::new(text)
+    }
+}
+
+impl<const N: usize> core::str::FromStr for SmallStr<N> {
+    type Err = TooLong;
+
+    fn from_str(text: &str) -> Result<SmallStr<N>, TooLong> {
+        SmallStr::new(text)
+    }
+}
+
+impl<const N: usize> PartialEq for SmallStr<N> {
+    #[inline]
+    fn eq(&self, other: &SmallStr<N>) -> bool {
+        self.as_bytes() == other.as_bytes()
+    }
+}
+
+impl<const N: usize> Eq for SmallStr<N> {}
+
+impl<const N: usize> PartialEq<str> for SmallStr<N> {
+    fn eq(&self, other: &str) -> bool {
+        self.as_bytes() == other.as_bytes()
+    }
+}
+
+impl<const N: usize> PartialEq<&str> for SmallStr<N> {
+    fn eq(&self, other: &&str) -> bool {
+        self == *other
+    }
+}
+
+impl<const N: usize> PartialOrd for SmallStr<N> {
+    fn partial_cmp(&self, other: &SmallStr<N>) -> Option<Ordering> {
+        Some(self.cmp(other))
+    }
+}
+
+/// By their bytes, as `str` has it.
+impl<const N: usize> Ord for SmallStr<N> {
+    fn cmp(&self, other: &SmallStr<N>) -> Ordering {
+        self.as_bytes().cmp(other.as_bytes())
+    }
+}
+
+impl<const N: usize> Hash for SmallStr<N> {
+    #[inline]
+    fn hash<H: Hasher>(&self, state: &mut H) {
+        self.as_bytes().hash(state);
+    }
+}
+
+impl<const N: usize> fmt::Display for SmallStr<N> {
+    fn fmt(&self, f: &mut fmt::Formatter<'_>) -> fmt::Result {
+        self.as_str().fmt(f)
+    }
+}
+
+impl<const N: usize> fmt::Debug for SmallStr<N> {
+    fn fmt(&self, f: &mut fmt::Formatter<'_>) -> fmt::Result {
+        fmt::Debug::fmt(self.as_str(), f)
+    }
+}
+
+impl fmt::Display for TooLong {
+    fn fmt(&self, f: &mut fmt::Formatter<'_>) -> fmt::Result {
+        write!(f, "the text has {} bytes, and there is room for {}", self.bytes, self.most)
+    }
+}
+
+impl Error for TooLong {}
