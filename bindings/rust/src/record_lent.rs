@@ -1,5 +1,5 @@
 //! Calls of maps of records.
-use crate::record_entry::{Numbers, RecordEntry, RecordRefusal};
+use crate::record_entry::{At, Numbers, RecordEntry, RecordRefusal};
 use crate::record_map::Found;
 use crate::{Change, Cursor, Held, Lent, OutOfSteps, Record, RecordKey, RecordMap, Refusal, Steps, WalkError};
 use std::fmt;
@@ -9,9 +9,12 @@ use std::iter::FusedIterator;
 /// A handle on loan from a [`RecordMap`], which makes all calls. It goes back when it is dropped. It may go to another thread, and
 /// is not `Sync`.
 ///
-/// Each call of the library that a call makes has the budget of the handle ([`RecordLent::set_steps`]). A call that finds its key
-/// in the hands of others begins again, once for each of their updates of the key that came in between. A look-up begins again
-/// only if the slot of its entry was handed out anew in between.
+/// A look-up hashes the key, unless that is kept as itself, finds the entry, copies the record, and asks whether the entry still
+/// stands there, by one load. A call that changes a key looks it up first. If there is something to store it takes a slot, writes
+/// the record there, and puts the slot in the place of the entry that it read. A call that changes nothing takes no slot.
+///
+/// Each of these calls of the library has the budget of the handle ([`RecordLent::set_steps`]). A change begins again once for each
+/// update of the key by others that came in between, and a look-up only if the slot of its entry was handed out anew.
 ///
 /// ```
 /// # use vbr::{RecordLent, RecordMap, RecordRefusal, Shape};
@@ -108,15 +111,47 @@ impl<'m, K: RecordKey, V: Record, H> RecordLent<'m, K, V, H> {
     ///
     /// [`WalkError`]. Nothing is given then, and no entry is passed over by the next call.
     pub fn next(&self, cursor: &mut Cursor) -> Result<Option<(K, V)>, WalkError> {
+        Ok(self.next_entry(cursor)?.map(|RecordEntry { key, value, .. }| (key, value)))
+    }
+
+    /// Returns the next entry of a walk, as [`RecordLent::next`] does, and which one it is: for [`RecordLent::remove_entry`] and
+    /// [`RecordLent::replace_entry`].
+    ///
+    /// ```
+    /// # use vbr::{Cursor, RecordLent, Refusal};
+    /// /// Ends the sessions that nobody has used since, and says how many; none that is used meanwhile.
+    /// fn sweep(sessions: &mut RecordLent<[u8; 16], [u64; 2]>, since: u64) -> Result<u64, Refusal> {
+    ///     let (mut cursor, mut count) = (Cursor::first(), 0);
+    ///     while let Some(entry) = sessions.next_entry(&mut cursor)? {
+    ///         let [_user, used] = *entry.value();
+    ///         if used < since && sessions.remove_entry(&entry)? {
+    ///             count += 1;
+    ///         }
+    ///     }
+    ///     Ok(count)
+    /// }
+    /// # let map = vbr::RecordMap::open(vbr::Shape::for_keys(8, 1))?;
+    /// # let mut mine = map.lend_wait();
+    /// # for (key, used) in [(5, 70), (6, 71)] {
+    /// #     mine.put([key; 16], [1, used])?;
+    /// # }
+    /// # assert_eq!((sweep(&mut mine, 71)?, mine.get([6; 16])?), (1, Some([1, 71])));
+    /// # Ok::<(), Box<dyn std::error::Error>>(())
+    /// ```
+    ///
+    /// # Errors
+    ///
+    /// The same as for [`RecordLent::next`].
+    pub fn next_entry(&self, cursor: &mut Cursor) -> Result<Option<RecordEntry<K, V>>, WalkError> {
         loop {
             let before = *cursor;
             let Some((number, at)) = self.lent.next_at(cursor)? else { return Ok(None) };
             let record = self.map.records().copy(&at);
             if self.lent.is_still(&at) {
-                return Ok(Some(whole(number, record)));
+                return Ok(Some(self.entry(number, record, at)));
             }
             match self.map.record_of(&self.lent, number) {
-                Ok(Some((record, _))) => return Ok(Some(whole(number, record))),
+                Ok(Some((record, at))) => return Ok(Some(self.entry(number, record, at))),
                 Ok(None) => {} // it has left
                 Err(why) => {
                     *cursor = before;
@@ -124,6 +159,11 @@ impl<'m, K: RecordKey, V: Record, H> RecordLent<'m, K, V, H> {
                 }
             }
         }
+    }
+
+    /// The entry with this number.
+    fn entry(&self, number: u64, (kept, value): (K::Kept, V), at: At) -> RecordEntry<K, V> {
+        RecordEntry { key: K::from_kept(number, kept), value, number, at, of: self.map.opening() }
     }
 
     /// Goes over all entries while other threads make calls, as [`RecordLent::next`] does.
@@ -411,11 +451,6 @@ impl<K: RecordKey, V: Record, H: BuildHasher> RecordLent<'_, K, V, H> {
 
 /// Another key with the same hash is there.
 struct Taken;
-
-/// The key and the value of a record with this number.
-fn whole<K: RecordKey, V>(number: u64, (kept, value): (K::Kept, V)) -> (K, V) {
-    (K::from_kept(number, kept), value)
-}
 
 /// A walk over all entries of a [`RecordMap`], as [`RecordLent::iter`] begins it. If an item is [`OutOfSteps`], the next one is of a
 /// call from the same place, as for [`Iter`](crate::Iter). After the last entry it gives `None` for good.

@@ -200,6 +200,8 @@ macro_rules! record {
 ///
 /// The words are atomic: a writer stores each with release, and a reader loads each with acquire. Threads share them by reference.
 ///
+/// A [`RecordMap`](crate::RecordMap) does all this by itself, for keys of any size too.
+///
 /// ```
 /// use vbr::{Map, Records, Shape};
 ///

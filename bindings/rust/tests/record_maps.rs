@@ -135,8 +135,10 @@ fn each_call<K: RecordKey + Debug + PartialEq>(key: impl Fn(u64) -> K) {
     let entry = mine.get_entry(five).expect("steps").expect("it is there");
     assert_eq!((mine.remove(five), mine.try_insert(five, first)), (Ok(Some(first)), Ok(true)));
     assert_eq!((mine.replace_entry(&entry, second), mine.remove_entry(&entry)), (Ok(false), Ok(false))); // it was added anew
-    let entry = mine.get_entry(five).expect("steps").expect("it is there");
-    assert_eq!((mine.remove_entry(&entry), mine.has(five)), (Ok(true), Ok(false)));
+    let mut cursor = Cursor::first();
+    let mut next = || mine.next_entry(&mut cursor).expect("steps").expect("five is to come");
+    let entry = std::iter::repeat_with(&mut next).find(|it| *it.key() == five).expect("it is there");
+    assert_eq!((*entry.value(), mine.remove_entry(&entry), mine.has(five)), (first, Ok(true), Ok(false)));
     // taken out
     assert_eq!(mine.compute(seven, |_| Change::Remove), Ok(Some(Value::of(7, 2))));
     assert_eq!(mine.iter().collect::<Vec<_>>(), [Ok((six, Value::of(6, 1)))]);
@@ -423,6 +425,7 @@ impl<K: RecordKey + Debug + PartialEq> Worker<'_, K> {
                 match key.checked_sub(SHARED) {
                     None => self.count(&mut mine, key, what),
                     Some(place) if key % THREADS == self.number => self.change(&mut mine, place as usize, what),
+                    Some(_) if what == 15 => self.sweep(&mut mine),
                     Some(place) => self.look(&mine, place as usize, what),
                 }
                 mine.give_slots_back(); // in a narrow map the others want them
@@ -486,6 +489,18 @@ impl<K: RecordKey + Debug + PartialEq> Worker<'_, K> {
         };
         assert_eq!(told, before.map(|serial| Value::of(key, serial)));
         assert_eq!(mine.has(at), Ok(self.own[place].is_some()));
+    }
+
+    /// Takes out what some keys have that all threads change, if they still have what a walk gave.
+    fn sweep(&mut self, mine: &mut RecordLent<K, Value>) {
+        let mut cursor = Cursor::first();
+        while let Some(entry) = mine.next_entry(&mut cursor).expect("steps") {
+            let Value { key, serial, .. } = *entry.value();
+            assert_eq!(*entry.key(), (self.key)(entry.value().checked(key).key), "another key");
+            if key < SHARED && serial % 4 == 0 && mine.remove_entry(&entry).expect("steps") {
+                self.taken += serial;
+            }
+        }
     }
 
     /// Looks at a key that another thread changes, alone or in a walk: its numbers rise.
