@@ -1,4 +1,5 @@
 // What must not compile. Each line that is said to be refused is, by each compiler, and no other line is: bindings/headers sees to it.
+#include "vbr_record_map.hpp"
 #include "vbr_shared.hpp"
 
 #include <string>
@@ -188,4 +189,31 @@ void keys(vbr::map<std::uint32_t, double>::handle &map) {
     static_cast<void>(vbr::set<std::uint64_t>::open_with(shape, 1, std::vector<std::uint32_t>{5}));
     static_cast<void>(map.insert(5, 0.5));
     static_cast<void>(map.insert(5, "0.5")); // refused
+}
+
+// What a record map refuses: results that nobody asks, copies, calls without a key, and keys and values that bytes don't make.
+using texts = vbr::record_map<vbr::small_string<31>, large>;
+
+void record_maps(texts &map, texts::loan &mine, const texts::key_type &who, vbr::cursor &of_a_map) {
+    mine.insert(who, large{1, 2}); // refused
+    mine.put(who, large{1, 2}); // refused
+    map.lend(); // refused
+    if (mine.has(who)) return; // refused
+    if (mine.get(who)) return; // refused
+    std::optional<large> got = mine.get(who); // refused
+    texts copy = map; // refused
+    texts::loan lent = mine; // refused
+    static_cast<void>(mine.insert("somebody", large{1, 2})); // refused
+    texts::key_type not_asked = texts::key_type::from("somebody"); // refused
+    std::string_view gone = texts::key_type::from("somebody").value().view(); // refused
+    static_cast<void>(mine->get(who)); // refused
+    static_cast<void>(mine.next(of_a_map)); // refused
+    static_cast<void>(mine.replace_entry(who, large{1, 2})); // refused
+    static_cast<void>(mine.compute(who, [](const std::optional<large> &there) { return there; })); // refused
+    vbr::record_map<std::uint64_t, std::string> of_strings; // refused
+    vbr::record_map<padded, large> with_padding; // refused
+    vbr::record_map<std::string_view, large> of_pointers; // refused
+    vbr::record_map<std::uint64_t, large, vbr::keyed_hash<std::uint64_t>> hashed; // refused
+    vbr::small_string<256> too_large; // refused
+    if (mine.has(who).value() && mine.get(who).value()) map = texts();
 }

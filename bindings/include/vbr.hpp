@@ -179,8 +179,10 @@ enum class [[nodiscard]] refusal : std::int32_t {
     mixed = VBR_MIXED,               /* of all handles: two of them are of different sets; they stay as they were */
     held = VBR_HELD,                 /* a slot is in hand, and the call would take another one; or the call asks for one, and none is in
                                         hand; nothing was done; of a call by a held slot, it isn't this handle's */
-    reshaped = VBR_RESHAPED          /* the walk began on another opening: the set was renewed since, or the handle was opened anew;
+    reshaped = VBR_RESHAPED,         /* the walk began on another opening: the set was renewed since, or the handle was opened anew;
                                         nothing is given, and the cursor stays; begin anew, from VBR_CURSOR_BEGIN */
+    hash_taken = -100,               /* of a record map alone: another key with the same hash is there; nothing was done */
+    too_long = -101                  /* of a small_string alone: the text has more bytes than there is room for; none was made */
 };
 
 /* A refusal in words.
@@ -203,6 +205,8 @@ constexpr const char *to_string(refusal why) noexcept {
     case refusal::mixed: return "handles are of different sets";
     case refusal::held: return "a slot is in hand, or none is";
     case refusal::reshaped: return "the set was renewed since the walk began";
+    case refusal::hash_taken: return "another key with the same hash is there";
+    case refusal::too_long: return "the text is too long";
     }
     return "not refused";
 }

@@ -548,6 +548,8 @@ public:
 private:
     template <class Record>
     friend class records;
+    template <class Key, class Value, class Hash>
+    friend class record_map;
     using place_type = typename lending::place_type;
     place_type *taken() noexcept { return all ? all->take() : nullptr; }
 

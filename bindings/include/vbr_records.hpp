@@ -121,6 +121,10 @@ public:
     }
 
 private:
+    template <class Key, class Value, class Hash>
+    friend class record_map;
+    template <class Key, class Value, class Hash, class Owner>
+    friend class basic_record_loan;
     template <class Handle, class Nth>
     result<void> renew(std::size_t count, const Nth &nth, const shape &wanted) {
         result<std::vector<std::uint32_t>> slots = Handle::report_slots(count, nth);
