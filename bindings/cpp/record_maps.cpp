@@ -558,52 +558,59 @@ struct of_size {
     std::array<std::uint64_t, size / 8> words;
 };
 
-// How long a call takes for each key, in nanoseconds: the median of some rounds.
+// How long a call takes for each key, in nanoseconds.
 template <class Calls>
 static double time_of(const Calls &calls) {
-    std::array<double, 21> rounds;
-    for (double &each : rounds) {
-        const auto begin = std::chrono::steady_clock::now();
-        for (int i = 0; i < 20; i++) calls();
-        each = std::chrono::duration<double, std::nano>(std::chrono::steady_clock::now() - begin).count() / (20 * 1024);
+    const auto begin = std::chrono::steady_clock::now();
+    for (int i = 0; i < 10; i++) calls();
+    return std::chrono::duration<double, std::nano>(std::chrono::steady_clock::now() - begin).count() / (10 * 1024);
+}
+
+static double median(std::vector<double> numbers) {
+    std::sort(numbers.begin(), numbers.end());
+    return numbers[numbers.size() / 2];
+}
+
+// Tells what calls take, and how many times what those of a plain map take in the same round: medians of many rounds.
+template <class Calls, class Plain>
+static void tell(const char *what, const Calls &calls, const Plain &plain) {
+    std::vector<double> times, ratios;
+    for (int round = 0; round < 101; round++) {
+        const double mine = time_of(calls);
+        times.push_back(mine), ratios.push_back(mine / time_of(plain));
     }
-    std::sort(rounds.begin(), rounds.end());
-    return rounds[rounds.size() / 2];
+    std::printf("%s %.1f ns, %.1f times that of a map", what, median(times), median(ratios));
 }
 
 template <class Key, std::size_t size, class Made>
-static void measure(const char *what, double get, double put, const Made &made) {
+static void measure(const char *what, const Made &made) {
     using map_of = vbr::record_map<Key, of_size<size>>;
+    vbr::map_handle plain = std::move(vbr::open_map(vbr::shape::for_keys(1024, 1), 1)->front());
     map_of map = map_of::open_for(1024, 1).value();
     typename map_of::loan mine = map.lend();
     std::vector<Key> keys;
-    for (std::uint64_t i = 0; i < 1024; i++) keys.push_back(made(i));
+    std::vector<std::uint64_t> words;
+    for (std::uint64_t i = 0; i < 1024; i++) keys.push_back(made(i)), words.push_back(i * 0x9E3779B97F4A7C15u);
     for (const Key &key : keys) CHECK(*mine.insert(key, of_size<size>{}));
+    for (std::uint64_t word : words) CHECK(*plain.insert(word, 0));
     std::uint64_t sum = 0;
-    const double got = time_of([&] { for (const Key &key : keys) sum += mine.get(key).value()->words[0]; });
-    const double stored = time_of([&] { for (const Key &key : keys) sum += mine.put(key, of_size<size>{}).value()->words[0]; });
+    std::printf("%s, values of %zu bytes:", what, size);
+    tell(" a get", [&] { for (const Key &key : keys) sum += mine.get(key).value()->words[0]; },
+         [&] { for (std::uint64_t word : words) sum += *plain.get(word).value(); });
+    tell("; a put", [&] { for (const Key &key : keys) sum += mine.put(key, of_size<size>{}).value()->words[0]; },
+         [&] { for (std::uint64_t word : words) sum += *plain.put(word, 0).value(); });
+    std::printf("\n");
     CHECK(sum == 0);
-    std::printf("%s, values of %zu bytes: a get %.1f ns, %.1f times that of a map; a put %.1f ns, %.1f times\n", what, size, got, got / get,
-                stored, stored / put);
 }
 
 static int speed() {
-    vbr::map_handle plain = std::move(vbr::open_map(vbr::shape::for_keys(1024, 1), 1)->front());
-    std::vector<std::uint64_t> keys;
-    for (std::uint64_t i = 0; i < 1024; i++) keys.push_back(i * 0x9E3779B97F4A7C15u);
-    for (std::uint64_t key : keys) CHECK(*plain.insert(key, 0));
-    std::uint64_t sum = 0;
-    const double get = time_of([&] { for (std::uint64_t key : keys) sum += *plain.get(key).value(); });
-    const double put = time_of([&] { for (std::uint64_t key : keys) sum += *plain.put(key, 0).value(); });
-    CHECK(sum == 0);
-    std::printf("a map of 64 bits: a get %.1f ns, a put %.1f ns\n", get, put);
     const auto number = [](std::uint64_t i) { return i * 0x9E3779B97F4A7C15u; };
-    const auto text = [](std::uint64_t i) { return vbr::small_string<31>::from("somebody" + std::to_string(i)).value(); };
-    measure<std::uint64_t, 16>("keys of 64 bits", get, put, number);
-    measure<std::uint64_t, 128>("keys of 64 bits", get, put, number);
-    measure<std::uint64_t, 1024>("keys of 64 bits", get, put, number);
-    measure<vbr::small_string<31>, 16>("small strings of 12", get, put, text);
-    measure<vbr::small_string<31>, 128>("small strings of 12", get, put, text);
+    const auto text = [](std::uint64_t i) { return vbr::small_string<31>::from("somebody" + std::to_string(1000 + i)).value(); };
+    measure<std::uint64_t, 16>("keys of 64 bits", number);
+    measure<std::uint64_t, 128>("keys of 64 bits", number);
+    measure<std::uint64_t, 1024>("keys of 64 bits", number);
+    measure<vbr::small_string<31>, 16>("texts of 12 bytes", text);
+    measure<vbr::small_string<31>, 128>("texts of 12 bytes", text);
     return 0;
 }
 
