@@ -2,16 +2,14 @@
 // Memory that the library is refused while it opens a set, closes it, or renews it: all handles stay as they were, those of a lender too, which
 // lends on. A set is closed by vbr_close_all. Threads that ask for the same renewal share one.
 // Link with -Wl,--wrap=malloc,--wrap=realloc,--wrap=vbr_close,--wrap=vbr_map_close,--wrap=vbr_renew_all_seeded,--wrap=vbr_map_renew_all_seeded.
+#include "asked_memory.hpp"
 #include "client.hpp"
 
 #include <new>
 #include <thread>
 
-static bool refuses = false;         // what this program asks for
-static long granted = -1;            // how many blocks it still gets, where that isn't below 0
 static bool library_refuses = false; // what the library asks for
 static long library_granted = -1;    // how many blocks it still gets, where that isn't below 0
-static long asked = 0;
 static int closed_alone = 0;             // calls of vbr_close and vbr_map_close
 static std::atomic<int> renewals_made{0}; // calls of vbr_renew_all_seeded and vbr_map_renew_all_seeded
 
@@ -50,21 +48,6 @@ vbr_answer __wrap_vbr_map_close(vbr_map_handle *, vbr_entry *, std::size_t, vbr_
     return VBR_LOST;
 }
 }
-
-[[gnu::noinline]] void *operator new(std::size_t size, std::align_val_t alignment) {
-    asked++;
-    const std::size_t to = static_cast<std::size_t>(alignment);
-    void *block = refuses || granted == 0 ? nullptr : std::aligned_alloc(to, (size + to - 1) / to * to);
-    if (granted > 0) granted--;
-    if (!block) throw std::bad_alloc();
-    return block;
-}
-
-[[gnu::noinline]] void *operator new(std::size_t size) { return operator new(size, std::align_val_t{alignof(std::max_align_t)}); }
-[[gnu::noinline]] void operator delete(void *block) noexcept { std::free(block); }
-[[gnu::noinline]] void operator delete(void *block, std::size_t) noexcept { std::free(block); }
-[[gnu::noinline]] void operator delete(void *block, std::align_val_t) noexcept { std::free(block); }
-[[gnu::noinline]] void operator delete(void *block, std::size_t, std::align_val_t) noexcept { std::free(block); }
 
 // Whether a call throws where there is no memory.
 template <class Call>

@@ -1,15 +1,17 @@
 // The record map in C++: the examples of vbr_record_map.hpp (bindings/headers sees that their lines are here), each call with each answer,
 // by rows that are worked by hand, keys with one hash, refusals, and threads.
 //
-//     record_maps [speed]
+//     record_maps [MILLISECONDS | speed]
 //
 // Four threads change keys in three ways while a fifth one renews the map: keys that all of them count up, keys that one of them changes
 // and the others read, and keys among which they move amounts. Each value has its key and a checksum. A count is never less than what was
-// counted before the call, a value is one that the key had during it, and what was put in is there in the end, or was taken out.
+// counted before the call, a value is one that the key had during it, and what was put in is there in the end, or was taken out. They run
+// for that many milliseconds, 1,000, with keys of 32 bits, and then with texts.
 //
 // With `speed` it measures, and claims nothing: what gets and puts take beside those of a plain map.
 #include "vbr_record_map.hpp"
 
+#include "asked_memory.hpp"
 #include "client.hpp"
 
 #include <sys/wait.h>
@@ -26,23 +28,6 @@
 #include <vector>
 
 using namespace std::chrono_literals;
-
-static std::atomic<long> asked{0}; // for memory, of operator new
-static long granted = -1;          // how many blocks it still gives, where that isn't below 0
-
-[[gnu::noinline]] void *operator new(std::size_t size, std::align_val_t alignment) {
-    asked++;
-    const std::size_t to = static_cast<std::size_t>(alignment);
-    void *block = granted == 0 ? nullptr : std::aligned_alloc(to, (size + to - 1) / to * to);
-    if (granted > 0) granted--;
-    if (!block) throw std::bad_alloc();
-    return block;
-}
-[[gnu::noinline]] void *operator new(std::size_t size) { return operator new(size, std::align_val_t{alignof(std::max_align_t)}); }
-[[gnu::noinline]] void operator delete(void *block) noexcept { std::free(block); }
-[[gnu::noinline]] void operator delete(void *block, std::size_t) noexcept { std::free(block); }
-[[gnu::noinline]] void operator delete(void *block, std::align_val_t) noexcept { std::free(block); }
-[[gnu::noinline]] void operator delete(void *block, std::size_t, std::align_val_t) noexcept { std::free(block); }
 
 struct account {
     std::uint64_t balance, payments;
@@ -202,6 +187,24 @@ struct point {
 
 enum class colour : std::uint8_t { red, green, blue };
 
+// Values that are hard to make, copy or align.
+static void odd_values() {
+    struct alignas(16) aligned {
+        const char letter;
+        explicit aligned(char of) : letter(of) {}
+    };
+    vbr::record_map<bool, aligned> map = vbr::record_map<bool, aligned>::open_for(2, 1).value();
+    auto mine = map.lend();
+    CHECK(*mine.insert(true, aligned('a')) && mine.put(true, aligned('b')).value()->letter == 'a' && mine.get(true).value()->letter == 'b');
+    using options = vbr::record_map<point, std::optional<bool>>;
+    options of_options = options::open_for(2, 1).value();
+    auto other = of_options.lend();
+    const point key{1, 1, 1, 1};
+    CHECK(*other.insert(key, std::nullopt) && other.has(key) == true && !*other.get(key).value());
+    const std::optional<std::optional<bool>> before = other.replace(key, true).value(), taken = other.remove(key).value();
+    CHECK(before && !*before && taken && *taken == true && !other.get(key).value());
+}
+
 // An entry of one table is none of the next one, though the key stands there in the same slot with the same birth, as both tables opened
 // with it. Nor is a cursor of one map one of another, which was opened as often.
 static void entries_over_renewals() {
@@ -354,6 +357,7 @@ static void memory() {
 
 constexpr std::size_t THREADS = 4;
 constexpr std::uint32_t COUNTED = 8, OWNED = 8, MOVED = 24, KEYS = COUNTED + OWNED + MOVED;
+static long all_counted = 0, all_moved = 0, all_walks = 0, all_renewals = 0;
 
 // 100 bytes that are of one key and one write.
 struct checked {
@@ -422,8 +426,8 @@ public:
         CHECK(put_in == taken_out + left && put_in > 0 && taken_out > 0 && renewals > 3);
         mine = loan();
         CHECK(map.count_about() == static_cast<std::int64_t>(keys));
-        std::printf("  %llu counted, %llu amounts moved, %ld walks, over %ld renewals\n", static_cast<unsigned long long>(sum(done)),
-                    static_cast<unsigned long long>(moves.load()), walks.load(), renewals);
+        for (std::uint32_t i = 0; i < COUNTED; i++) all_counted += done[i];
+        all_moved += moves, all_walks += walks, all_renewals += renewals;
     }
 
     void begin() {
@@ -446,13 +450,6 @@ private:
     static const checked &whole(const typename Map::entry &each) {
         CHECK(each.key() == key_of(each.value().key));
         return whole(each.value(), each.value().key);
-    }
-
-    template <class Numbers>
-    static std::uint64_t sum(const Numbers &numbers) {
-        std::uint64_t all = 0;
-        for (const auto &each : numbers) all += each;
-        return all;
     }
 
     // One more, by what was there or by the entry that was read.
@@ -532,8 +529,8 @@ private:
 
     Map &map;
     std::array<std::atomic<std::uint32_t>, COUNTED + OWNED> begun{}, done{};
-    std::atomic<std::uint64_t> put_in{0}, taken_out{0}, moves{0};
-    std::atomic<long> walks{0};
+    std::atomic<std::uint64_t> put_in{0}, taken_out{0};
+    std::atomic<long> moves{0}, walks{0};
     long renewals = 0;
 };
 
@@ -622,6 +619,7 @@ int main(int count, char **words) {
     rows<vbr::record_map<vbr::small_string<7>, number>>({*vbr::small_string<7>::from(""), *vbr::small_string<7>::from("1"), *vbr::small_string<7>::from("1234567")});
     rows<vbr::record_map<point, number>>({point{1, 2, 3, 4}, point{1, 2, 3, 5}, point{0, 0, 0, 0}});
     rows<vbr::record_map<vbr::small_string<200>, number>>({*vbr::small_string<200>::from(""), *vbr::small_string<200>::from("ada"), *vbr::small_string<200>::from(std::string(200, 'x'))});
+    odd_values();
     entries_over_renewals();
     one_hash();
     refusals();
@@ -631,6 +629,7 @@ int main(int count, char **words) {
     const std::chrono::milliseconds time = count > 1 ? std::chrono::milliseconds(std::atol(words[1])) : 1000ms;
     by_threads<vbr::record_map<std::uint32_t, checked>>(time);
     by_threads<vbr::record_map<vbr::small_string<31>, checked>>(time);
-    std::printf("record maps in C++: passed\n");
+    std::printf("record maps in C++: passed, %ld counted, %ld amounts moved, %ld walks, over %ld renewals\n", all_counted, all_moved, all_walks,
+                all_renewals);
     return 0;
 }
