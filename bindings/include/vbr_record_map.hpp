@@ -12,8 +12,8 @@
    keeps 64 bits of its hash, and the record has the key, with which each look-up compares. Two keys with one hash aren't in the map at the
    same time: a call that would add the second one is refused by refusal::hash_taken, and no call answers of one what is true of the other.
    With the hash that is used unless another one is given, SipHash-1-3 with a key that the system draws, of n keys any two have one hash
-   with a probability of about n^2 / 2^65: of a million keys 3 in 100 million. Of keys whose hash somebody can compute he can choose such
-   keys, and those that share a bucket; with a key that is drawn he can't.
+   with a probability of about n^2 / 2^65: of a million keys 3 in 100 million. Whoever can compute a hash can choose keys that share it, or
+   a bucket; with a drawn key nobody can.
 
    A value is trivially copyable, of any size. It is copied whole into a record that nobody else sees yet, and that record is never written
    again while the key has it. So a reader waits for nobody, and a copy is never of two values. Each change is at one moment, of a value
