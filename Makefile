@@ -12,10 +12,11 @@ VERSION := $(RELEASE).$(shell sed -n 's/^.define VBR_VERSION_PATCH //p' $(HEADER
 SHARED := libvbr.so.$(VERSION)
 CRATE := crates/vbr_main
 SCRIPT := crates/vbr_example/data/phases.script
-BENCH ?= --short
 SOAK ?= 1000000000
 REALTIME ?= 100000000
 KILLED ?= 500
+INDEX ?= 40000000
+CACHES ?= 100000000
 FUZZ ?= 9000000 1000000
 COMPARE ?=
 PREBUILT ?=
@@ -23,7 +24,7 @@ ANEW ?=
 export RT ANEW PREBUILT
 
 .DEFAULT_GOAL := help
-.PHONY: help run build lib both lib-here both-here install install-lib copy-lib uninstall man docs prebuilt prebuilt-check check test gate docs-check clients faults soak fuzz bench plot compare clean
+.PHONY: help run build lib both lib-here both-here install install-lib copy-lib uninstall man docs sums prebuilt prebuilt-check check test gate docs-check clients faults soak fuzz bench plot compare clean
 
 help:
 	@echo 'make run                 play a script with three workers (before its proof; about a minute)'
@@ -32,7 +33,7 @@ help:
 	@echo 'make install-lib         the library with headers, pages, and what pkg-config and CMake need, below PREFIX=DIR (default: $(PREFIX))'
 	@echo 'make install             the same, and the program'
 	@echo '    LIBDIR=DIR           with either: the libraries go there (default: $(LIBDIR))'
-	@echo '    PREBUILT=1           with either, and with clients, soak, fuzz and compare: take the files of prebuilt/, and prove nothing'
+	@echo '    PREBUILT=1           with either, and with clients, soak, fuzz, compare and bench: take the files of prebuilt/, and prove nothing'
 	@echo 'make uninstall           take away what these put below PREFIX and LIBDIR'
 	@echo 'make test                prove what library and program stand on, run all tests, clients, refused memory, kept inputs'
 	@echo 'make check               for daily work: what has changed, the tests, the programs, edits of changed crates'
@@ -46,11 +47,10 @@ help:
 	@echo 'make soak                a thousand million calls of four threads on set after set, and as many on maps, each answer balanced;'
 	@echo '                         a hundred million of each in an order that keeps to real time; and over 30,000 kills of processes'
 	@echo 'make fuzz                ten million random inputs for the library and the program, on all processors'
-	@echo 'make bench               prove and run the measurements, in their short form, and print a CSV table'
-	@echo 'make bench BENCH=        the same in their full form; BENCH has the options of crates/vbr_bench'
-	@echo 'make plot                the same, and draw the table: target/bench.csv, target/bench.svg'
-	@echo 'make compare             sets and maps of the library beside libcds, liburcu, crossbeam-epoch, dashmap and locks'
-	@echo 'make prebuilt            put the library and the program, as they are proved here, into prebuilt/'
+	@echo 'make compare             sets, maps and caches of the library beside libcds, liburcu, crossbeam-epoch, dashmap and locks'
+	@echo 'make bench, make plot    the same in its short form, with fewer sizes and runs'
+	@echo 'make sums                prove and build, and write what came of it into prebuilt/SHA256SUMS, for a branch'
+	@echo 'make prebuilt            the same, and put the library and the program into prebuilt/, for what lands'
 	@echo 'make clean               remove what was built and what checks keep'
 	@tools/needs
 
@@ -150,6 +150,9 @@ docs: man
 	@tools/needs docs
 	@tools/docs
 
+sums: both
+	@tools/prebuilt --sums
+
 prebuilt: both
 	@tools/prebuilt
 
@@ -197,17 +200,15 @@ soak:
 	@tools/needs soak
 	@echo 'make soak: proves the library first, unless it is or PREBUILT=1; then the calls begin'
 	@$(MAKE) --no-print-directory lib-here
-	@mkdir -p target/clients
-	@cc -std=c11 -O2 -Wall -Wextra -Ibindings/include -pthread -o target/clients/soak bindings/c/soak.c -Ltarget -lvbr
-	@target/clients/soak $(SOAK)
-	@cc -std=c11 -O2 -Wall -Wextra -Ibindings/include -pthread -include bindings/c/values.h -o target/clients/over_maps bindings/c/soak.c -Ltarget -lvbr
-	@target/clients/over_maps $(SOAK)
-	@cc -std=c11 -O2 -Wall -Wextra -Ibindings/include -pthread -o target/clients/realtime bindings/c/realtime.c -Ltarget -lvbr
+	@$(MAKE) --no-print-directory --silent -C bindings soak realtime killed cpp_sharded cpp_caches
+	@target/clients/soak-sets $(SOAK)
+	@target/clients/soak-maps $(SOAK)
 	@target/clients/realtime sets $(REALTIME)
 	@target/clients/realtime maps $(REALTIME)
-	@cc -std=c11 -O2 -Wall -Wextra -Ibindings/include -pthread -o target/clients/killed bindings/c/killed.c -Ltarget -lvbr
 	@target/clients/killed order $(KILLED)
 	@target/clients/killed balance $(KILLED)
+	@target/clients/cpp_sharded index $(INDEX)
+	@target/clients/cpp_caches $(CACHES)
 
 fuzz:
 	@tools/needs fuzz
@@ -215,23 +216,11 @@ fuzz:
 	@$(MAKE) --no-print-directory both-here
 	@tests/fuzz/run $(FUZZ)
 
-bench:
-	@tools/needs bench
-	@echo 'make bench: proves the crates of the set and of the measurements first, unless they are; then it measures' >&2
-	@tools/lanes vbr_bench >&2
-	@cd crates/vbr_bench && out/vbr_bench $(BENCH)
-
-plot:
-	@tools/needs plot
-	@mkdir -p target
-	@$(MAKE) --no-print-directory bench > target/bench.csv
-	@bench/plot target/bench.csv target/bench.svg
-
-compare:
-	@tools/needs compare
-	@echo 'make compare: proves the library first, unless it is or PREBUILT=1; then it measures'
+compare bench plot:
+	@tools/needs $@
+	@echo 'make $@: proves the library first, unless it is or PREBUILT=1; then it measures'
 	@$(MAKE) --no-print-directory lib-here
-	@bench/compare/run $(COMPARE)
+	@bench/compare/run $(if $(filter compare,$@),,--short) $(COMPARE)
 
 clean:
 	@rm -rf target crates/*/out

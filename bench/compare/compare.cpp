@@ -1,5 +1,6 @@
-// The comparison of sets or of maps: compare [OPTIONS], of which docs/BENCHMARKS.md tells. Checks each peer, and then prints a
-// table in CSV.
+// The comparison of sets, of maps or of caches: compare [OPTIONS], of which docs/BENCHMARKS.md tells. Checks each peer, and then
+// prints a table in CSV.
+#include "cache.hpp"
 #include "single.hpp"
 #include "walk.hpp"
 
@@ -11,21 +12,26 @@ namespace {
 
 using Count = unsigned long long;
 
-// Look-ups, inserts and removes of 100 calls, and replacements where there are any.
+// Look-ups, inserts and removes of 100 calls, and replacements where there are any; of caches how keys come.
 std::string mix_of(const Workload &w) {
+    if (w.entries) return "zipf" + std::to_string(0.01 * w.skew).substr(0, 4) + (w.scans ? "+scans" : "");
     return std::to_string(w.has) + "/" + std::to_string(w.insert) + "/" + std::to_string(w.remove) +
            (w.replace ? "/" + std::to_string(w.replace) : "");
 }
 
+enum class Kind { sets, maps, caches };
+
 struct Options {
-    bool maps = false; // in place of sets
+    Kind kind = Kind::sets;
     bool only_checks = false;
+    bool only_hits = false; // of caches
     uint64_t repeats = 5, again = 3, milliseconds = 200;
     uint64_t operations = 0; // of each thread; 0: as many as fill the milliseconds
     const char *log = nullptr;
     uint64_t fill = 1000000; // keys; 0: no fill
     uint64_t walk = 1000000; // keys; 0: no walks
     std::vector<uint64_t> ranges{100, 10000, 100000, 1000000};
+    std::vector<uint64_t> entries{4000, 100000}; // of caches
     std::vector<std::string> peers, mixes; // these alone; all where none is named
 
     static bool has(const std::vector<std::string> &names, const std::string &name) {
@@ -49,6 +55,7 @@ struct Cell {
     std::string workload_name() const {
         const Workload &w = workload;
         if (walk) return "walk=" + std::to_string(w.range) + walk->by;
+        if (w.entries) return "entries=" + std::to_string(w.entries) + " mix=" + mix_of(w);
         if (w.is_fill()) return "fill=" + std::to_string(w.range);
         if (single) return "range=" + std::to_string(w.range) + " calls=" + single->calls;
         return "range=" + std::to_string(w.range) + " mix=" + mix_of(w);
@@ -107,6 +114,21 @@ void check(const Peer &peer, const Workload &workload) {
     std::exit(1);
 }
 
+// Four threads on some more keys than there may be entries.
+void check_cache(const Peer &peer) {
+    for (uint64_t entries : {64u, 1000u}) {
+        Workload workload{4 * entries, 0, 0, 0, 4, 800000, 1};
+        workload.entries = entries;
+        const uint64_t wrong = in_a_process<uint64_t>(peer.name, [&] { return peer.wrong_keys(workload); });
+        if (wrong == 0) continue;
+        std::fprintf(stderr, "compare: %s: %llu values were torn, stale or of another key, or entries too many or too few\n",
+                     peer.name.c_str(), static_cast<Count>(wrong));
+        std::exit(1);
+    }
+    std::fprintf(stderr, "compare: %s: no value of four threads is torn, stale or of another key, and no entry too many\n",
+                 peer.name.c_str());
+}
+
 // Four threads on few keys: their answers are to balance, and what is replaced is to stay.
 void check(const Peer &peer) {
     for (uint64_t range : {8u, 64u, 1000u}) {
@@ -127,7 +149,7 @@ void check_singles() {
 
 // Each walk is to give the keys that were put in, each once; a run sees to that as it begins.
 void check_walks(const Options &options) {
-    for (const Walk &it : options.maps ? map_walks() : walks()) {
+    for (const Walk &it : options.kind == Kind::maps ? map_walks() : walks()) {
         Workload workload{1000, 0, 0, 0, 1, 1000, 0};
         in_a_process<Run>(it.peer.name, [&] { return it.peer.measure(workload); });
     }
@@ -137,7 +159,7 @@ void check_walks(const Options &options) {
 Run measured(Cell &cell, const Workload &workload) {
     auto start = std::chrono::steady_clock::now();
     Run run = in_a_process<Run>(cell.name(), [&] { return cell.peer->measure(workload); });
-    if (workload.is_fill() && run.yes != workload.operations)
+    if (workload.is_fill() && !workload.entries && run.yes != workload.operations)
         std::fprintf(stderr, "compare: %s: a fresh key was not inserted\n", cell.name().c_str()), std::exit(1);
     cell.spent += std::chrono::duration<double>(std::chrono::steady_clock::now() - start).count();
     return run;
@@ -147,7 +169,8 @@ Run measured(Cell &cell, const Workload &workload) {
 uint64_t fitting_operations(Cell &cell, uint64_t milliseconds) {
     Workload trial = cell.workload;
     trial.operations = cell.possible(20000 * trial.threads);
-    double a_second = static_cast<double>(trial.operations) / measured(cell, trial).seconds;
+    Run run = measured(cell, trial);
+    double a_second = static_cast<double>(trial.operations) / (run.processor_seconds > 0 ? run.processor_seconds : run.seconds);
     double fitting = a_second * static_cast<double>(milliseconds) / 1000;
     uint64_t operations = std::max<uint64_t>(trial.threads, static_cast<uint64_t>(fitting)), unit = 1;
     while (operations / unit >= 100) unit *= 10;
@@ -168,18 +191,73 @@ void add_singles(std::vector<Cell> &cells, const Options &options) {
 void add_walks(std::vector<Cell> &cells, const Options &options) {
     if (options.walk == 0) return;
     uint64_t keys = Walk::possible(options.operations, options.walk);
-    for (const Walk &it : options.maps ? map_walks() : walks())
+    for (const Walk &it : options.kind == Kind::maps ? map_walks() : walks())
         if (options.wants(it.peer)) cells.push_back({&it.peer, {options.walk, 0, 0, 0, 1, keys, 0}, {}, 0, 0, nullptr, &it});
 }
 
-std::vector<Peer> &peers_of(const Options &options) { return options.maps ? map_peers() : peers(); }
+std::vector<Peer> &peers_of(const Options &options) {
+    if (options.kind == Kind::caches) return cache_peers();
+    return options.kind == Kind::maps ? map_peers() : peers();
+}
 
-const std::vector<Peer> &batches_of(const Options &options) { return options.maps ? map_batches() : batches(); }
+const std::vector<Peer> &batches_of(const Options &options) { return options.kind == Kind::maps ? map_batches() : batches(); }
+
+// So many calls in each cell as fill the milliseconds, unless their number is given.
+void fit(std::vector<Cell> &cells, const Options &options) {
+    if (options.operations) return;
+    std::fputs("compare: finding how many calls a run shall have\n", stderr);
+    for (Cell &cell : cells) cell.workload.operations = fitting_operations(cell, options.milliseconds);
+}
+
+// For each number of entries, each way in which keys come and each number of threads one; keys are ten times as many as entries.
+std::vector<Workload> workloads_of_caches(const Options &options, const std::vector<bool> &with_scans, const std::vector<unsigned> &by_threads,
+                                          uint64_t operations) {
+    std::vector<Workload> all;
+    for (uint64_t entries : options.entries)
+        for (unsigned skew : {99u, 70u})
+            for (bool scans : with_scans)
+                for (unsigned threads : by_threads) all.push_back({10 * entries, 0, 0, 0, threads, operations * threads, 0, 0, entries, skew, scans});
+    all.erase(std::remove_if(all.begin(), all.end(), [&](const Workload &each) { return !options.wants(each); }), all.end());
+    return all;
+}
+
+std::vector<Cell> cells_of_caches(const Options &options) {
+    std::vector<Cell> cells;
+    for (const Workload &workload : workloads_of_caches(options, {false}, {1, 2, 4}, options.operations)) {
+        Draws::of(workload);
+        for (const Peer &peer : cache_peers())
+            if (options.wants(peer)) cells.push_back({&peer, workload, {}});
+    }
+    fit(cells, options);
+    return cells;
+}
+
+// A row of a table: of how many calls in a hundred the key was there.
+void print_hits_of(const Workload &workload, const Options &options) {
+    Draws::of(workload);
+    std::printf("| %llu | %s |", static_cast<Count>(workload.entries), mix_of(workload).c_str());
+    for (const Peer &peer : cache_peers()) {
+        if (!options.wants(peer)) continue;
+        const Run run = in_a_process<Run>(peer.name, [&] { return peer.measure(workload); });
+        std::printf(" %.2f |", 100.0 * static_cast<double>(run.yes) / static_cast<double>(workload.operations));
+    }
+    std::puts("");
+}
+
+// Hits of a million calls of one thread: the same each time.
+void print_hits(const Options &options) {
+    std::string head = "| Entries | Keys come by |", line = "|---|---|";
+    for (const Peer &peer : cache_peers())
+        if (options.wants(peer)) head += " " + peer.name + " |", line += "---|";
+    std::printf("%s\n%s\n", head.c_str(), line.c_str());
+    for (const Workload &workload : workloads_of_caches(options, {false, true}, {1}, 1000000)) print_hits_of(workload, options);
+}
 
 std::vector<Cell> cells(const Options &options) {
+    if (options.kind == Kind::caches) return cells_of_caches(options);
     // look-ups, inserts, removes, and of maps alone replacements
     std::vector<std::array<unsigned, 4>> mixes{{100, 0, 0, 0}, {90, 5, 5, 0}, {50, 25, 25, 0}, {0, 50, 50, 0}};
-    if (options.maps) mixes.push_back({90, 0, 0, 10});
+    if (options.kind == Kind::maps) mixes.push_back({90, 0, 0, 10});
     std::vector<Cell> cells;
     for (uint64_t range : options.ranges)
         for (auto [has, insert, remove, replace] : mixes)
@@ -191,11 +269,9 @@ std::vector<Cell> cells(const Options &options) {
                 for (const Peer &peer : batches_of(options))
                     if (has == 100 && options.wants(peer)) cells.push_back({&peer, workload, {}});
             }
-    if (options.maps) add_singles(cells, options);
+    if (options.kind == Kind::maps) add_singles(cells, options);
     add_walks(cells, options);
-    if (options.operations == 0) std::fputs("compare: finding how many calls a run shall have\n", stderr);
-    for (Cell &cell : cells)
-        if (options.operations == 0) cell.workload.operations = fitting_operations(cell, options.milliseconds);
+    fit(cells, options);
     for (unsigned threads : {1u, 2u, 4u})
         for (const Peer &peer : peers_of(options))
             if (options.fill && options.wants(peer)) cells.push_back({&peer, {options.fill, 0, 0, 0, threads, options.fill, 0}, {}});
@@ -263,14 +339,20 @@ void print_replacements() {
     std::puts(line.c_str());
 }
 
+// Of caches also the processor time of the best run, and how many calls in a hundred of it were hits.
 void print(const std::vector<Cell> &cells) {
-    std::puts("peer,workload,threads,operations,best_seconds,median_seconds,open_seconds,steal,others,runs,disturbed,again");
+    const bool are_caches = !cells.empty() && cells.front().workload.entries;
+    std::printf("peer,workload,threads,operations,best_seconds,median_seconds,open_seconds,steal,others,runs,disturbed,again%s\n",
+                are_caches ? ",processor_seconds,hits" : "");
     for (const Cell &cell : cells) {
         const Run &best = cell.best();
-        std::printf("%s,%s,%u,%llu,%.6f,%.6f,%.6f,%.3f,%.3f,%zu,%llu,%llu\n", cell.peer->name.c_str(), cell.workload_name().c_str(),
+        std::printf("%s,%s,%u,%llu,%.6f,%.6f,%.6f,%.3f,%.3f,%zu,%llu,%llu", cell.peer->name.c_str(), cell.workload_name().c_str(),
                     cell.workload.threads, static_cast<Count>(cell.workload.operations), best.seconds, cell.median_seconds(),
                     best.open_seconds, best.disturbance.steal, best.disturbance.others, cell.runs.size(),
                     static_cast<Count>(cell.disturbed()), static_cast<Count>(cell.again));
+        const double calls = static_cast<double>(cell.workload.operations);
+        if (are_caches) std::printf(",%.6f,%.2f", best.processor_seconds, 100 * static_cast<double>(best.yes) / calls);
+        std::puts("");
     }
 }
 
@@ -293,8 +375,9 @@ void warn(const std::vector<Cell> &cells) {
 }
 
 [[noreturn]] void usage() {
-    std::fputs("usage: compare [--sets | --maps] [--short] [--peers NAME,NAME] [--mixes MIX,MIX] [--ranges N,N] [--fill N]\n"
-               "               [--walk N] [--repeats N] [--again N] [--milliseconds N] [--operations N] [--log FILE] [--check]\n", stderr);
+    std::fputs("usage: compare [--sets | --maps | --caches] [--short] [--peers NAME,NAME] [--mixes MIX,MIX] [--ranges N,N] [--fill N]\n"
+               "               [--walk N] [--repeats N] [--again N] [--milliseconds N] [--operations N] [--log FILE] [--check]\n"
+               "               [--hits]\n", stderr);
     std::exit(2);
 }
 
@@ -327,15 +410,16 @@ Options read(int count, char **words) {
     for (int i = 1; i < count; i++) {
         std::string word = words[i];
         auto value = [&] { return i + 1 < count ? words[++i] : (usage(), nullptr); };
-        if (word == "--sets" || word == "--maps") {
+        if (word == "--sets" || word == "--maps" || word == "--caches") {
             if (!kind.empty() && kind != word) usage();
             kind = word;
-            options.maps = word == "--maps";
+            options.kind = word == "--maps" ? Kind::maps : word == "--caches" ? Kind::caches : Kind::sets;
         } else if (word == "--check") options.only_checks = true;
-        else if (word == "--short") options.ranges = {100, 10000}, options.fill = 0, options.walk = 10000, options.repeats = 3;
+        else if (word == "--hits") options.only_hits = true;
+        else if (word == "--short") options.ranges = {100, 10000}, options.entries = {4000}, options.fill = 0, options.walk = 10000, options.repeats = 3;
         else if (word == "--peers") options.peers = names(value());
         else if (word == "--mixes") options.mixes = names(value());
-        else if (word == "--ranges") options.ranges = numbers(value());
+        else if (word == "--ranges") options.ranges = options.entries = numbers(value());
         else if (word == "--fill") options.fill = number(value(), 0);
         else if (word == "--walk") options.walk = number(value(), 0);
         else if (word == "--repeats") options.repeats = number(value(), 1);
@@ -348,24 +432,32 @@ Options read(int count, char **words) {
     return options;
 }
 
+// Each peer that is wanted, and what stands beside.
+void check_all(const Options &options) {
+    const bool are_caches = options.kind == Kind::caches;
+    for (const Peer &peer : peers_of(options))
+        if (options.wants(peer)) are_caches ? check_cache(peer) : check(peer);
+    if (are_caches) return;
+    for (const Peer &peer : batches_of(options))
+        if (options.wants(peer)) check(peer, {1000, 100, 0, 0, 4, 800000, 1});
+    if (options.kind == Kind::maps) check_singles();
+    check_walks(options);
+}
+
 }  // namespace
 
 int main(int count, char **words) {
     Options options = read(count, words);
     std::vector<Peer> &all = peers_of(options);
     std::sort(all.begin(), all.end(), [](const Peer &a, const Peer &b) { return a.name < b.name; });
-    for (const Peer &peer : all)
-        if (options.wants(peer)) check(peer);
-    for (const Peer &peer : batches_of(options))
-        if (options.wants(peer)) check(peer, {1000, 100, 0, 0, 4, 800000, 1});
-    if (options.maps) check_singles();
-    check_walks(options);
+    check_all(options);
     if (options.only_checks) return 0;
+    if (options.only_hits) return print_hits(options), 0;
     Log log(options.log);
     std::vector<Cell> table = cells(options);
     // the rounds are the outermost loop: what disturbs the machine for a while disturbs all peers alike
     for (uint64_t round = 0; round < options.repeats; round++) measure_round(table, round, options, log);
-    if (options.maps) print_replacements();
+    if (options.kind == Kind::maps) print_replacements();
     print(table);
     warn(table);
     return 0;

@@ -33,23 +33,24 @@ struct ProcessorTime {
     }
 };
 
+// What a clock of the system says.
+inline double seconds_of(clockid_t clock) {
+    timespec time;
+    clock_gettime(clock, &time);
+    return static_cast<double>(time.tv_sec) + static_cast<double>(time.tv_nsec) * 1e-9;
+}
+
 // Begins to look as it is made.
 class Watch {
     using Clock = std::chrono::steady_clock;
     ProcessorTime began = ProcessorTime::now();
-    double own = own_seconds();
+    double own = seconds_of(CLOCK_PROCESS_CPUTIME_ID);
     Clock::time_point start = Clock::now();
-
-    static double own_seconds() {
-        timespec time;
-        clock_gettime(CLOCK_PROCESS_CPUTIME_ID, &time);
-        return static_cast<double>(time.tv_sec) + static_cast<double>(time.tv_nsec) * 1e-9;
-    }
 
 public:
     Disturbance seen() const {
         ProcessorTime now = ProcessorTime::now();
-        double of_others = now.busy - began.busy - (own_seconds() - own);
+        double of_others = now.busy - began.busy - (seconds_of(CLOCK_PROCESS_CPUTIME_ID) - own);
         std::chrono::duration<double> time = Clock::now() - start;
         double all = time.count() * static_cast<double>(sysconf(_SC_NPROCESSORS_ONLN));
         return {(now.steal - began.steal) / all, std::max(0.0, of_others) / all};

@@ -197,7 +197,7 @@ public:
     }
 
 private:
-    // As bindings/large_pages.c does it for the library.
+    // As bindings/src/large_pages.c does it for the library.
     static void offer_for_large_pages(void *block, size_t size) {
         constexpr uintptr_t PAGE = uintptr_t{1} << 21;
         if (size < 2 * PAGE) return;

@@ -22,6 +22,9 @@ struct Workload {
     uint64_t operations;          // of all threads
     uint64_t run;                 // from which the random numbers come
     unsigned replace = 0;         // of 100 calls, of maps alone; all four 0: the fill, in which each key is inserted once
+    uint64_t entries = 0;         // of caches alone: how many there may be
+    unsigned skew = 0;            // of caches alone: the exponent of Zipf's law by which keys come, in hundredths
+    bool scans = false;           // of caches alone
 
     constexpr bool is_fill() const { return has + insert + remove + replace == 0; }
 
@@ -159,6 +162,7 @@ template <class P> void put_in_before(P &peer, const Workload &w) {
 
 struct Run {
     double seconds = 0;       // from the first thread's start to the last one's end
+    double processor_seconds = 0; // of caches alone: of a thread, in the mean
     double open_seconds = 0;  // that the opening of the set took
     uint64_t yes = 0;         // calls answered yes
     Disturbance disturbance;
@@ -228,7 +232,7 @@ struct Peer {
     const char *replaces_by = nullptr; // in a map: how it gives a key another value
 };
 
-enum class List { peers, map_peers, batches, map_batches, singles, walks, map_walks };
+enum class List { peers, map_peers, cache_peers, batches, map_batches, singles, walks, map_walks };
 
 // The list of this name, which is made when it is first asked for.
 template <class Each, List> std::vector<Each> &list_of() {

@@ -90,9 +90,8 @@ VBR_NODISCARD uint32_t vbr_version(void) VBR_NOEXCEPT;
 
 /* Numbers and answers */
 
-/* The most slots and buckets of a set, a last epoch that every shape accepts, and the most handles that vbr_open, vbr_open_with and
-   vbr_open_seeded open; vbr_open_many opens more. VBR_MAX_EPOCH is the greatest last epoch for 16,777,215 slots. With more slots it
-   stands for the greatest that they leave room for. Small sets may have a greater one: see vbr_max_epoch.
+/* The most slots and buckets of a set, and the most handles that vbr_open, vbr_open_with and vbr_open_seeded open; vbr_open_many opens
+   more.
 
        uint32_t slots = 1024 + 64 * VBR_MAX_FEW_HANDLES, buckets = 1024;
        if (slots > VBR_MAX_SLOTS || buckets > VBR_MAX_BUCKETS) return 1; // else vbr_open answers VBR_BAD_SHAPE
@@ -100,8 +99,13 @@ VBR_NODISCARD uint32_t vbr_version(void) VBR_NOEXCEPT;
        if (vbr_open(most, VBR_MAX_FEW_HANDLES, slots, buckets, VBR_MAX_EPOCH) != VBR_OK) return 1; */
 #define VBR_MAX_SLOTS 2147483647u
 #define VBR_MAX_BUCKETS 2147483648u
-#define VBR_MAX_EPOCH 549755813887ull
 #define VBR_MAX_FEW_HANDLES 64u
+
+/* A last epoch that every shape accepts: the greatest for 16,777,215 slots. With more slots it stands for the greatest that they leave room
+   for. Small sets may have a greater one: see vbr_max_epoch.
+
+       if (vbr_open(most, VBR_MAX_FEW_HANDLES, slots, buckets, VBR_MAX_EPOCH) != VBR_OK) return 1; */
+#define VBR_MAX_EPOCH 549755813887ull
 
 /* Returns the greatest last epoch of a set or a map with this many slots.
    Parameters:
@@ -247,15 +251,15 @@ typedef struct vbr_report {
 VBR_NODISCARD vbr_answer vbr_open(vbr_handle *handles, size_t count, uint32_t slots, uint32_t buckets,
                                   uint64_t last_epoch) VBR_NOEXCEPT VBR_NONNULL;
 
-/* Opens a set of these keys, and fills the handles as vbr_open does.
+/* Opens a set of these keys, which ascend, each above the one before, and fills the handles as vbr_open does.
    Parameters:
    - handles, count, slots, buckets, last_epoch: as of vbr_open.
-   - keys, key_count: so many keys, which ascend, each above the one before.
+   - keys, key_count: so many keys.
    Returns:
    - VBR_OK: it is open. The epoch is 1.
    - VBR_BAD_SHAPE, VBR_BAD_COUNT, VBR_IN_USE, VBR_BAD_KEYS, VBR_NO_MEMORY.
    Leaves: what vbr_open leaves.
-   Notes: It takes the memory of vbr_open, and 8 bytes for each key while it runs. It goes over the keys once.
+   Notes: It takes the memory of vbr_open, and while it runs 8 bytes more for each key. It goes once over the keys.
 
        static const uint64_t some[3] = {2, 5, 9};
        if (vbr_open_with(handle, 2, 1024 + 2 * 64, 1024, VBR_MAX_EPOCH, some, 3) != VBR_OK) return 1; */
@@ -327,6 +331,8 @@ VBR_NODISCARD vbr_answer vbr_open_many_seeded(vbr_handle *handles, size_t count,
    - VBR_NO_SLOT: the key is absent. Have other handles give their slots back (vbr_give_slots_back), remove keys, or try again.
    - VBR_EPOCH_SPENT: the key is absent.
    Leaves: after VBR_YES the handle's reserve for the next inserts topped up, as vbr_reserve says.
+   Notes: While the other handles stand still, 18n + 82 steps are enough, or 18n + w + 20 if that is more, with n nodes in the
+   bucket of the key and w = slots / 64, rounded up.
 
        if (vbr_insert(&handle[0], 5) == VBR_YES) added++; // this call added 5 */
 VBR_NODISCARD static inline vbr_answer vbr_insert(vbr_handle *handle, uint64_t key) VBR_NOEXCEPT VBR_NONNULL;
@@ -342,8 +348,9 @@ VBR_NODISCARD vbr_answer vbr_insert_within(vbr_handle *handle, uint64_t key, uin
    - VBR_YES: the key was there, and is taken out.
    - VBR_NO: it was absent.
    - VBR_NO_HANDLE, VBR_OUT_OF_STEPS.
-   Leaves: after VBR_YES the key's node has left its list, unless the budget ended first. Then the next insert or remove that passes
+   Leaves: after VBR_YES the key's node out of its list, unless the budget ended first. Then the next insert or remove that passes
    the node takes it out.
+   Notes: While the other handles stand still, 9n + 11 steps are enough, with n nodes in the bucket of the key.
 
        if (vbr_remove(&handle[1], 5) == VBR_YES) taken++; // this call took 5 out */
 VBR_NODISCARD static inline vbr_answer vbr_remove(vbr_handle *handle, uint64_t key) VBR_NOEXCEPT VBR_NONNULL;
@@ -359,7 +366,8 @@ VBR_NODISCARD vbr_answer vbr_remove_within(vbr_handle *handle, uint64_t key, uin
    - VBR_YES: the key is there.
    - VBR_NO: it is absent.
    - VBR_NO_HANDLE, VBR_OUT_OF_STEPS.
-   Leaves: nothing that another thread can see: its steps are loads.
+   Leaves: all that another thread can see as it was: its steps are loads.
+   Notes: While the other handles stand still, 5n + 11 steps are enough, with n nodes in the bucket of the key.
 
        if (vbr_has(&handle[1], 5) == VBR_YES) there++; // 5 was there during the call */
 VBR_NODISCARD static inline vbr_answer vbr_has(vbr_handle *handle, uint64_t key) VBR_NOEXCEPT VBR_NONNULL;
@@ -407,12 +415,14 @@ typedef struct vbr_cursor {
 /* Gives the next key of a walk, by loads alone.
    Parameters: handle.
    - cursor: where the walk stands.
-   - key: where it is written, after VBR_YES alone.
+   - key: where the next key is written, after VBR_YES alone.
    Returns:
-   - VBR_YES: it was there during the call.
+   - VBR_YES: one is left, which was there during the call.
    - VBR_NO: the walk is at its end: no key is left.
    - VBR_NO_HANDLE, VBR_RESHAPED.
-   - VBR_OUT_OF_STEPS: call again, and with twice the budget if that may have been too small.
+   - VBR_OUT_OF_STEPS: call again, and with twice the budget if that may have been too small. The cursor has come to a later bucket
+     then, or the budget was too small for its bucket. With n nodes there, 5n + 11 steps are enough while the other handles stand
+     still, and (m + 1)(5(n + m) + 11) if they disturb the call there m times.
    Leaves: the cursor after the key that was given, and at VBR_OUT_OF_STEPS as far as it has come. After the last node of a bucket
    it is before the next bucket, so a walk doesn't enter the bucket again.
    Notes: It enters the cursor's bucket at its head. It makes three steps for each bucket that it enters, three for a removed node
@@ -476,22 +486,59 @@ VBR_NODISCARD uint64_t vbr_seed(const vbr_handle *handle) VBR_NOEXCEPT VBR_NONNU
 
 /* Returns how many keys the handle's calls have added, less those that they took out.
    Parameters: handle.
-   Returns: its inserts that were answered VBR_YES, less its removes that were. Of the handles that were opened together the first
-   begins with the keys that the set opened with, the others with 0; an empty handle has 0. vbr(3) says what the sum over all
-   handles means.
+   Returns: the number of inserts that were answered VBR_YES, less that of removes that were. Of the handles that were opened
+   together the first begins with the keys that the set opened with, the others with 0; an empty handle has 0.
    Leaves: all as it was. It makes no step.
+   Notes: While no call is under way, the balances of all handles of a set add up to the number of its keys. A handle takes its
+   balance along when it is closed. vbr(3) says what the sum means while calls are made.
 
        int64_t keys = vbr_balance(&handle[0]) + vbr_balance(&handle[1]); // no call is under way */
 VBR_NODISCARD int64_t vbr_balance(const vbr_handle *handle) VBR_NOEXCEPT VBR_NONNULL;
+
+/* Returns how often calls by the handle broke a traversal off, since others had changed what it read, and began it anew.
+   Parameters: handle.
+   Returns: that number since the opening or the last renewal, and 0 for an empty handle. It is counted for those who operate a
+   program, and tested; nothing is proved of it.
+   Leaves: all as it was. It makes no step.
+
+       uint64_t again = vbr_restarts(&handle[0]); // 0 while no other thread makes calls */
+VBR_NODISCARD uint64_t vbr_restarts(const vbr_handle *handle) VBR_NOEXCEPT VBR_NONNULL;
+
+/* Returns how many removed nodes calls by the handle met on their way, and unlinked for others.
+   Parameters: handle.
+   Returns: that number, of which vbr_restarts says the rest.
+   Leaves: all as it was. It makes no step.
+
+       uint64_t helped = vbr_helps(&handle[0]); // removes of others that were held up */
+VBR_NODISCARD uint64_t vbr_helps(const vbr_handle *handle) VBR_NOEXCEPT VBR_NONNULL;
+
+/* Returns how often calls by the handle advanced the epoch.
+   Parameters: handle.
+   Returns: that number, of which vbr_restarts says the rest. The epoch is one more than those of all handles together, while none
+   was renewed.
+   Leaves: all as it was. It makes no step.
+
+       uint64_t advanced = vbr_advances(&handle[0]) + vbr_advances(&handle[1]); // the epoch less 1 */
+VBR_NODISCARD uint64_t vbr_advances(const vbr_handle *handle) VBR_NOEXCEPT VBR_NONNULL;
+
+/* Returns how many slots lie in the pool that all handles share.
+   Parameters: handle.
+   Returns: that number, at most that of the slots, and 0 for an empty handle. It is exact while no call is under way, and else what
+   others take and give meanwhile may be counted or not.
+   Leaves: all as it was. It loads one word for each 64 slots, and makes no step.
+
+       uint32_t pooled = vbr_free_about(&handle[0]); // besides, each handle keeps some to itself */
+VBR_NODISCARD uint32_t vbr_free_about(const vbr_handle *handle) VBR_NOEXCEPT VBR_NONNULL;
 
 /* Slots of a handle */
 
 /* Puts the slots that the handle keeps to itself into the pool that all handles share, where any of them finds them.
    Parameters:
    - handle: one that won't insert for a while.
-   Returns: how many it gave back, 0 for an empty handle. It can't fail.
-   Leaves: the handle without slots of its own. Its next insert that adds a key takes slots in reserve again.
-   Notes: It makes one step for each slot, makes no call on the set, and takes no memory.
+   Returns: how many it gave back, at most 64, and 0 for an empty handle. It can't fail.
+   Leaves: the handle without slots of its own. Its next insert that adds a key takes slots in reserve again, as vbr_reserve says.
+   Notes: It makes one step for each slot, makes no call on the set, and takes no memory. A handle that is closed or dropped does so
+   by itself.
 
        uint32_t given = vbr_give_slots_back(&handle[0]); // handle[1] can have them now */
 static inline uint32_t vbr_give_slots_back(vbr_handle *handle) VBR_NOEXCEPT VBR_NONNULL;
@@ -525,7 +572,7 @@ uint32_t vbr_reserve(vbr_handle *handle, uint32_t wanted) VBR_NOEXCEPT VBR_NONNU
    - handle: it may be null, as an empty one.
    - keys, room: an array of `room` elements, where the keys, ascending, are written, after VBR_YES alone. Elements after the last
      key are left alone. An array as long as the set has slots always suffices.
-   - report: where it is written, after VBR_YES and VBR_NO_ROOM alone.
+   - report: where the report is written, after VBR_YES and VBR_NO_ROOM alone.
    Returns:
    - VBR_YES: it was the last, and the set is closed.
    - VBR_NO: other handles of its set are open.
@@ -533,8 +580,8 @@ uint32_t vbr_reserve(vbr_handle *handle, uint32_t wanted) VBR_NOEXCEPT VBR_NONNU
    - VBR_NO_MEMORY: it is the last. Only then is memory needed, which is freed again.
    - VBR_LOST.
    - VBR_NO_ROOM: it is the last, and there are more keys than `room`: so many as report->live says.
-   Leaves: the handle empty, and its slots given back, as by vbr_give_slots_back, and its pass. VBR_NO_MEMORY and VBR_NO_ROOM leave
-   it full: close it again, drop it, or go on with it.
+   Leaves: the handle empty, and its slots given back, as by vbr_give_slots_back, and its pass. After VBR_NO_MEMORY and VBR_NO_ROOM
+   it is still full: close it again, drop it, or go on with it.
 
        vbr_answer first = vbr_close(&handle[0], keys, 8, &report); // VBR_NO: the other handle is open
        vbr_answer last = vbr_close(&handle[1], keys, 8, &report);  // VBR_YES: report.live keys are in front of keys */
@@ -667,15 +714,15 @@ typedef struct vbr_entry {
 VBR_NODISCARD vbr_answer vbr_map_open(vbr_map_handle *handles, size_t count, uint32_t slots, uint32_t buckets,
                                       uint64_t last_epoch) VBR_NOEXCEPT VBR_NONNULL;
 
-/* Opens a map of these entries, and fills the handles as vbr_map_open does.
+/* Opens a map of these entries, whose keys ascend, each above the one before, and fills the handles as vbr_map_open does.
    Parameters:
    - handles, count, slots, buckets, last_epoch: as of vbr_map_open.
-   - entries, entry_count: so many entries, whose keys ascend, each above the one before.
+   - entries, entry_count: so many entries.
    Returns:
    - VBR_OK: it is open. The epoch is 1.
    - VBR_BAD_SHAPE, VBR_BAD_COUNT, VBR_IN_USE, VBR_BAD_KEYS, VBR_NO_MEMORY.
    Leaves: what vbr_map_open leaves.
-   Notes: It takes the memory of vbr_map_open, and 48 bytes for each entry while it runs. It goes over the entries once.
+   Notes: It takes the memory of vbr_map_open, and while it runs 48 bytes more for each entry. It goes once over the entries.
 
        static const vbr_entry some[3] = {{2, 20}, {5, 50}, {9, 90}};
        if (vbr_map_open_with(map, 2, 1024 + 2 * 64, 1024, VBR_MAX_EPOCH, some, 3) != VBR_OK) return 1; */
@@ -739,6 +786,8 @@ VBR_NODISCARD vbr_answer vbr_map_open_many_seeded(vbr_map_handle *handles, size_
    - VBR_NO_SLOT: the key is absent. Have other handles give their slots back (vbr_map_give_slots_back), remove keys, or try again.
    - VBR_EPOCH_SPENT: the key is absent.
    Leaves: after VBR_YES the handle's reserve for the next inserts topped up, as vbr_reserve says.
+   Notes: While the other handles stand still, 18n + 82 steps are enough, or 18n + w + 20 if that is more, with n nodes in the
+   bucket of the key and w = slots / 64, rounded up.
 
        if (vbr_map_insert(&map[0], 5, 70) == VBR_YES) added++; // this call stored 70 for 5 */
 VBR_NODISCARD static inline vbr_answer vbr_map_insert(vbr_map_handle *handle, uint64_t key,
@@ -752,13 +801,14 @@ VBR_NODISCARD vbr_answer vbr_map_insert_within(vbr_map_handle *handle, uint64_t 
 
 /* Takes a key out with its value.
    Parameters: handle, key.
-   - value: null, or where its value is written, after VBR_YES alone.
+   - value: null, or where the value of the entry that this call took is written, after VBR_YES alone.
    Returns:
    - VBR_YES: the key was there, and is taken out.
    - VBR_NO: it was absent.
    - VBR_NO_HANDLE, VBR_OUT_OF_STEPS.
-   Leaves: after VBR_YES the key's node has left its list, unless the budget ended first. Then the next insert or remove that passes
+   Leaves: after VBR_YES the key's node out of its list, unless the budget ended first. Then the next insert or remove that passes
    the node takes it out.
+   Notes: While the other handles stand still, 9n + 11 steps are enough, with n nodes in the bucket of the key.
 
        if (vbr_map_remove(&map[1], 5, &value) == VBR_YES) taken++; // this call took 5 out, with its value */
 VBR_NODISCARD static inline vbr_answer vbr_map_remove(vbr_map_handle *handle, uint64_t key,
@@ -778,6 +828,7 @@ VBR_NODISCARD vbr_answer vbr_map_remove_within(vbr_map_handle *handle, uint64_t 
    - VBR_NO: it is absent.
    - VBR_NO_HANDLE, VBR_OUT_OF_STEPS.
    Leaves: the map as it was: its steps are loads.
+   Notes: While the other handles stand still, 5n + 11 steps are enough, with n nodes in the bucket of the key.
 
        if (vbr_map_get(&map[1], 5, &value) == VBR_YES) there++; // 5 had this value during the call */
 VBR_NODISCARD static inline vbr_answer vbr_map_get(vbr_map_handle *handle, uint64_t key,
@@ -789,14 +840,16 @@ VBR_NODISCARD static inline vbr_answer vbr_map_get(vbr_map_handle *handle, uint6
 VBR_NODISCARD vbr_answer vbr_map_get_within(vbr_map_handle *handle, uint64_t key, uint64_t *value,
                                             uint32_t steps) VBR_NOEXCEPT VBR_NONNULL_FIRST;
 
-/* Gives a key that is there another value; no call finds the key absent meanwhile.
+/* Gives a key that is there another value, so that no call finds it absent meanwhile.
    Parameters: handle, key, value.
    - there: null, or where the value that it had is written, after VBR_YES alone.
    Returns:
    - VBR_YES: the key was there, and has the new value.
    - VBR_NO: it was absent, and nothing was changed.
-   - VBR_NO_HANDLE, VBR_HELD, VBR_OUT_OF_STEPS, VBR_NO_SLOT, VBR_EPOCH_SPENT.
+   - VBR_NO_HANDLE, VBR_HELD, VBR_OUT_OF_STEPS.
+   - VBR_NO_SLOT, VBR_EPOCH_SPENT: the key was there at a moment.
    Leaves: after VBR_YES the new value in a slot that it took. The old value has given its own back.
+   Notes: As many steps as for vbr_map_insert are enough.
 
        if (vbr_map_replace(&map[0], 5, 72, &found) == VBR_YES) changed++; // 5 had the value found, and has 72 */
 VBR_NODISCARD static inline vbr_answer vbr_map_replace(vbr_map_handle *handle, uint64_t key, uint64_t value,
@@ -815,7 +868,8 @@ VBR_NODISCARD vbr_answer vbr_map_replace_within(vbr_map_handle *handle, uint64_t
    - VBR_YES: the key was there, and has the new value.
    - VBR_NO: it was absent, and is inserted.
    - VBR_NO_HANDLE, VBR_HELD, VBR_OUT_OF_STEPS, VBR_NO_SLOT, VBR_EPOCH_SPENT.
-   Leaves: what vbr_map_replace leaves, or after VBR_NO what vbr_map_insert leaves after VBR_YES.
+   Leaves: what vbr_map_replace leaves, or after VBR_NO what vbr_map_insert leaves when it adds a key.
+   Notes: As many steps as for vbr_map_insert are enough.
 
        if (vbr_map_put(&map[1], 6, 60, NULL) == VBR_NO) added++; // 6 was absent; either way it has 60 */
 VBR_NODISCARD static inline vbr_answer vbr_map_put(vbr_map_handle *handle, uint64_t key, uint64_t value,
@@ -827,6 +881,28 @@ VBR_NODISCARD static inline vbr_answer vbr_map_put(vbr_map_handle *handle, uint6
 VBR_NODISCARD vbr_answer vbr_map_put_within(vbr_map_handle *handle, uint64_t key, uint64_t value, uint64_t *there,
                                             uint32_t steps) VBR_NOEXCEPT VBR_NONNULL_FIRST;
 
+/* Adds a number modulo 2^64 to the value of a key, or inserts the key with it: a counter, in one call.
+   Parameters: handle, key.
+   - delta: what is added; 2^64 - n takes n off.
+   - there: null, or where the value that it had is written, after VBR_YES alone.
+   Returns:
+   - VBR_YES: the key was there, and has the sum.
+   - VBR_NO: it was absent, and is inserted with delta.
+   - VBR_NO_HANDLE, VBR_HELD, VBR_OUT_OF_STEPS, VBR_NO_SLOT, VBR_EPOCH_SPENT.
+   Leaves: what vbr_map_put leaves.
+   Notes: No other call comes between the value that it had and the sum, so no addition is lost. Its budget and its cost are those
+   of a put.
+
+       if (vbr_map_fetch_add(&map[0], 6, 1, &before) == VBR_YES) counted++; // 6 had the value before, and has one more */
+VBR_NODISCARD static inline vbr_answer vbr_map_fetch_add(vbr_map_handle *handle, uint64_t key, uint64_t delta,
+                                                         uint64_t *there) VBR_NOEXCEPT VBR_NONNULL_FIRST;
+
+/* Adds a number to the value of a key, or inserts the key with it, within a budget of `steps`, as vbr_map_fetch_add does.
+
+       told = vbr_map_fetch_add_within(&map[0], 7, 2, &value, 500); // at most 500 steps */
+VBR_NODISCARD vbr_answer vbr_map_fetch_add_within(vbr_map_handle *handle, uint64_t key, uint64_t delta, uint64_t *there,
+                                                  uint32_t steps) VBR_NOEXCEPT VBR_NONNULL_FIRST;
+
 /* Gives the value of a key, or inserts the key with this one: a get or an insert, in one call.
    Parameters: handle, key, value.
    - there: null, or where the value that it has is written, after VBR_YES alone.
@@ -835,7 +911,8 @@ VBR_NODISCARD vbr_answer vbr_map_put_within(vbr_map_handle *handle, uint64_t key
    - VBR_NO: it was absent, and is inserted.
    - VBR_NO_HANDLE, VBR_HELD, VBR_OUT_OF_STEPS.
    - VBR_NO_SLOT, VBR_EPOCH_SPENT: the key is absent.
-   Leaves: after VBR_NO what vbr_map_insert leaves after VBR_YES.
+   Leaves: after VBR_NO what vbr_map_insert leaves when it adds a key.
+   Notes: As many steps as for vbr_map_insert are enough.
 
        if (vbr_map_get_or_insert(&map[0], 5, 1, &found) == VBR_YES) there++; // 5 had the value found, and keeps it */
 VBR_NODISCARD static inline vbr_answer vbr_map_get_or_insert(vbr_map_handle *handle, uint64_t key, uint64_t value,
@@ -854,9 +931,11 @@ VBR_NODISCARD vbr_answer vbr_map_get_or_insert_within(vbr_map_handle *handle, ui
    - VBR_YES: the key had the expected value, and has the new one.
    - VBR_OTHER: it is there with another value, and nothing was changed.
    - VBR_NO: it is absent, and nothing was changed.
-   - VBR_NO_HANDLE, VBR_HELD, VBR_OUT_OF_STEPS, VBR_NO_SLOT, VBR_EPOCH_SPENT.
+   - VBR_NO_HANDLE, VBR_HELD, VBR_OUT_OF_STEPS.
+   - VBR_NO_SLOT, VBR_EPOCH_SPENT: the key had the expected value at a moment.
    Leaves: after VBR_YES what vbr_map_replace leaves; else it is a look-up.
-   Notes: A value that is computed from the one found is stored so, and no other thread's is lost.
+   Notes: A value that is computed from the one found is stored so, and no other thread's is lost. Two more steps than for
+   vbr_map_insert are enough.
 
        vbr_answer told = vbr_map_get(&map[0], 5, &seen) == VBR_YES ? VBR_OTHER : VBR_NO;
        while (told == VBR_OTHER) // until nobody else has changed it since it was seen
@@ -879,6 +958,7 @@ VBR_NODISCARD vbr_answer vbr_map_compare_exchange_within(vbr_map_handle *handle,
    - VBR_NO: it is absent, and nothing was changed.
    - VBR_NO_HANDLE, VBR_OUT_OF_STEPS.
    Leaves: after VBR_YES what vbr_map_remove leaves; else it is a look-up.
+   Notes: As many steps as for vbr_map_remove are enough.
 
        if (vbr_map_remove_if(&map[0], 6, 61, &found) == VBR_OTHER) kept++; // 6 has the value found, and is still there */
 VBR_NODISCARD static inline vbr_answer vbr_map_remove_if(vbr_map_handle *handle, uint64_t key, uint64_t expected,
@@ -954,14 +1034,14 @@ void vbr_map_get_all_within(vbr_map_handle *handle, const uint64_t *keys, size_t
 /* Gives the next key of a walk with its value, by loads alone.
    Parameters: handle.
    - cursor: where the walk stands.
-   - entry: where it is written, after VBR_YES alone.
+   - entry: where the next entry is written, after VBR_YES alone.
    Returns:
-   - VBR_YES: the two were in the map together at a moment of the call.
+   - VBR_YES: one is left: the two were in the map together at a moment of the call.
    - VBR_NO: the walk is at its end: no key is left.
    - VBR_NO_HANDLE, VBR_RESHAPED.
    - VBR_OUT_OF_STEPS: call again, and with twice the budget if that may have been too small.
    Leaves: the cursor after the key that was given, and at VBR_OUT_OF_STEPS as far as it has come.
-   Notes: The value takes two steps more than a key by vbr_next.
+   Notes: What vbr_next says of its steps holds here too. In a map the value takes two steps more.
 
        do {
            told = vbr_map_next(&map[0], &cursor, &entry);
@@ -1021,20 +1101,56 @@ VBR_NODISCARD uint64_t vbr_map_seed(const vbr_map_handle *handle) VBR_NOEXCEPT V
 
 /* Returns how many keys the handle's calls have added, less those that they took out.
    Parameters: handle.
-   Returns: that number; a call that changes a value leaves it as it was. Of the handles that were opened together the first begins
-   with the keys that the map opened with, the others with 0; an empty handle has 0. vbr(3) says what the sum over all handles
-   means.
+   Returns: that number. Of the handles that were opened together the first begins with the keys that the map opened with, the
+   others with 0; an empty handle has 0.
    Leaves: all as it was. It makes no step.
+   Notes: A call that changes a value leaves it as it was. What vbr_balance says of the sum over all handles holds here too.
 
        int64_t entered = vbr_map_balance(&map[0]) + vbr_map_balance(&map[1]); // no call is under way */
 VBR_NODISCARD int64_t vbr_map_balance(const vbr_map_handle *handle) VBR_NOEXCEPT VBR_NONNULL;
 
+/* Returns how often calls by the handle broke a traversal off, since others had changed what it read, and began it anew.
+   Parameters: handle.
+   Returns: that number since the opening or the last renewal, and 0 for an empty handle. It is counted for those who operate a
+   program, and tested; nothing is proved of it.
+   Leaves: all as it was. It makes no step.
+
+       uint64_t began = vbr_map_restarts(&map[0]); // 0 while no other thread makes calls */
+VBR_NODISCARD uint64_t vbr_map_restarts(const vbr_map_handle *handle) VBR_NOEXCEPT VBR_NONNULL;
+
+/* Returns how many removed nodes calls by the handle met on their way, and unlinked for others.
+   Parameters: handle.
+   Returns: that number, of which vbr_map_restarts says the rest.
+   Leaves: all as it was. It makes no step.
+
+       uint64_t unlinked = vbr_map_helps(&map[0]); // removes of others that were held up */
+VBR_NODISCARD uint64_t vbr_map_helps(const vbr_map_handle *handle) VBR_NOEXCEPT VBR_NONNULL;
+
+/* Returns how often calls by the handle advanced the epoch.
+   Parameters: handle.
+   Returns: that number, of which vbr_map_restarts says the rest. The epoch is one more than those of all handles together, while
+   none was renewed.
+   Leaves: all as it was. It makes no step.
+
+       uint64_t moved = vbr_map_advances(&map[0]) + vbr_map_advances(&map[1]); // the epoch less 1 */
+VBR_NODISCARD uint64_t vbr_map_advances(const vbr_map_handle *handle) VBR_NOEXCEPT VBR_NONNULL;
+
+/* Returns how many slots lie in the pool that all handles share.
+   Parameters: handle.
+   Returns: that number, at most that of the slots, and 0 for an empty handle. It is exact while no call is under way, and else what
+   others take and give meanwhile may be counted or not.
+   Leaves: all as it was. It loads one word for each 64 slots, and makes no step.
+
+       uint32_t shared = vbr_map_free_about(&map[0]); // besides, each handle keeps some to itself */
+VBR_NODISCARD uint32_t vbr_map_free_about(const vbr_map_handle *handle) VBR_NOEXCEPT VBR_NONNULL;
+
 /* Puts the slots that the handle keeps to itself into the pool that all handles share, where any of them finds them.
    Parameters:
    - handle: one that won't insert for a while.
-   Returns: how many it gave back, 0 for an empty handle. It can't fail.
-   Leaves: the handle without slots of its own. Its next insert that adds a key takes slots in reserve again.
-   Notes: It makes one step for each slot, makes no call on the map, and takes no memory.
+   Returns: how many it gave back, at most 64, and 0 for an empty handle. It can't fail.
+   Leaves: the handle without slots of its own. Its next insert that adds a key takes slots in reserve again, as vbr_reserve says.
+   Notes: It makes one step for each slot, makes no call on the map, and takes no memory. A handle that is closed or dropped does so
+   by itself.
 
        uint32_t spared = vbr_map_give_slots_back(&map[0]); // map[1] can have them now */
 static inline uint32_t vbr_map_give_slots_back(vbr_map_handle *handle) VBR_NOEXCEPT VBR_NONNULL;
@@ -1057,7 +1173,7 @@ uint32_t vbr_map_reserve(vbr_map_handle *handle, uint32_t wanted) VBR_NOEXCEPT V
    - handle: it may be null, as an empty one.
    - entries, room: an array of `room` elements, where the entries, ascending by key, are written, after VBR_YES alone. Elements
      after the last entry are left alone. An array as long as the map has slots always suffices.
-   - report: where it is written, after VBR_YES and VBR_NO_ROOM alone.
+   - report: where the report is written, after VBR_YES and VBR_NO_ROOM alone.
    Returns:
    - VBR_YES: it was the last, and the map is closed.
    - VBR_NO: other handles of its map are open.
@@ -1065,8 +1181,8 @@ uint32_t vbr_map_reserve(vbr_map_handle *handle, uint32_t wanted) VBR_NOEXCEPT V
    - VBR_NO_MEMORY: it is the last. Only then is memory needed, which is freed again.
    - VBR_LOST.
    - VBR_NO_ROOM: it is the last, and there are more entries than `room`: so many as report->live says.
-   Leaves: the handle empty, and its slots given back, as by vbr_map_give_slots_back, and its pass. VBR_NO_MEMORY and VBR_NO_ROOM
-   leave it full: close it again, drop it, or go on with it.
+   Leaves: the handle empty, and its slots given back, as by vbr_map_give_slots_back, and its pass. After VBR_NO_MEMORY and
+   VBR_NO_ROOM it is still full: close it again, drop it, or go on with it.
 
        vbr_answer first = vbr_map_close(&map[0], entries, 8, &report); // VBR_NO: the other handle is open
        vbr_answer last = vbr_map_close(&map[1], entries, 8, &report);  // VBR_YES: report.live entries are in front of entries */
@@ -1174,7 +1290,8 @@ typedef struct vbr_incarnation {
    Leaves: the slot in the hand of this handle alone, until a call makes it the node of a key, or it is let go. So a program may write
    the record of this slot meanwhile, and nobody else does. A close, a drop and a renewal put it back.
    Notes: A slot that is held is one of the 64 that are counted for each handle. While there is one, the calls that would take another
-   answer VBR_HELD: insert, replace, put, get_or_insert, compare_exchange, and this one. Look-ups, walks, removes and reports go on.
+   answer VBR_HELD: insert, replace, put, fetch_add, get_or_insert, compare_exchange, and this one. Look-ups, walks, removes and reports
+   go on.
 
        if (vbr_hold(&handle[0], &slot) == VBR_YES) beside[slot] = 7; // nobody else writes there */
 VBR_NODISCARD static inline vbr_answer vbr_hold(vbr_handle *handle, uint32_t *slot) VBR_NOEXCEPT VBR_NONNULL;
@@ -1314,7 +1431,8 @@ VBR_NODISCARD vbr_answer vbr_map_put_held_within(vbr_map_handle *handle, uint64_
    - VBR_YES: the key is there.
    - VBR_NO: it is absent.
    - VBR_NO_HANDLE, VBR_OUT_OF_STEPS.
-   Leaves: what vbr_has leaves. Its steps are those of vbr_has, all loads.
+   Leaves: what vbr_has leaves.
+   Notes: Its steps are those of vbr_has, all loads.
 
        if (vbr_get_entry(&handle[1], 5, &at) == VBR_YES) there++; // 5 stood in at.slot during the call */
 VBR_NODISCARD static inline vbr_answer vbr_get_entry(vbr_handle *handle, uint64_t key, vbr_incarnation *at) VBR_NOEXCEPT VBR_NONNULL;
@@ -1332,7 +1450,8 @@ VBR_NODISCARD vbr_answer vbr_get_entry_within(vbr_handle *handle, uint64_t key, 
    - VBR_YES: the key is there.
    - VBR_NO: it is absent.
    - VBR_NO_HANDLE, VBR_OUT_OF_STEPS.
-   Leaves: what vbr_map_get leaves. Its steps are those of vbr_map_get, all loads.
+   Leaves: what vbr_map_get leaves.
+   Notes: In a map its steps are those of vbr_map_get, all loads.
 
        if (vbr_map_get_entry(&map[1], 5, &at) == VBR_YES) there++; // 5 stood in at.slot, and had at.value */
 VBR_NODISCARD static inline vbr_answer vbr_map_get_entry(vbr_map_handle *handle, uint64_t key,
@@ -1413,9 +1532,9 @@ VBR_NODISCARD vbr_answer vbr_map_remove_entry_within(vbr_map_handle *handle, uin
 /* Gives the next key of a walk and says where it stands.
    Parameters: handle.
    - cursor: where the walk stands.
-   - key, at: where the key is written, and its entry, after VBR_YES alone.
+   - key, at: where the next key and its entry are written, after VBR_YES alone.
    Returns:
-   - VBR_YES: it stood there at a moment of the call.
+   - VBR_YES: one is left, which stood there at a moment of the call.
    - VBR_NO: the walk is at its end.
    - VBR_NO_HANDLE, VBR_RESHAPED, VBR_OUT_OF_STEPS.
    Leaves: what vbr_next leaves. Its steps are those of vbr_next.
@@ -1436,9 +1555,9 @@ VBR_NODISCARD vbr_answer vbr_next_at_within(vbr_handle *handle, vbr_cursor *curs
 /* Gives the next key of a walk and says where it stands.
    Parameters: handle.
    - cursor: where the walk stands.
-   - key, at: where the key is written, and its entry with its value, after VBR_YES alone.
+   - key, at: where the next key and its entry with its value are written, after VBR_YES alone.
    Returns:
-   - VBR_YES: it stood there, and had this value, at a moment of the call.
+   - VBR_YES: one is left, which stood there, and had this value, at a moment of the call.
    - VBR_NO: the walk is at its end.
    - VBR_NO_HANDLE, VBR_RESHAPED, VBR_OUT_OF_STEPS.
    Leaves: what vbr_map_next leaves. Its steps are those of vbr_map_next.
@@ -1528,6 +1647,9 @@ static inline vbr_answer vbr_map_replace(vbr_map_handle *handle, uint64_t key, u
 }
 static inline vbr_answer vbr_map_put(vbr_map_handle *handle, uint64_t key, uint64_t value, uint64_t *there) VBR_NOEXCEPT {
     return vbr_map_put_within(handle, key, value, there, vbr_map_steps_of(handle));
+}
+static inline vbr_answer vbr_map_fetch_add(vbr_map_handle *handle, uint64_t key, uint64_t delta, uint64_t *there) VBR_NOEXCEPT {
+    return vbr_map_fetch_add_within(handle, key, delta, there, vbr_map_steps_of(handle));
 }
 static inline vbr_answer vbr_map_get_or_insert(vbr_map_handle *handle, uint64_t key, uint64_t value, uint64_t *there) VBR_NOEXCEPT {
     return vbr_map_get_or_insert_within(handle, key, value, there, vbr_map_steps_of(handle));

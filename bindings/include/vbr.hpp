@@ -17,8 +17,8 @@
        std::optional<std::uint64_t> taken = handles[1].remove(5).value();         // 71
        std::optional<std::uint64_t> absent = handles[1].get(5).value();           // none
 
-   Each call gives a vbr::result: what it answers, or why it was refused. A refusal is no absence: it is asked for by has_value and
-   error, and where nobody asks, value throws it.
+   Each call gives a vbr::result: what it answers, or why it was refused. A refusal isn't an absence: test has_value, and read
+   error; value throws if you didn't.
 
    All keys, one after another, while other threads make calls; vbr(3) says under "Going over all keys" which are given:
 
@@ -33,12 +33,11 @@
    `_within` are given one of their own, the last of what they take. vbr(3) says how many steps suffice.
 
    It is a header over the calls of vbr.h, which says what each asks and answers; vbr(3) has what holds of all. Only
-   openings, closes and reports take memory; where a vector finds none they throw std::bad_alloc and leave all as it was. The
-   balances of all handles, added up while no call is under way, are how many keys are in the set; so does a report say. What is
-   said of sets and keys holds of maps and entries.
+   openings, closes and reports take memory; if a vector finds none they throw std::bad_alloc and leave all as it was. What is said of
+   sets and keys holds of maps and entries.
 
-   A handle may go to another thread by whatever orders the two. Where a thread ends, or an exception leaves a function, the
-   handles that it owned end too, which closes them; nothing is lost. What vbr(3) says of cancelled threads, signals and forks
+   A handle may go to another thread by whatever orders the two. If a thread ends, or an exception leaves a function, the handles that it
+   owned end too, which closes them; nothing is lost. What vbr(3) says of cancelled threads, signals and forks
    holds here as well: a signal handler inserts, removes, changes values, looks up and walks by `next`, asks results by has_value, and
    opens, closes and ends no handle. vbr_shared.hpp has sets and maps that processes share. */
 #ifndef VBR_HPP
@@ -94,8 +93,7 @@ class steps {
 public:
     explicit constexpr steps(std::uint32_t most) noexcept : number(most) {}
 
-    /* The budget of a handle that is given no other. In short buckets a call runs out of it only where others disturb it more than a
-       hundred times, in the largest set too.
+    /* VBR_AMPLE_STEPS, the budget of a handle that is given no other.
 
            static_assert(vbr::steps::ample() > vbr::steps{100000}); */
     static constexpr steps ample() noexcept { return steps(VBR_AMPLE_STEPS); }
@@ -116,8 +114,10 @@ private:
     std::uint32_t number;
 };
 
-/* How many slots and buckets a set has, and its last epoch. Keys that are there at the start are best given to open_with,
-   which lays them all in one go; by inserts a million took three times as long.
+/* How many slots and buckets a set has, and its last epoch.
+
+   Keys that are there at the start are best given to `open_with`, which lays them all in one go; by inserts a million took three times as
+   long.
 
        constexpr vbr::shape shape{1024 + 2 * 64, 1024, vbr::max_epoch}; */
 struct shape {
@@ -135,9 +135,9 @@ struct shape {
            hurried.steps = vbr::steps{5000}; */
     std::optional<vbr::steps> steps = std::nullopt;
 
-    /* The shape for this many keys at one time and this many handles: a slot for each key and 64 for each handle, and the
-       least power of two that isn't below the number of keys for the buckets. vbr(3) says what that is enough
-       for, and what to do at refusal::no_slot.
+    /* The shape for this many keys at one time and this many handles: a slot for each key and 64 for each handle, but at most one more
+       than there may be; and as many buckets as keys, rounded up to a power of two. vbr(3) says what that is enough for, and what to do
+       at refusal::no_slot.
 
            auto most = vbr::open(vbr::shape::for_keys(1024, vbr::max_few_handles), vbr::max_few_handles); */
     static constexpr shape for_keys(std::uint32_t keys, std::size_t handles) noexcept {
@@ -182,7 +182,9 @@ enum class [[nodiscard]] refusal : std::int32_t {
     reshaped = VBR_RESHAPED,         /* the walk began on another opening: the set was renewed since, or the handle was opened anew;
                                         nothing is given, and the cursor stays; begin anew, from VBR_CURSOR_BEGIN */
     hash_taken = -100,               /* of a record map alone: another key with the same hash is there; nothing was done */
-    too_long = -101                  /* of a small_string alone: the text has more bytes than there is room for; none was made */
+    too_long = -101,                 /* of a small_string alone: the text has more bytes than there is room for; none was made */
+    too_few_bytes = -102,            /* of a cache alone: an entry and its handles take more bytes; nothing was done */
+    load_under_way = -103            /* of a cache alone: another loader loads the key, and isn't waited for; nothing was done */
 };
 
 /* A refusal in words.
@@ -207,11 +209,13 @@ constexpr const char *to_string(refusal why) noexcept {
     case refusal::reshaped: return "the set was renewed since the walk began";
     case refusal::hash_taken: return "another key with the same hash is there";
     case refusal::too_long: return "the text is too long";
+    case refusal::too_few_bytes: return "the bytes are too few for a cache";
+    case refusal::load_under_way: return "a loader of this key is under way";
     }
     return "not refused";
 }
 
-/* What `value` of a result throws where there is none.
+/* What `value` of a result throws if there is none.
 
        } catch (const vbr::refused &refused) {
            reason = refused.error(); */
@@ -237,8 +241,8 @@ namespace detail {
 
 } // namespace detail
 
-/* What a call answers, or why it was refused: as std::expected<T, vbr::refusal>, but that nothing is undefined. Where there is no
-   value `value`, `*` and `->` throw vbr::refused, or end a program that is compiled without exceptions.
+/* What a call answers, or why it was refused: as std::expected<T, vbr::refusal>, but that nothing is undefined. If there is no
+   value, `value`, `*` and `->` throw vbr::refused, or end a program that is compiled without exceptions.
 
        vbr::result<bool> added = mine.insert_within(7, vbr::steps{5000});
        if (!added.has_value()) return 1; // added.error() tells why
@@ -249,7 +253,7 @@ public:
     using value_type = T;
     using error_type = refusal;
 
-    /* One that wasn't asked for yet is a refusal.
+    /* A default-constructed result holds a refusal.
 
            std::vector<vbr::result<bool>> answers(3); */
     constexpr result() noexcept : why(refusal::no_handle) {}
@@ -267,8 +271,7 @@ public:
         return has_value();
     }
 
-    /* The value; where there is none it throws vbr::refused. Of a result that is about to end it is a value of its own, so that a loop may
-       go over it.
+    /* The value; if there is none it throws vbr::refused. On a temporary it returns by value, so a range-for over it is safe.
 
            if (mine.insert(6).value()) count++; // this call added 6
            if (*mine.has(6)) there++; // `*` is the same */
@@ -281,7 +284,7 @@ public:
     constexpr T *operator->() { return &value(); }
     constexpr const T *operator->() const { return &value(); }
 
-    /* The value, or this one where the call was refused.
+    /* The value, or this one if the call was refused.
 
            bool there_or_refused = mine.has(6).value_or(true); */
     template <class U>
@@ -293,7 +296,7 @@ public:
         return has_value() ? std::move(kept) : static_cast<T>(std::forward<U>(other));
     }
 
-    /* Why the call was refused; refusal{} where it wasn't.
+    /* Why the call was refused; refusal{} if it wasn't.
 
            if (full.error() == vbr::refusal::no_slot) other.give_slots_back(); // the other handle may keep free ones */
     constexpr refusal error() const noexcept { return why; }
@@ -321,7 +324,7 @@ private:
     T kept{};
 };
 
-/* That of a call which gives nothing but that it is done.
+/* The result of a call that returns no value.
 
        vbr::result<void> renewed = vbr::handle::renew_all(both, vbr::shape::for_keys(4096, 2));
        if (!renewed) return 1; // renewed.error() tells why */
@@ -370,7 +373,7 @@ constexpr const char *to_string(const result<T> &told) noexcept {
 template <class Value>
 struct [[nodiscard]] compared {
     bool is_done = false;         /* the key had the value, and was changed or taken out; else nothing was changed */
-    std::optional<Value> found{}; /* what the key had; none where it is absent */
+    std::optional<Value> found{}; /* what the key had; none if it is absent */
 
     explicit constexpr operator bool() const noexcept { return is_done; }
     friend constexpr bool operator==(const compared &one, const compared &other) {
@@ -512,7 +515,7 @@ private:
     vbr_incarnation raw = {0, 0, 0};
 };
 
-/* A slot in hand, as vbr_hold leaves it, or none. It is moved and never copied, and puts the slot back where it ends. The handle stays
+/* A slot in hand, as vbr_hold leaves it, or none. It is moved and never copied, and puts the slot back when it ends. The handle stays
    where it is meanwhile.
 
        vbr::map_held slot = mine.hold().value();
@@ -543,7 +546,7 @@ public:
            beside[slot.number()] = 7; // nobody else writes there */
     std::uint32_t number() const noexcept { return slot; }
 
-    /* Puts the slot back.
+    /* Puts the held slot back, as vbr_let_go does. It leaves no slot in hand. It makes at most one step.
 
            slot.let_go(); // its record isn't written any more */
     void let_go() noexcept {
@@ -589,6 +592,10 @@ struct set_calls {
     static std::uint32_t buckets(const raw *handle) noexcept { return vbr_buckets(handle); }
     static std::uint64_t seed(const raw *handle) noexcept { return vbr_seed(handle); }
     static std::int64_t balance(const raw *handle) noexcept { return vbr_balance(handle); }
+    static std::uint64_t restarts(const raw *handle) noexcept { return vbr_restarts(handle); }
+    static std::uint64_t helps(const raw *handle) noexcept { return vbr_helps(handle); }
+    static std::uint64_t advances(const raw *handle) noexcept { return vbr_advances(handle); }
+    static std::uint32_t free_about(const raw *handle) noexcept { return vbr_free_about(handle); }
     static std::uint32_t give_slots_back(raw *handle) noexcept { return vbr_give_slots_back(handle); }
     static std::uint32_t reserve(raw *handle, std::uint32_t wanted) noexcept { return vbr_reserve(handle, wanted); }
     static vbr_answer close_all(raw *handles, std::size_t count, words *keys, std::size_t room, vbr_report *report) noexcept {
@@ -651,6 +658,10 @@ struct map_calls {
     static std::uint32_t buckets(const raw *handle) noexcept { return vbr_map_buckets(handle); }
     static std::uint64_t seed(const raw *handle) noexcept { return vbr_map_seed(handle); }
     static std::int64_t balance(const raw *handle) noexcept { return vbr_map_balance(handle); }
+    static std::uint64_t restarts(const raw *handle) noexcept { return vbr_map_restarts(handle); }
+    static std::uint64_t helps(const raw *handle) noexcept { return vbr_map_helps(handle); }
+    static std::uint64_t advances(const raw *handle) noexcept { return vbr_map_advances(handle); }
+    static std::uint32_t free_about(const raw *handle) noexcept { return vbr_map_free_about(handle); }
     static std::uint32_t give_slots_back(raw *handle) noexcept { return vbr_map_give_slots_back(handle); }
     static std::uint32_t reserve(raw *handle, std::uint32_t wanted) noexcept { return vbr_map_reserve(handle, wanted); }
     static vbr_answer close_all(raw *handles, std::size_t count, words *entries, std::size_t room, vbr_report *report) noexcept {
@@ -777,8 +788,8 @@ struct openings;
 } // namespace detail
 
 /* All keys of a set, or all entries of a map, one after another: an input range, which a handle gives. It asks again by itself
-   where a call is refused for want of steps and its cursor has come further. It ends where no item is left; where a call is
-   refused otherwise it throws vbr::refused, and a cursor that it was given keeps how far it has come. Whoever wants no exception
+   if a call is refused for want of steps and its cursor has come further. It ends once no item is left. If a call is refused otherwise
+   it throws vbr::refused, and a cursor that it was given keeps how far it has come. Whoever wants no exception
    calls `next`. The handle stays where it is meanwhile, and may make other calls in between.
 
        for (std::uint64_t key : mine.keys()) sum += key; */
@@ -826,7 +837,7 @@ public:
 
     /* It begins where the cursor is: at the first item, or after the one that was given last.
 
-           auto each = walk.begin(); // at the end already where there is no key */
+           auto each = walk.begin(); // at the end already if there is no key */
     iterator begin() {
         iterator first(this);
         return ++first;
@@ -856,8 +867,8 @@ private:
     vbr::steps budget;
 };
 
-/* The right of one thread at a time to make calls on a set or a map: what a handle owns and a loan lends, so a function that takes a
-   pass takes either. It stays where it is: it is neither moved nor copied, and a call by it closes nothing.
+/* The right of one thread at a time to make calls on a set or a map: what a handle owns and a loan lends, so a function that takes a pass
+   takes either. It stays where it is: it is neither moved nor copied, and a call by it closes nothing.
 
        static bool added(vbr::pass &mine, std::uint64_t key) { return mine.insert(key).value(); } */
 template <class Kind>
@@ -869,7 +880,7 @@ public:
     basic_pass(const basic_pass &) = delete;
     basic_pass &operator=(const basic_pass &) = delete;
 
-    /* Whether there is a set behind it.
+    /* Whether the handle is open.
 
            if (!mine.is_open()) return 1; // it is empty: moved from, or closed */
     bool is_open() const noexcept { return raw.owned != nullptr; }
@@ -879,7 +890,8 @@ public:
            if (mine.steps() != vbr::steps::ample()) return 1; // it was given another */
     vbr::steps steps() const noexcept { return vbr::steps{Kind::steps_of(&raw)}; }
 
-    /* Whether a key is there, by vbr_has. It isn't const, since it changes what the handle owns.
+    /* Looks a key up, as vbr_has does. Returns true if the key is there; false if it is absent. It isn't const, since it changes what the
+       handle owns.
 
            if (*mine.has(7)) there++; // 7 was there during the call */
     result<bool> has(key_type key) noexcept { return has_within(key, this->steps()); }
@@ -887,7 +899,7 @@ public:
         return detail::yes_or_no(Kind::has(&raw, detail::word_of(key), budget.count()));
     }
 
-    /* Whether each of some keys is there, by vbr_has_all: answers[i] is what `has` answers of keys[i].
+    /* Looks keys up, in their order, each by a call of its own, as vbr_has_all does. answers[i] is what `has` answers of keys[i].
 
            mine.has_all(wanted.data(), wanted.size(), answers.data()); // answers[i] is that of wanted[i] */
     void has_all(const key_type *keys, std::size_t count, result<bool> *answers) noexcept {
@@ -901,7 +913,8 @@ public:
         });
     }
 
-    /* The next key of a walk by vbr_next, and of a map the next entry; none at the end.
+    /* Gives the next key of a walk, by loads alone, as vbr_next does. Returns the next key if one is left, which was there during the
+       call; none if the walk is at its end: no key is left. Of a map it is the next entry.
 
            auto next = mine.next(from);
            while (next == vbr::refusal::out_of_steps) next = mine.next(from); // from where it came to
@@ -931,19 +944,29 @@ public:
            again.seed = mine.seed(); // a shape whose sets have each key in the same bucket */
     std::uint64_t seed() const noexcept { return Kind::seed(&raw); }
 
-    /* What vbr_balance returns. While no call is under way the balances of all handles of a set add up to the number of its keys; a
-       handle takes its balance along when it is closed.
+    /* What vbr_balance returns.
 
            std::int64_t keys = both[0].balance() + both[1].balance(); // no call is under way */
     std::int64_t balance() const noexcept { return Kind::balance(&raw); }
 
-    /* Gives the handle's slots back by vbr_give_slots_back, and says how many they were. One that is closed or ends does so by itself.
+    /* What interference has cost the handle's calls, and what is left in the pool that all handles share: what vbr_restarts, vbr_helps,
+       vbr_advances and vbr_free_about return.
+
+           std::uint64_t moved = both[0].advances() + both[1].advances(); // the epoch less 1 */
+    std::uint64_t restarts() const noexcept { return Kind::restarts(&raw); }
+    std::uint64_t helps() const noexcept { return Kind::helps(&raw); }
+    std::uint64_t advances() const noexcept { return Kind::advances(&raw); }
+    std::uint32_t free_about() const noexcept { return Kind::free_about(&raw); }
+
+    /* Puts the slots that the handle keeps to itself into the pool that all handles share, where any of them finds them, as
+       vbr_give_slots_back does. Returns how many it gave back, at most 64. It can't fail. Of an empty handle it is 0.
 
            std::uint32_t given = mine.give_slots_back(); // the other handles can have them now */
     std::uint32_t give_slots_back() noexcept { return Kind::give_slots_back(&raw); }
     [[deprecated("give_slots_back")]] std::uint32_t spare() noexcept { return give_slots_back(); } /* the old name, for one version */
 
-    /* Takes slots in reserve by vbr_reserve, and says how many it took.
+    /* Takes slots for the handle's next inserts out of the pool that all handles share, as vbr_reserve does. Returns how many it took:
+       fewer only if one pass over all slots finds no more. It can't fail. Of an empty handle it is 0.
 
            std::uint32_t reserved = mine.reserve(32); // for its inserts to come */
     std::uint32_t reserve(std::uint32_t wanted) noexcept { return Kind::reserve(&raw, wanted); }
@@ -951,7 +974,7 @@ public:
     using held = basic_held<Kind>;
     using incarnation = basic_incarnation<typename Kind::value>;
 
-    /* Takes a slot in hand, by vbr_hold.
+    /* Takes a slot in hand, for a record that the program keeps beside it, as vbr_hold does.
 
            vbr::map_held slot = mine.hold().value(); */
     result<held> hold() noexcept { return hold_within(this->steps()); }
@@ -962,7 +985,7 @@ public:
         return held(&raw, slot);
     }
 
-    /* Where a key stands, by vbr_get_entry; none where it is absent.
+    /* Looks a key up and says where it stands, as vbr_get_entry does. Returns its entry if the key is there; none if it is absent.
 
            std::optional<vbr::map_incarnation> at = mine.get_entry(6).value(); // at->slot() is where 6 stands */
     result<std::optional<incarnation>> get_entry(key_type key) noexcept { return get_entry_within(key, this->steps()); }
@@ -973,12 +996,14 @@ public:
         return told == VBR_NO ? std::nullopt : std::optional<incarnation>(at);
     }
 
-    /* Whether a slot is still that of the entry that was found there, by vbr_is_still.
+    /* Says whether a slot still belongs to the entry that was found there, as vbr_is_still does.
 
            if (mine.is_still(*at).value()) copied++; // what was copied since at was found is of this entry */
     result<bool> is_still(const incarnation &at) noexcept { return detail::yes_or_no(Kind::is_still(&raw, &at.raw)); }
 
-    /* Takes a key out if it still has the very entry that was found, by vbr_remove_entry.
+    /* Takes a key out if it still has the very entry that was found, as vbr_remove_entry does. Returns true if the key had that entry,
+       and is taken out. Returns false if it is absent, or was taken out and added again since then; nothing was changed. Of a map it is
+       false too if the key was given a value since then, even the same one.
 
            if (mine.remove_entry(7, *at).value()) taken_out++; // nobody had changed 7 since it was found */
     result<bool> remove_entry(key_type key, const incarnation &at) noexcept { return remove_entry_within(key, at, this->steps()); }
@@ -986,7 +1011,8 @@ public:
         return detail::yes_or_no(Kind::remove_entry(&raw, detail::word_of(key), &at.raw, budget.count()));
     }
 
-    /* The next key of a walk, and where it stands, by vbr_next_at; none at the end.
+    /* Gives the next key of a walk and says where it stands, as vbr_next_at does. Returns the next key and its entry if one is left,
+       which stood there at a moment of the call; none if the walk is at its end.
 
            auto stands = mine.next_at(from).value(); // a key, and its incarnation */
     result<std::optional<std::pair<key_type, incarnation>>> next_at(cursor &from) noexcept { return next_at_within(from, this->steps()); }
@@ -1005,7 +1031,7 @@ protected:
     ~basic_pass() = default;
     basic_walk<Kind> walk(cursor *from, vbr::steps budget) noexcept { return {&raw, from, budget}; }
 
-    // Makes a call by the slot that is held, which is spent where that is so.
+    // Makes a call by the slot that is held, which is spent if that is done.
     template <class Call, class Spends>
     vbr_answer by(held &slot, const Call &call, const Spends &spends) noexcept {
         if (slot.handle != &raw) return VBR_HELD;
@@ -1032,7 +1058,7 @@ protected:
     typename Kind::raw raw = {};
 };
 
-/* That of a handle to a set.
+/* The calls of a set's handle.
 
        static bool added(vbr::pass &mine, std::uint64_t key) { return mine.insert(key).value(); } */
 template <class Key>
@@ -1041,7 +1067,7 @@ protected:
     using kind = detail::set_of<Key>;
 
 public:
-    /* Adds a key by vbr_insert: true if it was absent.
+    /* Adds a key, as vbr_insert does. Returns true if the key was absent, and is added; false if it was there.
 
            if (mine.insert(6).value()) count++; // this call added 6 */
     result<bool> insert(Key key) noexcept { return insert_within(key, this->steps()); }
@@ -1051,7 +1077,8 @@ public:
 
     using typename basic_pass<detail::set_of<Key>>::held;
 
-    /* Adds a key by the slot that is held, and vbr_insert_held: true if the key was absent.
+    /* Adds a key by the slot that is held, as vbr_insert_held does. Returns true if the key was absent, and stands in this slot; false if
+       it was there.
 
            if (mine.insert(std::move(slot), 7).value()) count++; // 7 stands in this slot */
     result<bool> insert(held &&slot, Key key) noexcept { return insert_within(std::move(slot), key, this->steps()); }
@@ -1061,7 +1088,7 @@ public:
             [](vbr_answer told) { return told == VBR_YES; }));
     }
 
-    /* Takes a key out by vbr_remove: true if it was there.
+    /* Takes a key out, as vbr_remove does. Returns true if the key was there, and is taken out; false if it was absent.
 
            if (mine.remove(6).value()) taken++; // this call took 6 out */
     result<bool> remove(Key key) noexcept { return remove_within(key, this->steps()); }
@@ -1082,7 +1109,7 @@ public:
     basic_walk<kind> keys_within(cursor &from, vbr::steps budget) & noexcept { return this->walk(&from, budget); }
 };
 
-/* That of a handle to a map.
+/* The calls of a map's handle.
 
        static std::uint64_t got(vbr::map_pass &mine, std::uint64_t key) { return mine.get(key).value().value_or(0); } */
 template <class Key, class Value>
@@ -1092,9 +1119,10 @@ protected:
 
 public:
     using value_type = Value;
-    using found = result<std::optional<Value>>; /* the value of a key, or none where it is absent */
+    using found = result<std::optional<Value>>; /* the value of a key, or none if it is absent */
 
-    /* Adds a key with its value by vbr_map_insert: true if the key was absent.
+    /* Adds a key with its value, as vbr_map_insert does. Returns true if the key was absent, and is added; false if it was there, and
+       keeps the value that it has.
 
            if (mine.insert(6, 60).value()) added++; // this call stored 60 for 6 */
     result<bool> insert(Key key, Value value) noexcept { return insert_within(key, value, this->steps()); }
@@ -1105,7 +1133,8 @@ public:
     using typename basic_pass<detail::map_of<Key, Value>>::held;
     using typename basic_pass<detail::map_of<Key, Value>>::incarnation;
 
-    /* Adds a key with its value by the slot that is held, and vbr_map_insert_held: true if the key was absent.
+    /* Adds a key with its value by the slot that is held, as vbr_map_insert_held does. Returns true if the key was absent, and stands in
+       this slot; false if it was there, and keeps its value.
 
            if (mine.insert(std::move(slot), 7, 70).value()) added++; // 7 stands in this slot */
     result<bool> insert(held &&slot, Key key, Value value) noexcept { return insert_within(std::move(slot), key, value, this->steps()); }
@@ -1115,7 +1144,9 @@ public:
             [](vbr_answer told) { return told == VBR_YES; }));
     }
 
-    /* Gives a key this value by the slot that is held, and vbr_map_replace_held: true if the key still had the entry that was found.
+    /* Gives a key this value by the slot that is held, in place of the very entry that was found, as vbr_map_replace_held does. Returns
+       true if the key still had that entry, and this slot took its place; false if it is absent, or has another entry by now, also one
+       with the same value.
 
            if (mine.replace(std::move(slot), 7, *at, 71).value()) changed++; // nobody had changed 7 since it was found */
     result<bool> replace(held &&slot, Key key, const incarnation &at, Value value) noexcept {
@@ -1128,7 +1159,8 @@ public:
             [](vbr_answer told) { return told == VBR_YES; }));
     }
 
-    /* Gives a key this value by the slot that is held, and vbr_map_put_held, and returns the one that it had.
+    /* Gives a key this value by the slot that is held, whether it is there or not, as vbr_map_put_held does. Returns the value that it
+       had if the key was there, and stands in the slot with the new value; none if it was absent, and is inserted in the slot.
 
            if (mine.put(std::move(slot), 7, 72).has_value()) puts++; // 7 stands in this slot */
     found put(held &&slot, Key key, Value value) noexcept { return put_within(std::move(slot), key, value, this->steps()); }
@@ -1140,19 +1172,21 @@ public:
         return detail::value_by<Value>(told, had);
     }
 
-    /* Takes a key out by vbr_map_remove, and gives its value.
+    /* Takes a key out with its value, as vbr_map_remove does. Returns the value of the entry that this call took if the key was there,
+       and is taken out; none if it was absent.
 
            std::optional<std::uint64_t> taken = mine.remove(6).value(); // what 6 had */
     found remove(Key key) noexcept { return remove_within(key, this->steps()); }
     found remove_within(Key key, vbr::steps budget) noexcept { return found_by(vbr_map_remove_within, budget, key); }
 
-    /* The value of a key, by vbr_map_get. As `has` it isn't const.
+    /* Looks a key up and gives its value, as vbr_map_get does. Returns its value if the key is there; none if it is absent. As `has` it
+       isn't const.
 
            if (std::optional<std::uint64_t> got = mine.get(6).value()) sum += *got; */
     found get(Key key) noexcept { return get_within(key, this->steps()); }
     found get_within(Key key, vbr::steps budget) noexcept { return found_by(vbr_map_get_within, budget, key); }
 
-    /* The value of each of some keys, by vbr_map_get_all: values[i] is what `get` answers of keys[i].
+    /* Looks keys up and gives their values, as vbr_has_all looks keys up (vbr_map_get_all). values[i] is what `get` answers of keys[i].
 
            mine.get_all(wanted.data(), wanted.size(), values.data()); // values[i] is that of wanted[i] */
     void get_all(const Key *keys, std::size_t count, found *values) noexcept { get_all_within(keys, count, values, this->steps()); }
@@ -1164,7 +1198,8 @@ public:
         });
     }
 
-    /* Gives a key that is there another value by vbr_map_replace, and returns the one that it had; none if it was absent.
+    /* Gives a key that is there another value, so that no call finds it absent meanwhile, as vbr_map_replace does. Returns the value that
+       it had if the key was there, and has the new value; none if it was absent, and nothing was changed.
 
            std::optional<std::uint64_t> was = mine.replace(6, 61).value(); // 6 had it, and has 61 */
     found replace(Key key, Value value) noexcept { return replace_within(key, value, this->steps()); }
@@ -1172,7 +1207,8 @@ public:
         return found_by(vbr_map_replace_within, budget, key, value);
     }
 
-    /* Gives a key this value by vbr_map_put, and returns the one that it had; none if it was absent.
+    /* Gives a key this value, whether it is there or not, as vbr_map_put does. Returns the value that it had if the key was there, and
+       has the new value; none if it was absent, and is inserted.
 
            if (mine.put(7, 70).has_value()) puts++; // 7 has 70, whether it was there or not */
     found put(Key key, Value value) noexcept { return put_within(key, value, this->steps()); }
@@ -1180,7 +1216,19 @@ public:
         return found_by(vbr_map_put_within, budget, key, value);
     }
 
-    /* The value of a key, by vbr_map_get_or_insert; none if it was absent.
+    /* Adds a number modulo 2^64 to the value of a key, or inserts the key with it: a counter, in one call, as vbr_map_fetch_add does.
+       Returns the value that it had if the key was there, and has the sum; none if it was absent, and is inserted with delta. Values are
+       integers of 64 bits.
+
+           if (!mine.fetch_add(9, 1).value()) users++; // 9 was absent, and has 1; else it would have one more */
+    found fetch_add(Key key, Value delta) noexcept { return fetch_add_within(key, delta, this->steps()); }
+    found fetch_add_within(Key key, Value delta, vbr::steps budget) noexcept {
+        static_assert(std::is_integral_v<Value> && sizeof(Value) == 8, "what is added are integers of 64 bits");
+        return found_by(vbr_map_fetch_add_within, budget, key, delta);
+    }
+
+    /* Gives the value of a key, or inserts the key with this one: a get or an insert, in one call, as vbr_map_get_or_insert does. Returns
+       the value that it has if the key is there, and keeps its value; none if it was absent, and is inserted.
 
            std::uint64_t has = mine.get_or_insert(8, 80).value().value_or(80); */
     found get_or_insert(Key key, Value value) noexcept { return get_or_insert_within(key, value, this->steps()); }
@@ -1188,7 +1236,7 @@ public:
         return found_by(vbr_map_get_or_insert_within, budget, key, value);
     }
 
-    /* Gives a key another value if it has the one that is expected, by its bits and vbr_map_compare_exchange.
+    /* Gives a key another value if it has the one that is expected, as vbr_map_compare_exchange does. Values are compared by their bits.
 
            if (*mine.compare_exchange(6, 61, 62)) changed++; // 6 had 61, and has 62 */
     result<compared<Value>> compare_exchange(Key key, Value expected, Value value) noexcept {
@@ -1198,7 +1246,7 @@ public:
         return compared_by(vbr_map_compare_exchange_within, budget, key, expected, value);
     }
 
-    /* Takes a key out if it has the value that is expected, by its bits and vbr_map_remove_if.
+    /* Takes a key out if it has the value that is expected, as vbr_map_remove_if does. Values are compared by their bits.
 
            vbr::compared<std::uint64_t> left = mine.remove_if(6, 60).value(); // not done: 6 has *left.found, and is still there */
     result<compared<Value>> remove_if(Key key, Value expected) noexcept { return remove_if_within(key, expected, this->steps()); }
@@ -1206,9 +1254,9 @@ public:
         return compared_by(vbr_map_remove_if_within, budget, key, expected);
     }
 
-    /* Gives a key the value that `update` makes of the one that it has, and returns that one; none, and nothing is changed, if the key is
-       absent or `update` makes none. It returns a value, or an option. No update of another thread is lost: where one comes in
-       between, `update` is asked again, with the value that it left. Each call that it takes has this budget.
+    /* Gives a key the value that a function makes of the one that it has, and returns that one; none, and nothing is changed, if the key
+       is absent or the function makes none. No update of another thread is lost: if one comes in between, the function is asked again,
+       with the value that it left. `update` returns a value, or an option. Each call that it takes has this budget.
 
            auto half = [](std::uint64_t value) { return value % 2 ? std::nullopt : std::optional(value / 2); };
            std::optional<std::uint64_t> before = mine.fetch_update(6, half).value(); // 6 had it, and has half of it */
@@ -1291,8 +1339,9 @@ public:
            mine.set_steps(vbr::steps{5000}); */
     void set_steps(vbr::steps budget) noexcept { this->raw.steps = budget.count() ? budget.count() : 1; }
 
-    /* Closes the handle, and leaves it empty. The last one of its set gives the report, whose keys take memory then and
-       only then; where there is none it stays open. The others give none.
+    /* Closes a handle; the last one of a set ends it, with a report, as vbr_close does. Returns the report if it was the last, and the
+       set is closed; none if other handles of its set are open. It leaves the handle empty, and its slots given back, as by
+       vbr_give_slots_back, and its pass. After VBR_NO_MEMORY it is still full: close it again, drop it, or go on with it.
 
            std::optional<vbr::report> told = mine.close().value(); // the report of the last one */
     result<std::optional<report_type>> close() {
@@ -1301,7 +1350,7 @@ public:
         return close_last(detail::report_room<kind>(shared->slots));
     }
 
-    /* What is in a set or a map, by all its handles and vbr_report_all.
+    /* Reports what is in a set by all handles that were opened with it, as vbr_report_all does.
 
            vbr::report now = vbr::handle::report_all(both).value(); // now.keys is {5, 7} */
     static result<report_type> report_all(std::vector<basic_handle> &handles) {
@@ -1325,7 +1374,7 @@ public:
         return report_slots(handles.size(), in_order(handles));
     }
 
-    /* Lets all handles of a set or a map go on over a fresh one of this shape, by vbr_renew_all.
+    /* Lets all handles of a set go on over a fresh one of this shape, with the keys that were in it, as vbr_renew_all does.
 
            vbr::result<void> renewed = vbr::handle::renew_all(both, vbr::shape::for_keys(4096, 2)); */
     static result<void> renew_all(std::vector<basic_handle> &handles, const shape &wanted) noexcept {
@@ -1440,7 +1489,7 @@ private:
         shared->open.fetch_add(1, std::memory_order_relaxed);
     }
 
-    /* Closes all handles of the set at once. Where it is refused memory they stay as they were. */
+    /* Closes all handles of the set at once. If it is refused memory they stay as they were. */
     result<std::optional<report_type>> close_last(detail::report_room<kind> room) {
         std::swap(shared->parked[number], raw);
         vbr_answer code = room.fill([&](auto *items, std::size_t size, vbr_report *totals) {
@@ -1624,7 +1673,7 @@ struct map : detail::openings<basic_handle<basic_map_pass<Key, Value>>> {
     using entry = typename detail::map_of<Key, Value>::item;
 };
 
-/* Those of plain numbers.
+/* Aliases for std::uint64_t.
 
        vbr::handle mine = std::move(handles[0]); // handles are moved, and never copied */
 using pass = set<>::pass;
@@ -1639,12 +1688,12 @@ using map_report = map<>::report;
 using map_held = map_pass::held;
 using map_incarnation = map_pass::incarnation;
 
-/* Opens an empty set with `count` handles, from 1 to 64.
+/* Opens an empty set, as vbr_open does. It has `count` handles, from 1 to max_few_handles.
 
        std::vector<vbr::handle> handles = vbr::open(vbr::shape::for_keys(1024, 2), 2).value(); // or it throws vbr::refused */
 inline result<std::vector<handle>> open(const shape &wanted, std::size_t count) { return set<>::open(wanted, count); }
 
-/* Opens a set of these keys, which ascend, each above the one before.
+/* Opens a set of these keys, which ascend, each above the one before, as vbr_open_with does.
 
        auto some = vbr::open_with(shape, 1, want.data(), want.size()); */
 inline result<std::vector<handle>> open_with(const shape &wanted, std::size_t count, const std::uint64_t *keys, std::size_t key_count) {
@@ -1667,7 +1716,7 @@ result<std::vector<handle>> open_with(const shape &wanted, std::size_t count, co
     return set<>::open_with(wanted, count, keys);
 }
 
-/* Opens a set of these keys, which ascend and may be none, with `count` handles, from 1 to max_many_handles.
+/* Opens a set with up to VBR_MAX_MANY_HANDLES handles, as vbr_open_with does otherwise (vbr_open_many). There may be no keys.
 
        std::vector<vbr::handle> crowd = vbr::open_many(vbr::shape::for_keys(1024, 1000), 1000).value(); */
 inline result<std::vector<handle>> open_many(const shape &wanted, std::size_t count, const std::uint64_t *keys = nullptr,
@@ -1675,12 +1724,12 @@ inline result<std::vector<handle>> open_many(const shape &wanted, std::size_t co
     return set<>::open_many(wanted, count, keys, key_count);
 }
 
-/* Opens an empty map with `count` handles, from 1 to 64.
+/* Opens an empty map, as vbr_map_open does. It has `count` handles, from 1 to max_few_handles.
 
        std::vector<vbr::map_handle> handles = vbr::open_map(vbr::shape::for_keys(1024, 2), 2).value(); */
 inline result<std::vector<map_handle>> open_map(const shape &wanted, std::size_t count) { return map<>::open(wanted, count); }
 
-/* Opens a map of these entries, whose keys ascend, each above the one before.
+/* Opens a map of these entries, whose keys ascend, each above the one before, as vbr_map_open_with does.
 
        auto some = vbr::open_map_with(shape, 1, want.data(), want.size()); */
 inline result<std::vector<map_handle>> open_map_with(const shape &wanted, std::size_t count, const entry *entries,
@@ -1704,7 +1753,7 @@ result<std::vector<map_handle>> open_map_with(const shape &wanted, std::size_t c
     return map<>::open_with(wanted, count, entries);
 }
 
-/* Opens a map of these entries, whose keys ascend, and which may be none, with `count` handles, from 1 to max_many_handles.
+/* Opens a map with up to VBR_MAX_MANY_HANDLES handles, as vbr_map_open_with does otherwise (vbr_map_open_many). There may be no entries.
 
        std::vector<vbr::map_handle> crowd = vbr::open_map_many(vbr::shape::for_keys(1024, 1000), 1000).value(); */
 inline result<std::vector<map_handle>> open_map_many(const shape &wanted, std::size_t count, const entry *entries = nullptr,

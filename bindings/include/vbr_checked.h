@@ -1,5 +1,5 @@
 /* Finds two threads in one handle at a time, for programs that can't be run under ThreadSanitizer. vbr.h includes this if a program
-   defines VBR_CHECKED, in C and C++; a program needs no other line for it. Where a program is compiled for ThreadSanitizer it isn't
+   defines VBR_CHECKED, in C and C++; a program needs no other line for it. If a program is compiled for ThreadSanitizer it isn't
    included, since vbr_tsan.h finds more. In C++ all files of a program define it, or none does: the members of vbr.hpp are inline, and
    the linker takes those of one file for all.
 
@@ -133,6 +133,34 @@ VBR_NODISCARD static inline int64_t vbr_checked_balance(const vbr_handle *handle
     return answer;
 }
 
+VBR_NODISCARD static inline uint64_t vbr_checked_restarts(const vbr_handle *handle) VBR_NOEXCEPT {
+    vbr_checked_looks(&handle->in_call, "vbr_restarts");
+    uint64_t answer = vbr_restarts(handle);
+    vbr_checked_looks(&handle->in_call, "vbr_restarts");
+    return answer;
+}
+
+VBR_NODISCARD static inline uint64_t vbr_checked_helps(const vbr_handle *handle) VBR_NOEXCEPT {
+    vbr_checked_looks(&handle->in_call, "vbr_helps");
+    uint64_t answer = vbr_helps(handle);
+    vbr_checked_looks(&handle->in_call, "vbr_helps");
+    return answer;
+}
+
+VBR_NODISCARD static inline uint64_t vbr_checked_advances(const vbr_handle *handle) VBR_NOEXCEPT {
+    vbr_checked_looks(&handle->in_call, "vbr_advances");
+    uint64_t answer = vbr_advances(handle);
+    vbr_checked_looks(&handle->in_call, "vbr_advances");
+    return answer;
+}
+
+VBR_NODISCARD static inline uint32_t vbr_checked_free_about(const vbr_handle *handle) VBR_NOEXCEPT {
+    vbr_checked_looks(&handle->in_call, "vbr_free_about");
+    uint32_t answer = vbr_free_about(handle);
+    vbr_checked_looks(&handle->in_call, "vbr_free_about");
+    return answer;
+}
+
 static inline uint32_t vbr_checked_spare(vbr_handle *handle) VBR_NOEXCEPT {
     vbr_checked_begins(&handle->in_call, "vbr_spare");
     uint32_t answer = vbr_spare(handle);
@@ -240,6 +268,14 @@ VBR_NODISCARD static inline vbr_answer vbr_checked_map_put_within(vbr_map_handle
     return answer;
 }
 
+VBR_NODISCARD static inline vbr_answer vbr_checked_map_fetch_add_within(vbr_map_handle *handle, uint64_t key, uint64_t delta,
+                                                                        uint64_t *there, uint32_t steps) VBR_NOEXCEPT {
+    vbr_checked_begins(&handle->in_call, "vbr_map_fetch_add_within");
+    vbr_answer answer = vbr_map_fetch_add_within(handle, key, delta, there, steps);
+    vbr_checked_is_over(&handle->in_call);
+    return answer;
+}
+
 VBR_NODISCARD static inline vbr_answer vbr_checked_map_get_or_insert_within(vbr_map_handle *handle, uint64_t key, uint64_t value,
                                                                             uint64_t *there, uint32_t steps) VBR_NOEXCEPT {
     vbr_checked_begins(&handle->in_call, "vbr_map_get_or_insert_within");
@@ -334,6 +370,34 @@ VBR_NODISCARD static inline int64_t vbr_checked_map_balance(const vbr_map_handle
     vbr_checked_looks(&handle->in_call, "vbr_map_balance");
     int64_t answer = vbr_map_balance(handle);
     vbr_checked_looks(&handle->in_call, "vbr_map_balance");
+    return answer;
+}
+
+VBR_NODISCARD static inline uint64_t vbr_checked_map_restarts(const vbr_map_handle *handle) VBR_NOEXCEPT {
+    vbr_checked_looks(&handle->in_call, "vbr_map_restarts");
+    uint64_t answer = vbr_map_restarts(handle);
+    vbr_checked_looks(&handle->in_call, "vbr_map_restarts");
+    return answer;
+}
+
+VBR_NODISCARD static inline uint64_t vbr_checked_map_helps(const vbr_map_handle *handle) VBR_NOEXCEPT {
+    vbr_checked_looks(&handle->in_call, "vbr_map_helps");
+    uint64_t answer = vbr_map_helps(handle);
+    vbr_checked_looks(&handle->in_call, "vbr_map_helps");
+    return answer;
+}
+
+VBR_NODISCARD static inline uint64_t vbr_checked_map_advances(const vbr_map_handle *handle) VBR_NOEXCEPT {
+    vbr_checked_looks(&handle->in_call, "vbr_map_advances");
+    uint64_t answer = vbr_map_advances(handle);
+    vbr_checked_looks(&handle->in_call, "vbr_map_advances");
+    return answer;
+}
+
+VBR_NODISCARD static inline uint32_t vbr_checked_map_free_about(const vbr_map_handle *handle) VBR_NOEXCEPT {
+    vbr_checked_looks(&handle->in_call, "vbr_map_free_about");
+    uint32_t answer = vbr_map_free_about(handle);
+    vbr_checked_looks(&handle->in_call, "vbr_map_free_about");
     return answer;
 }
 
@@ -558,6 +622,10 @@ VBR_NODISCARD static inline vbr_answer vbr_checked_map_report_slots(vbr_map_hand
 #define vbr_buckets vbr_checked_buckets
 #define vbr_seed vbr_checked_seed
 #define vbr_balance vbr_checked_balance
+#define vbr_restarts vbr_checked_restarts
+#define vbr_helps vbr_checked_helps
+#define vbr_advances vbr_checked_advances
+#define vbr_free_about vbr_checked_free_about
 #define vbr_spare vbr_checked_spare
 #define vbr_reserve vbr_checked_reserve
 #define vbr_close vbr_checked_close
@@ -572,6 +640,7 @@ VBR_NODISCARD static inline vbr_answer vbr_checked_map_report_slots(vbr_map_hand
 #define vbr_map_get_within vbr_checked_map_get_within
 #define vbr_map_replace_within vbr_checked_map_replace_within
 #define vbr_map_put_within vbr_checked_map_put_within
+#define vbr_map_fetch_add_within vbr_checked_map_fetch_add_within
 #define vbr_map_get_or_insert_within vbr_checked_map_get_or_insert_within
 #define vbr_map_compare_exchange_within vbr_checked_map_compare_exchange_within
 #define vbr_map_remove_if_within vbr_checked_map_remove_if_within
@@ -585,6 +654,10 @@ VBR_NODISCARD static inline vbr_answer vbr_checked_map_report_slots(vbr_map_hand
 #define vbr_map_buckets vbr_checked_map_buckets
 #define vbr_map_seed vbr_checked_map_seed
 #define vbr_map_balance vbr_checked_map_balance
+#define vbr_map_restarts vbr_checked_map_restarts
+#define vbr_map_helps vbr_checked_map_helps
+#define vbr_map_advances vbr_checked_map_advances
+#define vbr_map_free_about vbr_checked_map_free_about
 #define vbr_map_spare vbr_checked_map_spare
 #define vbr_map_reserve vbr_checked_map_reserve
 #define vbr_map_close vbr_checked_map_close

@@ -12,18 +12,15 @@
            vbr_give_back(&lender, mine);
        }
 
-   It takes no lock and no memory, never waits, and stands above the calls of vbr.h, which are proved; this header is tested. A thread
-   gets the handle that it had last, from any lender, if that one is free: a loan and its return are then one atomic exchange on a
-   word that other threads don't write, and if there are no more threads than handles, each comes to have its own. A lender has words
-   for 64 handles; for more, give vbr_lender_init_many some. No pointer that a call is given may be null. VBR_LEND_CHECKED says whether
-   a program that gives a handle back twice, or to another lender, is ended with a sentence; a return is a second exchange then.
+   No call takes a lock or memory, and none waits. They stand above the calls of vbr.h, which are proved; this header is tested. A lender
+   has words for 64 handles; for more, give vbr_lender_init_many some. No pointer that a call is given may be null. VBR_LEND_CHECKED says
+   whether a program that gives a handle back twice, or to another lender, is ended with a sentence; a return is a second exchange then.
 
-   What is done with a handle before it is given back comes before what the next borrower does (a release and an acquire). The handles
-   and the lender stay where they are while there are loans. A lender takes 8 KiB, since its words lie apart. The number of a loan is
-   `mine - handle`: for data that lies beside each handle. vbr_lender_count_about says how many keys are in while threads run. A signal
-   handler may borrow. Once all are given back, the handles are closed by vbr_close as always, or go on over a fresh set by
-   vbr_lender_renew. That doesn't wait for them either: a program calls it again until all are back. Handles to a map are lent by the
-   calls with `vbr_map_` in their names. It is written for GCC and Clang, in C99 to C++23.
+   The handles and the lender stay where they are while there are loans. A lender takes 8 KiB, since its words lie apart. The number of a
+   loan is `mine - handle`: for data that lies beside each handle. vbr_lender_count_about says how many keys are in while threads run. A
+   signal handler may borrow. Once all are given back, the handles are closed by vbr_close as always, or go on over a fresh set by
+   vbr_lender_renew. Handles to a map are lent by the calls with `vbr_map_` in their names. It is written for GCC and Clang, in C99 to
+   C++23.
 
    Parameters:
    - lender: all zero, or one that has handles by vbr_lender_init or vbr_lender_init_many. Many threads may use it at a time. */
@@ -248,7 +245,10 @@ VBR_NONNULL static inline vbr_answer vbr_lender_init_many(vbr_lender *lender, vb
    Parameters: lender.
    Returns: the handle, or a null pointer if each was lent at some moment of the call, or they are being renewed.
    Leaves: the handle on loan, until it is given back.
-   Notes: It tries each handle at most once, so it never waits, and begins with the one that this thread was lent last.
+   Notes: It takes no lock and no memory. It tries each handle at most once, so it never waits.
+
+   It begins with the handle that this thread was lent last, by any lender. If that is free, a loan and its return are one atomic exchange
+   on a word that other threads don't write. If there are no more threads than handles, each comes to have its own.
 
        vbr_handle *mine = vbr_lend(&lender); // NULL: both are lent */
 VBR_NODISCARD VBR_NONNULL static inline vbr_handle *vbr_lend(vbr_lender *lender) VBR_NOEXCEPT {
@@ -261,7 +261,8 @@ VBR_NODISCARD VBR_NONNULL static inline vbr_handle *vbr_lend(vbr_lender *lender)
    - handle: one that was lent by this lender, and isn't in a call. Given back twice, it may be lent to two threads, and given to another lender
      it is lost to its own: VBR_LEND_CHECKED says whether these end the program.
    Returns: nothing.
-   Leaves: the handle free, for whoever borrows it next.
+   Leaves: the handle free, for whoever borrows it next. What is done with a handle before it is given back comes before what the next borrower
+   does (a release and an acquire).
 
        vbr_give_back(&lender, mine); // and mine isn't used any more */
 VBR_NONNULL static inline void vbr_give_back(vbr_lender *lender, vbr_handle *handle) VBR_NOEXCEPT {
@@ -409,7 +410,10 @@ VBR_NONNULL static inline vbr_answer vbr_map_lender_init_many(vbr_map_lender *le
    Parameters: lender.
    Returns: the handle, or a null pointer if each was lent at some moment of the call, or they are being renewed.
    Leaves: the handle on loan, until it is given back.
-   Notes: It tries each handle at most once, so it never waits, and begins with the one that this thread was lent last.
+   Notes: It takes no lock and no memory. It tries each handle at most once, so it never waits.
+
+   It begins with the handle that this thread was lent last, by any lender. If that is free, a loan and its return are one atomic exchange
+   on a word that other threads don't write. If there are no more threads than handles, each comes to have its own.
 
        vbr_map_handle *mine = vbr_map_lend(&lender); // NULL: both are lent */
 VBR_NODISCARD VBR_NONNULL static inline vbr_map_handle *vbr_map_lend(vbr_map_lender *lender) VBR_NOEXCEPT {
@@ -422,7 +426,8 @@ VBR_NODISCARD VBR_NONNULL static inline vbr_map_handle *vbr_map_lend(vbr_map_len
    - handle: one that was lent by this lender, and isn't in a call. Given back twice, it may be lent to two threads, and given to another lender
      it is lost to its own: VBR_LEND_CHECKED says whether these end the program.
    Returns: nothing.
-   Leaves: the handle free, for whoever borrows it next.
+   Leaves: the handle free, for whoever borrows it next. What is done with a handle before it is given back comes before what the next borrower
+   does (a release and an acquire).
 
        vbr_map_give_back(&lender, mine); // and mine isn't used any more */
 VBR_NONNULL static inline void vbr_map_give_back(vbr_map_lender *lender, vbr_map_handle *handle) VBR_NOEXCEPT {

@@ -1,5 +1,6 @@
-/* Handles that are lent, for C++17 and later: for programs whose threads come and go, or are more than the handles of a set. vbr.hpp
-   includes it. Whoever wants to make calls borrows one, and its loan's end gives it back.
+/* Handles that are lent: for programs whose threads come and go, or outnumber the handles of a set. A lender has open handles. A thread
+   that wants to make calls borrows one, and gives it back. Here the end of its loan does so. This header is for C++17 and later, and
+   vbr.hpp includes it.
 
        vbr::lender lender(vbr::open(shape, 3).value());
        vbr::loan mine = lender.lend();                        // in any thread; none: all are lent at the moment
@@ -9,15 +10,8 @@
        vbr::result<void> renewed = lender.renew(shape);       // as soon as all loans are back
        auto closed = lender.close();                          // all handles or none: the report is **closed
 
-   A thread is lent the handle that it had last, where that is free: a loan and its return are then one atomic exchange on a word
-   that other threads don't write. What is done with a handle before it is given back comes before what the next borrower does.
-   A lend that doesn't wait takes no lock and no memory. Who waits sleeps by a condition variable, which a return touches only
-   where a thread waits; threads that wait have no order, and one that has a loan itself may wait for ever. So a signal handler
-   borrows nothing.
-
-   A renewal lends no more from its beginning, and waits until all loans are back; then the handles go on over a fresh set with the
-   keys that were in it, and are lent again. Who waits for a handle meanwhile waits on. So a program that runs for long calls it
-   before the last epoch is spent, from any thread that has no loan.
+   A waiting thread sleeps on a condition variable, which a return touches only if a thread waits. So a signal handler borrows nothing. A
+   program that runs for long renews before the last epoch is spent, from any thread that has no loan.
 
    A lender may be moved while there are loans. These end before the lender that then has the handles; an owned loan may outlive it. */
 #ifndef VBR_LEND_HPP
@@ -62,8 +56,8 @@ deadline after(const std::chrono::duration<Rep, Period> &limit) {
     return clock::now() + std::chrono::ceil<clock::duration>(limit);
 }
 
-/* The threads that wait. Who gives something back makes no atomic exchange for them: it stores what it gives back, and then loads
-   how many wait. So that one of the two sees the other, who begins to wait has all threads pass a memory barrier. */
+/* The threads that wait. A thread that gives something back makes no atomic exchange for them: it stores what it gives back, and then
+   loads how many wait. So that one of the two sees the other, a thread that begins to wait has all threads pass a memory barrier. */
 class waiters {
 public:
     /* Wakes a thread that waits for one thing, if there is one, and those that wait for all: after something was given back, by a
@@ -81,7 +75,7 @@ public:
         changed.notify_all();
     }
 
-    /* Waits until this is so, or the time is over. Where the system has no such barrier a thread looks again each millisecond. No two
+    /* Waits until this is so, or the time is over. If the system has no such barrier a thread looks again each millisecond. No two
        threads look at the same time. */
     template <class Condition>
     void wait(const deadline &until, const Condition &is_so) {
@@ -192,7 +186,7 @@ class lending {
 public:
     using place_type = place<Handle>;
 
-    /* Keeps handles of one set: those that are open, and of the set of the first of them. The others stay in the vector. Where there is
+    /* Keeps handles of one set: those that are open, and of the set of the first of them. The others stay in the vector. If there is
        no memory for their places all do. */
     void keep(std::vector<Handle> &handles) {
         std::size_t kept = 0;
@@ -220,14 +214,14 @@ public:
     const shared_shape &opened_with() const noexcept { return opened; }
     std::size_t number_of(const place_type *place) const noexcept { return static_cast<std::size_t>(place - places.get()); }
 
-    /* A free handle, which is lent now, or none where each was lent at a moment of the call, or none is to be lent. */
+    /* A free handle, which is lent now, or none if each was lent at a moment of the call, or none is to be lent. */
     place_type *take() noexcept {
         std::size_t last = lent_last;
         if (last < lends.load(std::memory_order_relaxed) && places[last].take()) return &places[last];
         return take_another(last);
     }
 
-    /* The same as soon as there is one, or none where the time is over first, or there are no handles any more. */
+    /* The same as soon as there is one, or none if the time is over first, or there are no handles any more. */
     place_type *take(const deadline &until) {
         place_type *taken = nullptr;
         waiting.wait(until, [&] { return (taken = take()) || handles() == 0; });
@@ -264,20 +258,45 @@ public:
 
     /* Lets the handles go on over a fresh set of this shape, once all loans are back, if they are before the time is over. */
     result<void> renew(const shape &wanted, const deadline &until) {
-        return renew_by(wanted, until, [&](std::size_t all, const auto &nth) { return Handle::renew_all(all, nth, wanted); });
+        return renew_by(renewed(), wanted, until, renewal_to(wanted));
     }
 
-    /* The same by this renewal, which is given how many handles there are, and each by its number. */
+    /* How often it was renewed: of a thread with a loan, which no renewal overtakes, it is the number of the one that it is of. */
+    std::size_t renewed() const noexcept { return renewals.load(std::memory_order_relaxed); }
+
+    /* The same if it was renewed that often: any later renewal serves. */
+    result<void> renew_once(std::size_t before, const shape &wanted) {
+        return renew_unless([&] { return renewed() != before; }, wanted, std::nullopt, renewal_to(wanted));
+    }
+
+    /* Whether a thread renews, or waits until it may. */
+    bool is_renewing() const noexcept { return lends.load(std::memory_order_relaxed) == 0; }
+
+    /* The same by this renewal, which is given how many handles there are, and each by its number; unless it was renewed to this shape since
+       there were so many renewals. */
     template <class Renewal>
-    result<void> renew_by(const shape &wanted, const deadline &until, const Renewal &renews) {
+    result<void> renew_by(std::size_t before, const shape &wanted, const deadline &until, const Renewal &renews) {
+        return renew_unless([&] { return renewed() != before && opened.is(wanted); }, wanted, until, renews);
+    }
+
+private:
+    static auto renewal_to(const shape &wanted) noexcept {
+        return [&wanted](std::size_t all, const auto &nth) { return Handle::renew_all(all, nth, wanted); };
+    }
+
+    /* The same unless another thread has done it, as far as `is_done` says while no renewal is under way. */
+    template <class Done, class Renewal>
+    result<void> renew_unless(const Done &is_done, const shape &wanted, const deadline &until, const Renewal &renews) {
         if (!is_in_range(wanted)) return refusal::bad_shape;
         renewal mine(*this);
-        const std::size_t before = renewals.load(std::memory_order_relaxed);
         bool is_done_by_another = false;
         waiting.wait_for_all(until, [&] {
-            bool no_other_has_its_turn = lends.load(std::memory_order_acquire) > 0;
-            is_done_by_another = no_other_has_its_turn && renewals.load(std::memory_order_relaxed) != before && opened.is(wanted);
-            return is_done_by_another || handles() == 0 || mine.takes_all();
+            const bool no_other_has_its_turn = lends.load(std::memory_order_acquire) > 0;
+            is_done_by_another = no_other_has_its_turn && is_done();
+            if (is_done_by_another || handles() == 0) return true;
+            if (!mine.takes_all()) return false;
+            is_done_by_another = is_done(); // another one may have ended just before
+            return true;
         });
         if (is_done_by_another) return result<void>(std::in_place);
         if (handles() == 0) return refusal::no_handle;
@@ -291,7 +310,6 @@ public:
         return told;
     }
 
-private:
     template <class Number>
     std::int64_t sum_of(const Number &number) const noexcept {
         std::int64_t sum = 0;
@@ -299,7 +317,7 @@ private:
         return sum;
     }
 
-    /* Makes the keys those of the balances, by one store, so that no return changes them: where all handles are with this thread. */
+    /* Makes the keys those of the balances, by one store, so that no return changes them: while all handles are with this thread. */
     void recount() noexcept {
         auto keys = [](const place_type &each) { return each.keys.load(std::memory_order_relaxed); };
         auto balance = [](const place_type &each) { return each.handle.balance(); };
@@ -308,7 +326,7 @@ private:
         for (std::size_t i = 0; i < handles(); i++) places[i].carried = keys(places[i]) - balance(places[i]);
     }
 
-    /* A renewal: where it has its turn it lends no handle, and takes each that is free. At its end all are lent again. */
+    /* A renewal: while it has its turn it lends no handle, and takes each that is free. At its end all are lent again. */
     struct renewal {
         explicit renewal(lending &lender) noexcept : of(lender) {}
         renewal(const renewal &) = delete;
@@ -370,7 +388,7 @@ private:
     }
 
     std::atomic<std::size_t> count{0};
-    std::atomic<std::size_t> lends{0}; /* of so many one may be lent: all, and none while they are renewed */
+    std::atomic<std::size_t> lends{0}; /* how many handles may be lent: all, or 0 during a renewal */
     std::atomic<std::size_t> renewals{0};
     std::atomic<std::size_t> withheld{0}; /* so many, the first ones, are with whoever takes all of them, and on loan to nobody */
     shared_shape opened;
@@ -380,8 +398,11 @@ private:
 
 } // namespace detail
 
-/* A handle on loan, or none; its end gives it back, in whatever thread. It is tested by `if (loan)`, and used as a pointer to the
-   handle's pass, which makes all calls and doesn't close.
+/* A handle on loan. It goes back at the end of this, in whatever thread, and what was done with it comes before what the next borrower
+   does.
+
+   It has the handle's pass, which makes all calls and doesn't close. So the handle stays where it is. There may be none: it is tested by
+   `if (loan)`, and used as a pointer to the pass.
 
        vbr::loan mine = lender.lend();
        if (!mine) { // all are lent at the moment */
@@ -410,8 +431,8 @@ public:
     pass_type &operator*() const noexcept { return place->handle; }
     pass_type *operator->() const noexcept { return &place->handle; }
 
-    /* The number of the handle, below lender.handles(): for data that lies beside each handle. No other loan has this number
-       meanwhile.
+    /* The number of the handle, from 0 on and below the number of handles: for data that lies beside each handle. No other loan has this
+       number meanwhile.
 
            beside[mine.number()]++; // nobody else writes it meanwhile */
     std::size_t number() const noexcept { return owner->number_of(place); }
@@ -449,23 +470,31 @@ public:
     basic_lender(basic_lender &&) noexcept = default;
     basic_lender &operator=(basic_lender &&) noexcept = default;
 
-    /* Keeps open handles of one set. Where there is no memory for the lender they stay where they are.
+    /* Keeps open handles of one set. If there is no memory for the lender, they stay where they are.
 
            vbr::lender lender(vbr::open(shape, 3).value()); */
     explicit basic_lender(std::vector<Handle> &&handles) : all(std::make_shared<lending>()) { all->keep(handles); }
 
-    /* A free handle, or none where each was lent at a moment of the call, or the set is being renewed. It tries each handle at most
-       once.
+    /* Lends a free handle, as vbr_lend does. Returns the handle, or none if each was lent at some moment of the call, or they are being
+       renewed.
+
+       It takes no lock and no memory. It tries each handle at most once, so it never waits.
+
+       It begins with the handle that this thread was lent last, by any lender. If that is free, a loan and its return are one atomic
+       exchange on a word that other threads don't write. If there are no more threads than handles, each comes to have its own.
 
            vbr::loan mine = lender.lend(); */
     loan_type lend() noexcept { return loan_type(all.get(), taken()); }
 
-    /* A free handle, as soon as there is one; none if the lender has no handles, or is closed meanwhile.
+    /* Lends a free handle as soon as there is one: if each is lent, the thread sleeps until one is given back.
+
+       A thread that has a loan itself may wait for ever. Threads that wait have no order: one that comes later may be lent a handle
+       before. It lends none if the lender has no handles, or is closed meanwhile.
 
            vbr::loan waited = lender.lend_wait(); */
     loan_type lend_wait() { return loan_type(all.get(), awaited()); }
 
-    /* The same, or none where each was lent until the time was over.
+    /* Lends a free handle, as `lend_wait` does, or none if each was lent until the time was over.
 
            vbr::loan in_time = lender.lend_for(10ms); */
     template <class Rep, class Period>
@@ -473,8 +502,8 @@ public:
         return loan_type(all.get(), taken_within(limit));
     }
 
-    /* Loans that keep the handles, and so may outlive the lender: for tasks. Beside the loan they cost two atomic additions on a
-       word that all threads share.
+    /* The loan keeps the handles, so it may outlive what lent it: for tasks. Beside the loan it costs two atomic additions on a word that
+       all threads share.
 
            vbr::owned_loan task = lender.lend_owned_wait(); */
     owned_loan_type lend_owned() noexcept { return owned_loan_type(all, taken()); }
@@ -484,45 +513,51 @@ public:
         return owned_loan_type(all, taken_within(limit));
     }
 
-    /* How many handles it lends: 0 where it has none, and when they are closed.
+    /* How many handles it lends: 0 if it has none, and once they are closed.
 
            std::vector<int> beside(lender.handles()); */
     std::size_t handles() const noexcept { return all ? all->handles() : 0; }
 
-    /* How many handles are on loan. It looks at each once, one after another. So while others borrow and give back the number is of no
-       one moment: a handle is counted if it was on loan when it was looked at. It is exact if nobody does so meanwhile, and then 0 after
-       the last return. Handles that a renewal or a close has aren't counted, but one may be that it is just taking. The call takes a
-       load for each handle, and orders nothing.
+    /* Returns how many handles are on loan, as vbr_lender_on_loan does. It is that number, exact if nobody borrows or gives back
+       meanwhile, and 0 after the last return. Else it is of no one moment: the call looks at each handle once, one after another, and a
+       handle is counted if it was on loan when it was looked at. It takes a load for each handle, and orders nothing.
+
+       A handle that a renewal has isn't counted, unless a thread tried to borrow it just as the renewal took it.
 
            std::size_t out = lender.on_loan(); // 3: mine, waited and task */
     std::size_t on_loan() const noexcept { return all ? all->on_loan() : 0; }
 
-    /* How many keys are in, about: what the handles have added, less what they took out, as each was given back last. It is exact if no
-       handle is on loan during the call. Else it is off by at most the updates of some loans: by one for each of their calls that added a
-       key or took one out. These are the loans that began during the call, or weren't given back before it by the program's own
-       synchronisation. It is the number of keys if the lender has all handles of the set, and goes on over its renewals. It takes a load
-       for each handle, from a cache line that a return writes if the loan changed how many keys there are. It orders nothing, is never
-       negative, and 0 for a lender without handles.
+    /* Returns how many keys are in, about, as vbr_lender_count_about does. It is what the handles have added, less what they took out, as
+       each was given back last; never a negative number. It is exact if no handle is on loan during the call. Else it is off by at most
+       the updates of some loans: by one for each of their calls that added a key or took one out. These are the loans that began during
+       the call, or weren't given back before it by the program's own synchronisation. It takes a load for each handle, from a cache line
+       that a return writes if the loan changed how many keys there are. It orders nothing.
+
+       It is the number of keys if the lender has all handles of the set. It goes on over renewals by vbr_lender_renew. A lender without
+       handles has 0.
 
            std::int64_t about = lender.count_about(); // 1: all loans are back, and one has added 5 */
     std::int64_t count_about() const noexcept { return all ? all->count_about() : 0; }
 
-    /* What the set was opened with; 0 where it was given no handle.
+    /* What the set was opened with; 0 if it was given no handle.
 
            if (lender.slots() != shape.slots || lender.buckets() != shape.buckets) return 1; */
     std::uint32_t slots() const noexcept { return all ? all->opened_with().slots() : 0; }
     std::uint32_t buckets() const noexcept { return all ? all->opened_with().buckets() : 0; }
     std::uint64_t last_epoch() const noexcept { return all ? all->opened_with().last_epoch() : 0; }
 
-    /* Lets the handles go on over a fresh set of this shape, with the keys that were in it, or the entries: at epoch 1, and larger
-       where there are to be more of them. It lends none meanwhile, and waits until all loans are back, so a thread that has one itself
-       waits for ever. The fresh set is opened before the other one is given up. Unless it is done all is as it was, and it lends
-       again. Where another thread renews to the same shape while this one waits, one renewal serves both.
+    /* Lets the handles go on over a fresh set of this shape, as vbr_renew_all does, once none is on loan (vbr_lender_renew).
+
+       It lends none meanwhile, and waits for the loans, so a thread that has one itself waits for ever. Threads that wait for a handle
+       keep waiting. A refusal leaves the set as it was, and it lends again.
+
+       If another thread renews to the same shape while this one waits, one renewal serves both. So each thread may ask for one if a call
+       was refused since the last epoch is spent, once it has no loan.
 
            vbr::result<void> renewed = lender.renew(shape); */
     result<void> renew(const shape &wanted) { return all ? all->renew(wanted, std::nullopt) : refusal::no_handle; }
 
-    /* The same, or refused with on_loan where not all loans were back until the time was over.
+    /* The same, or refused with on_loan if not all loans were back when the time was over.
 
            vbr::result<void> in_vain = lender.renew_for(shape, 10ms); // refusal::on_loan: a loan is still out */
     template <class Rep, class Period>
@@ -530,8 +565,8 @@ public:
         return all ? all->renew(wanted, detail::after(limit)) : refusal::no_handle;
     }
 
-    /* Closes all handles and gives the report, or none of them: where one is on loan or they are being renewed, and where there is no
-       memory for the report, it lends on. There is no report where handles of the set that it wasn't given are open.
+    /* Closes all handles and gives the report, or none of them: if one is on loan or they are being renewed, or there is no memory for the
+       report, it lends on. There is no report if handles of the set that it wasn't given are open.
 
            std::optional<vbr::report> report = lender.close().value(); */
     result<std::optional<typename Handle::report_type>> close() {
@@ -550,6 +585,8 @@ private:
     friend class records;
     template <class Key, class Value, class Hash>
     friend class record_map;
+    template <class Self, class Of>
+    friend class basic_sharded;
     using place_type = typename lending::place_type;
     place_type *taken() noexcept { return all ? all->take() : nullptr; }
 
@@ -567,7 +604,7 @@ private:
     shared_lending all;
 };
 
-/* Those of plain numbers: of a set, and of a map.
+/* Aliases for std::uint64_t, of a set and of a map.
 
        vbr::lender lender(vbr::open(shape, 3).value());
        vbr::map_loan mine = sessions.lend(); */

@@ -1,27 +1,28 @@
-/* A map with keys and values of any size, in fixed memory, for C++17 and later: the map of vbr.hpp, and beside each of its slots a record
-   of vbr_records.hpp, which has the value, and the key if that has more than 64 bits.
+/* A map with keys and values of any size, in fixed memory, and without a lock. It is a map of numbers of 64 bits, and beside each of its
+   slots a record, which has the value, and the key if that has more than 64 bits. The two are those of vbr.hpp and of vbr_records.hpp.
+   This header is for C++17 and later.
+
+   A key of at most 64 bits is kept as it is. Of any other the map keeps 64 bits of its hash, and the record has the key, with which each
+   call compares. Two keys with one hash aren't in the map at the same time: a call that would add the second one is refused, and no call
+   gives the answer of one for the other. The hash has a key that is drawn, unless the program gives another hash, so nobody outside can
+   choose keys that share it, or a bucket. Of n keys any two have one hash with a probability below n^2 / 2^65: 3 in a hundred million
+   with a million keys. A key is trivially copyable and compared by its bytes (vbr::is_by_bits). The second key with a hash is refused by
+   refusal::hash_taken. The usual hash is SipHash-1-3. Whoever can compute a hash can choose keys that share it.
+
+   A value is copied whole into a record that nobody else sees yet, and that record is never written again while the key has it. So a
+   reader waits for nobody, and gets a copy that is whole, and that the key had at a moment of the call. Each change is made at one
+   moment, of a value that was read: none is lost. Calls take no memory; an opening and a renewal do. A value is trivially copyable.
+
+   All calls give a vbr::result. Calls by a loan that has no handle are refused by refusal::no_handle. Each call of the map that they make
+   has the budget of the handle, which is that of the shape, or the ample one. vbr(3) says of out_of_steps, no_slot and epoch_spent when
+   they come, and what to do then: a program takes keys out, or renews the map. A refused call has changed nothing.
 
        using accounts = vbr::record_map<vbr::small_string<31>, account>;
        accounts map = accounts::open_for(1000, 8).value();           // for 1000 keys, and 8 threads at a time
        accounts::loan mine = map.lend_wait();                        // the right of this thread to make calls
        accounts::key_type who = accounts::key_type::from("ada").value(); // or refusal::too_long
        bool added = mine.insert(who, account{100, 1}).value();       // true: who was absent
-       std::optional<account> has = mine.get(who).value();           // a copy, whole
-
-   A key is trivially copyable and compared by its bytes (vbr::is_by_bits). If it has at most 64 bits the map keeps it as it is. Else the map
-   keeps 64 bits of its hash, and the record has the key, with which each look-up compares. Two keys with one hash aren't in the map at the
-   same time: a call that would add the second one is refused by refusal::hash_taken, and no call answers of one what is true of the other.
-   With the hash that is used unless another one is given, SipHash-1-3 with a key that the system draws, of n keys any two have one hash
-   with a probability of about n^2 / 2^65: of a million keys 3 in 100 million. Whoever can compute a hash can choose keys that share it, or
-   a bucket; with a drawn key nobody can.
-
-   A value is trivially copyable, of any size. It is copied whole into a record that nobody else sees yet, and that record is never written
-   again while the key has it. So a reader waits for nobody, and a copy is never of two values. Each change is at one moment, of a value
-   that was read: none is lost. Calls take no memory; an opening and a renewal do.
-
-   All calls give a vbr::result. Those of a loan that has no handle are refused by refusal::no_handle. Each call of the map that they make
-   has the budget of the handle, which is that of the shape, or the ample one. vbr(3) says of out_of_steps, no_slot and epoch_spent when
-   they come, and what to do then: a program takes keys out, or renews the map. A refused call has changed nothing. */
+       std::optional<account> has = mine.get(who).value();           // a copy, whole */
 #ifndef VBR_RECORD_MAP_HPP
 #define VBR_RECORD_MAP_HPP
 
@@ -36,12 +37,13 @@
 
 namespace vbr {
 
-/* A text of at most N bytes, N from 1 to 255, in N + 1 bytes: as a key, or as part of one. That of 7 bytes has 64 bits.
+/* A text of at most N bytes, N from 1 to 65,535, as a key, a value, or a part of one. It takes N + 1 bytes, and N + 2 if N is above 255.
+   A text of at most 7 bytes has 64 bits.
 
        accounts::key_type who = accounts::key_type::from("ada").value(); // or refusal::too_long */
 template <std::size_t N>
 class small_string {
-    static_assert(N >= 1 && N <= 255, "a small string has room for 1 to 255 bytes");
+    static_assert(N >= 1 && N <= 65535, "a small string has room for 1 to 65,535 bytes");
 
 public:
     /* The empty one.
@@ -56,14 +58,18 @@ public:
         if (from.size() > N) return refusal::too_long;
         small_string made;
         if (!from.empty()) std::memcpy(made.text, from.data(), from.size());
-        made.length = static_cast<unsigned char>(from.size());
+        for (std::size_t i = 0; i < sizeof made.length; i++) made.length[i] = static_cast<unsigned char>(from.size() >> 8 * i);
         return made;
     }
 
     /* Its bytes, where they lie.
 
            std::string_view name = who.view(); // for as long as who is there */
-    std::string_view view() const & noexcept { return {text, length}; }
+    std::string_view view() const & noexcept {
+        std::size_t size = 0;
+        for (std::size_t i = 0; i < sizeof length; i++) size |= std::size_t{length[i]} << 8 * i;
+        return {text, size};
+    }
     std::string_view view() const && = delete;
 
     friend bool operator==(const small_string &one, const small_string &other) noexcept { return one.view() == other.view(); }
@@ -72,8 +78,14 @@ public:
 
 private:
     char text[N] = {}; /* zeros after its bytes, so that equal ones have equal bytes */
-    unsigned char length = 0;
+    unsigned char length[N < 256 ? 1 : 2] = {}; /* from the low byte on, so that there is no padding */
 };
+
+/* Bytes, as a small_string has them: at most N, and any of them may be zero.
+
+       using pages = vbr::cache<std::uint64_t, vbr::small_bytes<4096>>; */
+template <std::size_t N>
+using small_bytes = small_string<N>;
 
 namespace detail {
 
@@ -163,8 +175,7 @@ private:
     detail::siphash key;
 };
 
-/* What `compute` is to do with a key: it keeps what it has, there or not; it gets this value, and is inserted if it is absent; or it is taken
-   out if it is there.
+/* What `compute` is to do with a key: it keeps what it has, there or not; it is put there with this value; or it is taken out if it is there.
 
        return there ? to::put({there->balance - 10, there->payments + 1}) : to::keep(); */
 template <class Value>
@@ -182,8 +193,8 @@ private:
     bool is_removal;
 };
 
-/* A key with its value as they were at one moment, and which entry that was: no other that the key ever has is taken for it, and after a
-   renewal none is it any more.
+/* A key with its value as they were at one moment, and which entry that was. No later entry of the key is taken for it, even with the
+   same value. After a renewal of the map all entries are others.
 
        while (std::optional<accounts::entry> seen = mine.get_entry(who).value()) // until no other thread was faster */
 template <class Key, class Value>
@@ -220,8 +231,8 @@ namespace detail {
 
 template <class Key, class Value, bool has_key>
 struct keyed_record {
-    Key key;
     Value value;
+    Key key;
 };
 
 template <class Key, class Value>
@@ -263,13 +274,16 @@ struct record_table {
     map_lender lender;
 };
 
+template <class Key, class Value, class Hash>
+struct cache_table; /* vbr_cache.hpp */
+
 template <class Key>
 using usual_hash = std::conditional_t<is_word<Key>, key_itself, keyed_hash<Key>>;
 
 } // namespace detail
 
-/* The right of one thread at a time to make calls on a record map, or none: a handle on loan, which goes back where this ends. It is tested
-   by `if (loan)`; without a handle its calls are refused by refusal::no_handle.
+/* A handle on loan from a record map, which makes all calls, or none; it goes back when this ends. It is tested by `if (loan)`; without a
+   handle its calls are refused by refusal::no_handle.
 
        accounts::loan mine = map.lend_wait(); */
 template <class Key, class Value, class Hash, class Owner>
@@ -282,9 +296,9 @@ public:
     using entry = record_entry<Key, Value>;
     using cursor = record_cursor;
     using change = vbr::change<Value>;
-    using found = result<std::optional<Value>>; /* the value that a key had; none where it was absent */
+    using found = result<std::optional<Value>>; /* the value that a key had; none if it was absent */
 
-    /* How often a call that changes a key begins anew where others were faster, before it is refused by refusal::out_of_steps.
+    /* How often a call that changes a key begins anew if others were faster, before it is refused by refusal::out_of_steps.
 
            static_assert(accounts::loan::most_attempts == 1000); */
     static constexpr int most_attempts = 1000;
@@ -306,7 +320,8 @@ public:
 
     explicit operator bool() const noexcept { return static_cast<bool>(handle); }
 
-    /* The value of a key: a copy, whole, of what it had at a moment of the call. It takes no slot, and all its steps are loads.
+    /* Looks a key up and gives its value, as vbr_map_get does. Returns its value if the key is there; none if it is absent. It leaves the
+       map as it was: its steps are loads. It takes no slot.
 
            std::optional<account> has = mine.get(who).value(); */
     found get(const Key &key) {
@@ -318,7 +333,7 @@ public:
         return std::optional<Value>(there.record.value);
     }
 
-    /* Its entry: the value, by which entry the key has it.
+    /* The value of a key, as `get` gives it, and which entry it is of.
 
            while (std::optional<accounts::entry> seen = mine.get_entry(who).value()) // until no other thread was faster */
     result<std::optional<entry>> get_entry(const Key &key) {
@@ -331,7 +346,8 @@ public:
         return std::optional<entry>(entry_of(key, word, there));
     }
 
-    /* Whether a key is there. If keys are hashed it costs a `get`.
+    /* Looks a key up without its value, as vbr_map_has does. Returns true if the key is there; false if it is absent. If keys are hashed
+       it costs a `get`.
 
            if (*mine.has(who)) there++; */
     result<bool> has(const Key &key) {
@@ -346,7 +362,8 @@ public:
         }
     }
 
-    /* Adds a key with its value: true if it was absent. Else its value stays.
+    /* Adds a key with its value, as vbr_map_insert does. Returns true if the key was absent, and is added; false if it was there, and
+       keeps the value that it has.
 
            bool added = mine.insert(who, account{100, 1}).value(); */
     result<bool> insert(const Key &key, const Value &value) {
@@ -355,37 +372,47 @@ public:
         return !*had;
     }
 
-    /* Gives a key this value, whether it was there or not, and returns the one that it had.
+    /* Gives a key this value, whether it is there or not, as vbr_map_put does. Returns the value that it had if the key was there, and
+       has the new value; none if it was absent, and is inserted.
 
            std::optional<account> before = mine.put(who, account{50, 2}).value(); // what who had */
     found put(const Key &key, const Value &value) {
         return change_by(key, [&](const std::optional<Value> &) { return change::put(value); });
     }
 
-    /* Gives a key that is there this value, and returns the one that it had; none, and nothing is changed, if it is absent.
+    /* Gives a key that is there another value, so that no call finds it absent meanwhile, as vbr_map_replace does. Returns the value that
+       it had if the key was there, and has the new value; none if it was absent, and nothing was changed.
 
            std::optional<account> replaced = mine.replace(who, account{40, 3}).value(); */
     found replace(const Key &key, const Value &value) {
         return change_by(key, [&](const std::optional<Value> &there) { return there ? change::put(value) : change::keep(); });
     }
 
-    /* Takes a key out, and returns its value.
+    /* Takes a key out with its value, as vbr_map_remove does. Returns the value of the entry that this call took if the key was there,
+       and is taken out; none if it was absent.
 
            std::optional<account> taken = mine.remove(who).value(); */
     found remove(const Key &key) {
         return change_by(key, [](const std::optional<Value> &) { return change::remove(); });
     }
 
-    /* Gives a key this value if it still has the very entry that was found, and else nothing is changed: true if it was done.
+    /* Gives a key this value if it still has the very entry that was read, and says whether it had; else nothing is changed. So no update
+       that came in between is lost.
+
+       An entry of another map, or from before a renewal, is none that the map has.
 
            if (mine.replace_entry(*seen, {seen->value().balance + 1, seen->value().payments + 1}).value()) break; */
     result<bool> replace_entry(const entry &found_before, const Value &value) {
         if (!handle) return refusal::no_handle;
         if (found_before.table != table->number) return false;
-        return publish(found_before.word, &found_before.at, record_of(found_before.key(), value));
+        return publish(found_before.word, &found_before.at, record_of(found_before.key(), value), [](std::uint32_t) {});
     }
 
-    /* Takes a key out if it still has the very entry that was found: true if it was done.
+    /* Takes a key out with its value if it still has the very entry that was found, as vbr_map_remove_entry does. Returns true if the key
+       had that entry, and is taken out. Returns false if it is absent, or was taken out and added again, or given a value, even the same
+       one, since then; nothing was changed.
+
+       An entry of another map, or from before a renewal, is none that the map has.
 
            if (mine.remove_entry(*still).value()) taken_out++; // nobody had changed it since it was found */
     result<bool> remove_entry(const entry &found_before) {
@@ -394,8 +421,11 @@ public:
         return handle->remove_entry(found_before.word, found_before.at);
     }
 
-    /* Does with a key what `ask` says of the value that it has, or of none, and returns that value: `keep`, `put` or `remove`. It is done
-       only if the key still has what `ask` was told of. Else `ask` is asked again, of what is there then, at most most_attempts times.
+    /* Does with a key what a function says of the value that it has, or of none, and returns that value.
+
+       The change is made only if the key still has what the function was given. Else it is called again, with what is there then. So each
+       call on a key is given what the one before it left, and no change is lost. `ask` says `keep`, `put` or `remove`. It is asked at
+       most most_attempts times.
 
            using to = accounts::change;
            std::optional<account> paid = mine.compute(who, pay_10).value(); // what it had before, whether it has paid or not */
@@ -404,8 +434,9 @@ public:
         return change_by(key, ask);
     }
 
-    /* The next entry of a walk, which the key had at a moment of the call; none at the end. A key that is there for the whole walk is given
-       once. After a renewal it is refused by refusal::reshaped. If a budget isn't enough, the cursor may have come further.
+    /* The next entry of a walk, a key with a value that it had at a moment of the call; none at the end. A key that is there for the
+       whole walk is given once. After a renewal it is refused by refusal::reshaped. If a budget isn't enough, the cursor may have come
+       further.
 
            vbr::record_cursor from; // before the first key
            while (std::optional<accounts::entry> next = mine.next(from).value()) sum += next->value().balance; */
@@ -431,7 +462,7 @@ public:
         }
     }
 
-    /* Goes over all entries by `next`, and calls `visit` with each. It goes on where a budget was spent and the walk has come further.
+    /* Goes over all entries by `next`, and calls `visit` with each. It goes on if a budget was spent and the walk has come further.
 
            vbr::result<void> walked = mine.for_each([&](const accounts::entry &each) { sum += each.value().balance; }); */
     template <class Visit>
@@ -461,6 +492,8 @@ public:
 private:
     template <class, class, class>
     friend class record_map;
+    template <class, class, class>
+    friend class cache_loan;
     basic_record_loan(const Owner &of, map_loan &&lent) noexcept : table(lent ? of : Owner()), handle(std::move(lent)) {}
 
     static bool is_of([[maybe_unused]] const seen &there, [[maybe_unused]] const Key &key) noexcept {
@@ -470,7 +503,7 @@ private:
 
     static record record_of([[maybe_unused]] const Key &key, const Value &value) noexcept {
         if constexpr (detail::is_word<Key>) return {value};
-        else return {key, value};
+        else return {value, key};
     }
 
     static Key key_of([[maybe_unused]] std::uint64_t word, [[maybe_unused]] const record &of) noexcept {
@@ -500,11 +533,14 @@ private:
         return handle->is_still(into.at);
     }
 
-    /* Makes a record that of a word, in place of the entry that was found there, or if none is there: true if it was done. */
-    result<bool> publish(std::uint64_t word, const map_incarnation *instead, const record &fresh) noexcept {
+    /* Makes a record that of a word, in place of the entry that was found there, or if none is there: true if it was done. Before, `marks` is
+       called with its slot, which is this loan's alone. */
+    template <class Marks>
+    result<bool> publish(std::uint64_t word, const map_incarnation *instead, const record &fresh, const Marks &marks) noexcept {
         result<map_held> slot = handle->hold();
         if (!slot.has_value()) return slot.error();
         table->of_slots.write(*slot, fresh);
+        marks(slot->number());
         return instead ? handle->replace(std::move(*slot), word, *instead, 0) : handle->insert(std::move(*slot), word, 0);
     }
 
@@ -525,7 +561,7 @@ private:
             if (!wanted.stored && (!wanted.is_removal || !before)) return before;
             if (*has_word && !before) return refusal::hash_taken;
             if (!handle || table->number != number) return refusal::no_handle;
-            result<bool> told = wanted.stored ? publish(word, before ? &there.at : nullptr, record_of(key, *wanted.stored))
+            result<bool> told = wanted.stored ? publish(word, before ? &there.at : nullptr, record_of(key, *wanted.stored), [](std::uint32_t) {})
                                               : handle->remove_entry(word, there.at);
             if (!told.has_value()) return told.error();
             if (*told) return before;
@@ -570,7 +606,7 @@ public:
 
     /* Opens an empty one of this shape with this many handles, from 1 to max_many_handles. It takes the memory of a map of this shape, and
        of a record for each slot: the value, and a key of more than 64 bits, in whole words of 8 bytes. It is refused as open_map_many is;
-       where a vector or the records find no memory it throws std::bad_alloc. A hash gives equal keys equal numbers, each time.
+       if a vector or the records find no memory it throws std::bad_alloc. A hash gives equal keys equal numbers, each time.
 
            accounts fixed = accounts::open(shape, 2, same_each_time).value(); */
     static result<record_map> open(const shape &wanted, std::size_t handles, const Hash &hash = Hash()) {
@@ -581,7 +617,7 @@ public:
         return made;
     }
 
-    /* The same for this many keys at one time, by shape::for_keys: no_slot comes where there are more. A full map takes a key out first.
+    /* The same for this many keys at one time, by shape::for_keys: no_slot comes if there are more. A full map takes a key out first.
 
            accounts map = accounts::open_for(1000, 8).value(); */
     static result<record_map> open_for(std::uint32_t keys, std::size_t handles, const Hash &hash = Hash()) {
@@ -598,7 +634,8 @@ public:
         return all ? loan(all.get(), all->lender.lend_for(limit)) : loan();
     }
 
-    /* Loans that may outlive the map, for tasks. They cost two atomic additions on a word that all threads share.
+    /* The loan keeps the handles, so it may outlive what lent it: for tasks. Beside the loan it costs two atomic additions on a word that
+       all threads share.
 
            accounts::owned_loan task = map.lend_owned(); */
     owned_loan lend_owned() noexcept { return all ? owned_loan(all, all->lender.lend()) : owned_loan(); }
@@ -608,13 +645,19 @@ public:
         return all ? owned_loan(all, all->lender.lend_for(limit)) : owned_loan();
     }
 
-    /* Lets the handles go on over a fresh map of this shape, with all keys and values, as the `renew` of a lender: it waits until all loans
-       are back, so a thread that has one itself waits for ever. It takes the memory of both, and where there is none all stays as it was.
+    /* Lets the handles go on over a fresh map of this shape, as vbr_map_renew_all does, once none is on loan (vbr_map_lender_renew).
+
+       It lends none meanwhile, and waits for the loans, so a thread that has one itself waits for ever. Threads that wait for a handle
+       keep waiting. A refusal leaves the set as it was, and it lends again.
+
+       If another thread renews to the same shape while this one waits, one renewal serves both. So each thread may ask for one if a call
+       was refused since the last epoch is spent, once it has no loan. Keys and values go along. It takes the memory of both maps, but of
+       records only if their number changes.
 
            vbr::result<void> renewed = map.renew(vbr::shape::for_keys(2000, 8)); */
     result<void> renew(const shape &wanted) { return renew_until(wanted, std::nullopt); }
 
-    /* The same, or refused by refusal::on_loan where not all loans were back until the time was over.
+    /* The same, or refused by refusal::on_loan if not all loans were back when the time was over.
 
            vbr::result<void> in_vain = map.renew_for(shape, 10ms); // refusal::on_loan: mine is out */
     template <class Rep, class Period>
@@ -637,14 +680,23 @@ public:
     std::size_t on_loan() const noexcept { return all ? all->lender.on_loan() : 0; }
 
 private:
+    template <class, class, class>
+    friend struct detail::cache_table;
+    template <class, class, class>
+    friend class cache_loan;
     result<void> renew_until(const shape &wanted, const detail::deadline &until) {
-        if (!all) return refusal::no_handle;
-        return all->lender.all->renew_by(wanted, until, [&](std::size_t count, const auto &nth) {
+        return all ? renew_since(lending().renewed(), wanted, until) : refusal::no_handle;
+    }
+
+    /* The same, unless it was renewed to this shape since there were so many renewals. */
+    result<void> renew_since(std::size_t before, const shape &wanted, const detail::deadline &until) {
+        return lending().renew_by(before, wanted, until, [&](std::size_t count, const auto &nth) {
             result<void> told = all->of_slots.template renew<map_handle>(count, nth, wanted);
             if (told) all->number = detail::number_of_table();
             return told;
         });
     }
+    auto &lending() const noexcept { return *all->lender.all; }
 
     std::shared_ptr<table_type> all;
 };

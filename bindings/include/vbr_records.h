@@ -16,7 +16,7 @@
 
    A reader copies a record, and then asks whether the slot is still the entry's own. If it isn't, it finds the key again. So it holds
    nobody up, takes no memory, and begins anew only if others took the entry out, or changed it, while it copied. Which record belongs to
-   which entry is proved for the calls of vbr.h; that copies are whole is argued, and this header is tested.
+   which entry is proved for the calls of vbr.h; that copies are whole is argued, and tested.
 
    The words of records are atomic: a writer stores each with release, and a reader loads each with acquire. That costs nothing on x86-64.
    Fences would do too, but ThreadSanitizer doesn't know them. What the first comment of vbr.h says of calls holds of these. It is written
@@ -38,8 +38,8 @@
 #define VBR_RECORDS_AS(type, pointer) ((type)(pointer))
 #endif
 
-/* A record for each slot of a set or a map. All zero: none. Many threads may use it at a time. While one thread opens, closes or renews
-   it, no other uses it.
+/* A record for each slot of a set or a map. All zero: none. Many threads may use it at a time. While one thread opens, moves, closes
+   or renews it, no other uses it.
 
        static vbr_records accounts; */
 typedef struct vbr_records {
@@ -104,7 +104,7 @@ VBR_NONNULL static inline void vbr_records_close(vbr_records *records) VBR_NOEXC
 
 /* Writes the record of a held slot.
    Parameters: records.
-   - slot: one that the caller has in hand. It may be written several times, until an entry is made of it, and never after that.
+   - slot: one that the caller has in hand. Its record may be written several times, until an entry is made of it, and never after that.
    - data: as many bytes as a record has.
    Returns: nothing.
    Leaves: the record for whoever finds the entry that is then made of the slot.
@@ -124,14 +124,15 @@ VBR_NONNULL static inline void vbr_records_write(vbr_records *records, uint32_t 
     __atomic_store_n(to, word, __ATOMIC_RELEASE);
 }
 
-/* Copies the record of a slot.
+/* Copies the record of a slot, as it is, for a loop of your own.
    Parameters: records.
-   - slot: any slot. For a held one the copy is what was written. For any other it counts for nothing until vbr_is_still or
-     vbr_map_is_still has said yes to the entry that was found there before. Until then it may mix two records: follow no pointer and
-     no index in it. vbr_records_read and its kin do all that.
+   - slot: any slot.
    - data: where the copy is written, as many bytes as a record has.
    Returns: nothing.
    Leaves: the record as it was.
+   Notes: The copy counts for nothing until vbr_is_still or vbr_map_is_still has said yes to the entry that was found there before.
+   Until then it may mix two records: follow no pointer and no index in it. vbr_records_read does all that. Of a held slot the copy is
+   what was written.
 
        vbr_records_copy(&accounts, at.slot, &seen);
        if (vbr_map_is_still(&map[1], &at) == VBR_YES) copied++; // else it was changed meanwhile: find the key again */

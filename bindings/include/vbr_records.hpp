@@ -1,20 +1,28 @@
-/* Records beside the entries of a set or a map, one for each slot, for C++17 and later: for values of any size, in fixed memory.
+/* Records beside the entries of a set or a map, one for each slot: for values of any size, in fixed memory.
+
+   A record is written while its slot is held, and then never again, so an entry has one record for as long as it is there. To change the
+   record of a key, hold another slot, write the whole record there, and put that slot in place of the entry that was read, by
+   vbr_map_replace_held. The old record stays as it is for those who still read it. Nobody frees it: it goes where its slot goes.
+
+   A reader copies a record, and then asks whether the slot is still the entry's own. If it isn't, it finds the key again. So it holds
+   nobody up, takes no memory, and begins anew only if others took the entry out, or changed it, while it copied. Which record belongs to
+   which entry is proved; that copies are whole is argued, and tested.
+
+   The words of records are atomic: a writer stores each with release, and a reader loads each with acquire. That costs nothing on x86-64.
+   This header is for C++17 and later.
 
        vbr::records<account> accounts(mine.slots());
        vbr::map_held slot = mine.hold().value();                     // the slot is this handle's alone
        accounts.write(slot, account{"somebody", 100});               // and so is its record
        bool added = mine.insert(std::move(slot), 5, 0).value();      // true: both are those of key 5
-       auto there = accounts.read(other, 5).value();                 // there->record is that record, whole; there->at is its entry
-
-   A record is written while its slot is held, and then never again. To change the record of a key, hold another slot, write the whole
-   record there, and put that slot in the place of the entry that was read, by `replace`. Nobody frees a record: it goes where its slot
-   goes. vbr_records.h says more, and vbr.hpp has the calls. */
+       auto there = accounts.read(other, 5).value();                 // there->record is that record, whole; there->at is its entry */
 #ifndef VBR_RECORDS_HPP
 #define VBR_RECORDS_HPP
 
 #include "vbr.hpp"
 #include "vbr_records.h"
 
+#include <algorithm>
 #include <cstddef>
 #include <cstdint>
 #include <memory>
@@ -35,8 +43,8 @@ struct basic_record {
     basic_incarnation<Value> at;
 };
 
-/* A record for each slot of a set or a map. A record is copied byte by byte. Many threads may use them at a time; one that no other is
-   beside moves, ends or renews them.
+/* A record for each slot of a set or a map. Many threads may use it at a time. While one thread opens, moves, closes or renews it, no
+   other uses it. A record is copied byte by byte.
 
        vbr::records<account> accounts(mine.slots()); */
 template <class Record>
@@ -44,8 +52,8 @@ class records {
     static_assert(std::is_trivially_copyable_v<Record>, "a record is copied byte by byte");
 
 public:
-    /* Records of zeros, one for each of these slots, which are those of the set. It takes memory, and throws std::bad_alloc where there
-       is none.
+    /* Opens records, one for each slot of a set or a map, as vbr_records_open does. It leaves the records, of zeros. It takes memory, and
+       throws std::bad_alloc if there is none.
 
            vbr::records<account> accounts(mine.slots()); */
     explicit records(std::uint32_t slots) {
@@ -59,7 +67,7 @@ public:
         return *this;
     }
 
-    /* Writes the record of a slot that is held: as often as it is wanted, and not after the slot was published.
+    /* Writes the record of a held slot, as vbr_records_write does.
 
            accounts.write(slot, account{"somebody", 100}); */
     template <class Kind>
@@ -67,9 +75,11 @@ public:
         if (slot.is_held()) vbr_records_write(&raw, slot.number(), std::addressof(record));
     }
 
-    /* The record of a key, as it was written before it was published, and its entry, which was there at a moment of the call; none where
-       the key is absent. It looks up, copies, and asks, and does so again only where the slot was handed out anew while it copied. Each
-       look-up has the budget of the pass. All its steps are loads.
+    /* Reads the record of a key of a set, as vbr_records_read does. Returns its record if the entry was there at a moment of the call,
+       with this record, whole; none if the key is absent. It leaves the set as it was: all its steps are loads.
+
+       It looks up, copies, and asks. It does so again only if the slot was handed out anew while it copied. Each look-up has the budget
+       of the handle.
 
            auto there = accounts.read(mine, 6).value(); */
     template <class Kind>
@@ -87,8 +97,10 @@ public:
         }
     }
 
-    /* The record of a slot as it is. It may be a copy of two until `is_still` of the entry that was found there before says yes: follow
-       no pointer and no index that is in it. `read` does all that.
+    /* Copies the record of a slot, as it is, for a loop of your own (vbr_records_copy).
+
+       The copy counts for nothing until vbr_is_still has said yes to the entry that was found there before. Until then it may mix two
+       records: follow no pointer and no index in it. vbr_records_read does all that.
 
            account copy = accounts.copy(*at); */
     template <class Value>
@@ -96,9 +108,9 @@ public:
         return room(raw, at.slot()).record;
     }
 
-    /* Renews a set or a map by all its handles, as their `renew_all` does, and carries the records over to the slots that the entries have
-       then. Else all stays as it was. It takes memory for both, for a report and for 4 bytes of each slot; where a vector finds none it
-       throws std::bad_alloc.
+    /* Renews a set by vbr_renew_all and carries its records over to the slots that its keys have then, as vbr_records_renew_all does. It
+       leaves what vbr_renew_all leaves; a refusal leaves the records as they were too. It takes memory for a report, for 4 bytes of each
+       slot, and for both records, unless the slots stay as many; if a vector finds none, it throws std::bad_alloc.
 
            vbr::result<void> renewed = accounts.renew_all(both, vbr::shape::for_keys(2048, 2)); */
     template <class Handle>
@@ -110,14 +122,16 @@ public:
         return renew_all(handles, wanted);
     }
 
-    /* Renews the handles of a lender so, as its `renew` does, once all loans are back. Where a program renews by the records alone, no
-       entry is without its own. Records are read and written with a loan in hand.
+    /* Renews a set whose handles are lent, as its `renew` does, and carries the records over, as `renew_all` of records does.
+
+       While a program renews by its records alone, no entry is without its own. Records are read and written with a loan in hand.
 
            vbr::result<void> renewed = accounts.renew(lender, vbr::shape::for_keys(2048, 2)); */
     template <class Handle>
     result<void> renew(basic_lender<Handle> &of, const shape &wanted) {
         if (!of.all) return refusal::no_handle;
-        return of.all->renew_by(wanted, std::nullopt, [&](std::size_t count, const auto &nth) { return renew<Handle>(count, nth, wanted); });
+        return of.all->renew_by(of.all->renewed(), wanted, std::nullopt,
+                                [&](std::size_t count, const auto &nth) { return renew<Handle>(count, nth, wanted); });
     }
 
 private:
@@ -125,10 +139,17 @@ private:
     friend class record_map;
     template <class Key, class Value, class Hash, class Owner>
     friend class basic_record_loan;
+    template <class Key, class Value, class Hash>
+    friend class cache_loan;
     template <class Handle, class Nth>
     result<void> renew(std::size_t count, const Nth &nth, const shape &wanted) {
         result<std::vector<std::uint32_t>> slots = Handle::report_slots(count, nth);
         if (!slots.has_value()) return slots.error();
+        if (wanted.slots == raw.slots) {
+            result<void> renewed = Handle::renew_all(count, nth, wanted);
+            if (renewed.has_value()) carry(*slots);
+            return renewed;
+        }
         if (wanted.slots - 1 >= max_slots) return refusal::bad_shape;
         records fresh(wanted.slots);
         result<void> renewed = Handle::renew_all(count, nth, wanted);
@@ -137,6 +158,16 @@ private:
             fresh.raw = {};
         }
         return renewed;
+    }
+
+    /* Carries records to the first slots, in this order, within the memory that they have. A record that is in the way changes places
+       with the one that comes. */
+    void carry(const std::vector<std::uint32_t> &slots) noexcept {
+        for (std::size_t to = 0; to < slots.size(); to++) {
+            std::size_t from = slots[to];
+            while (from < to) from = slots[from]; // it was in the way
+            std::swap_ranges(raw.words + to * raw.each, raw.words + (to + 1) * raw.each, raw.words + from * raw.each);
+        }
     }
 
     [[noreturn, gnu::cold]] static void out_of_memory() {

@@ -1,5 +1,6 @@
-/* Sets and maps that processes share. Any of the processes may be killed or stopped, at any moment, and the others go on. A process
-   opens a set, and forks. Each makes calls by a handle of its own, and the handle of a dead one goes to another.
+/* Sets and maps that processes share. Any of the processes may be killed or stopped, at any moment, and the others go on, in the same time
+   and with right answers. A process opens a set, and forks. Each makes calls by a handle of its own, and the handle of a dead one goes to
+   another.
 
        vbr_shared_handle *handle;
        if (vbr_open_shared(&handle, 3, 1024 + 3 * 64 + 4 * 66, 1024, VBR_MAX_EPOCH, NULL, 0) != VBR_OK) return 1;
@@ -15,12 +16,14 @@
        vbr_answer told = vbr_inherit(&handle[1]);            // VBR_YES: handle[1] is whole, for the next child
 
    All that the library keeps for a set lies in one mapping, at one address in all these processes: its words, what its handles own,
-   and the handles. The others go on in the same time and with right answers. A call in which a process dies was made, or it wasn't.
-   The calls on keys are those of vbr.h, which are proved. The ones below are tested, and why the others go on is argued. vbr(3) says
-   who does what, and what isn't mended.
+   and the handles. A call in which a process dies was made, or it wasn't. The calls on keys, which are those of vbr.h, are proved.
+   The others are tested, and why the processes go on is argued. vbr(3) says who does what, and what isn't mended.
 
    At most one process, and one thread of it, uses a handle at a time. A process that isn't forked from one that has the mapping can't use
-   it. It is written for GCC and Clang under Linux, in C99 to C23 and C++11 to C++23. */
+   it. The memory is freed with the last process that has it. A process that is killed while it opens, reports on, renews, closes or
+   unmaps a set may leave it torn, and one that writes to memory that isn't its own may write to the set.
+
+   It is written for GCC and Clang under Linux, in C99 to C23 and C++11 to C++23. */
 #ifndef VBR_SHARED_H
 #define VBR_SHARED_H
 

@@ -1,5 +1,15 @@
-/* Sets and maps that processes share, for C++17 and later: the calls of vbr_shared.h, with the passes of vbr.hpp. A process opens a set,
-   and forks. Each makes calls by a handle of its own. Any of them may be killed at any moment, and the others go on.
+/* Sets and maps that processes share. Any of the processes may be killed or stopped, at any moment, and the others go on, in the same
+   time and with right answers. A process opens a set, and forks. Each makes calls by a handle of its own, and the handle of a dead one
+   goes to another.
+
+   All that the library keeps for a set lies in one mapping, at one address in all these processes: its words, what its handles own, and
+   the handles. A call in which a process dies was made, or it wasn't. The calls on keys are proved. The others are tested, and why the
+   processes go on is argued.
+
+   At most one process, and one thread of it, uses a handle at a time. A process that isn't forked from one that has the mapping can't use
+   it. The memory is freed with the last process that has it. A process that is killed while it opens, reports on, renews, closes or
+   unmaps a set may leave it torn, and one that writes to memory that isn't its own may write to the set. This header is for C++17 and
+   later.
 
        vbr::shared_map sessions = vbr::open_map_shared(vbr::shape_for_processes(1024, 3, 4), 3).value();
        pid_t child = fork();
@@ -12,16 +22,9 @@
        waitpid(child, nullptr, 0);                             // it has ended, or was killed
        bool is_whole = sessions.inherit(1).value();            // false: it died in a turn; handle 1 is for the next child
 
-   The handles lie in the mapping that the processes share. A program has claims of them. A claim owns nothing, so it closes nothing
-   where it ends, in a process that was forked with it either. Calls are made by a turn, which sets the mark by which `inherit` knows
-   that a process died in a call. There is no other way to make one, so no program leaves the mark out.
-
-   The object has the mapping of its own process, and its end takes the mapping out of that process alone. A child that leaves by exit,
-   by an exception or from main ends its copy of the object, and the others, the opener among them, keep the set. A child that leaves by
-   _exit ends no object, which does no harm. The memory is freed with the last process that has it. A killed process ends nothing.
-
-   At most one process, and one thread of it, has a turn of a handle. A thread that has a turn doesn't fork, unless the child calls exec
-   or _exit, since both would end the turn. vbr(3) says who does what, how many slots a death costs, and what isn't mended. */
+   A child that leaves by exit, by an exception or from main ends its copy of the object; one that leaves by _exit, or is killed, ends none,
+   which does no harm. A thread that has a turn doesn't fork, unless the child calls exec or _exit, since both would end the turn. vbr(3)
+   says who does what, how many slots a death costs, and what isn't mended. */
 #ifndef VBR_SHARED_HPP
 #define VBR_SHARED_HPP
 
@@ -40,8 +43,7 @@ namespace vbr {
        shape.slots += 4 * vbr::slots_of_a_death; */
 inline constexpr std::uint32_t slots_of_a_death = 66;
 
-/* The shape for this many keys at one time and this many handles, where so many processes may die in a turn between two renewals:
-   shape::for_keys, and slots_of_a_death for each.
+/* shape::for_keys, and slots_of_a_death more for each of so many processes that may die in a turn between two renewals.
 
        vbr::shared_map sessions = vbr::open_map_shared(vbr::shape_for_processes(1024, 3, 4), 3).value(); */
 constexpr shape shape_for_processes(std::uint32_t keys, std::size_t handles, std::uint32_t deaths) noexcept {
@@ -115,7 +117,7 @@ class basic_shared;
 
 /* The pass of a claim, with the mark set while it lives: for one call, or for several. It makes all calls of a pass, and is neither
    moved nor closed. A process that is killed in it loses at most slots_of_a_death slots, and one that is killed between two turns loses
-   none; so it is kept as short as the calls are. A renewal and a report want that no process is in one.
+   none. So keep it as short as the calls are. A renewal and a report want that no process is in one.
 
        auto turn = mine.turn();                            // a call is under way from here to the end of the turn */
 template <class Pass>
@@ -172,8 +174,8 @@ public:
            beside[mine.number()]++; // no other process writes it meanwhile */
     std::size_t number() const noexcept { return its_number; }
 
-    /* Marks that a call is under way, until the turn ends, and gives the pass that makes calls. Both are a store to memory that no other
-       process writes. A turn without a name lasts to the end of its line.
+    /* Begins a turn, in which the handle makes a call, or several. It marks the handle by a plain store, and its end clears the mark by
+       another. It has the pass that makes the calls. A turn without a name lasts to the end of its line.
 
            if (mine.turn().get(7).value() != 70u) return 1; // one call */
     turn_type turn() noexcept { return turn_type(of); }
@@ -194,8 +196,14 @@ private:
     std::size_t its_number = 0;
 };
 
-/* A set or a map that this process shares with those that are forked from now on, or none. It is moved, and never copied. Its end takes
-   the mapping out of this process, where no thread has a turn by then, and out of no other.
+/* A set or a map that processes share, or none. It is moved, and never copied. No thread has a turn when it ends.
+
+   The handles lie in the mapping that the processes share. A process *claims* a handle, and makes calls by it in *turns*. A claim owns
+   nothing, so its end closes nothing, nor does that of its copy in a forked process. A turn sets the mark by which `inherit` knows
+   whether a process died in a call. There is no other way to make a call, so no program leaves the mark out.
+
+   The end of this takes the mapping out of this process, and out of no other: a forked process may end its own copy, or leave without
+   that.
 
        vbr::shared_set jobs = vbr::open_shared(shape, 3).value(); */
 template <class Pass>
@@ -260,14 +268,14 @@ public:
            for (std::size_t i = 1; i < sessions.handles(); i++) balance += sessions.claim(i).turn().balance(); */
     std::size_t handles() const noexcept { return count; }
 
-    /* The right to make calls by a handle, which the caller alone has. Where there is no such handle the claim is empty.
+    /* The right to make calls by a handle, which the caller alone has. The claim is empty if there is no such handle.
 
            vbr::map_claim mine = sessions.claim(1);            // the right to make calls by handle 1 */
     claim_type claim(std::size_t number) const noexcept { return number < count ? claim_type(all + number, number) : claim_type(); }
 
-    /* Takes over the handle of a process that is dead, by vbr_inherit; then it may be claimed anew. True: the process died in no turn.
-       False: it died in one, and at most slots_of_a_death slots are lost until the next renewal. It is refused with no_handle where there
-       is no such handle, too.
+    /* Takes over the handle of a process that is dead, as waitpid has reported (vbr_inherit). Returns true if no call was under way, and
+       the handle is as the last call left it, with its slots; false if a call was under way, which was made or it wasn't. Then it may be
+       claimed anew. It is refused with no_handle if there is no such handle, too.
 
            bool is_whole = sessions.inherit(1).value();            // false: it died in a turn; handle 1 is for the next child */
     result<bool> inherit(std::size_t number) noexcept {
@@ -275,10 +283,10 @@ public:
         return detail::yes_or_no(vbr_inherit(all + number));
     }
 
-    /* Lets all handles go on over a fresh set of this shape, by vbr_renew_shared. Any process does it, while no process is in a turn; see to
-       that first. All go on with the claims that they have. It is refused with bad_shape, as of open; no_handle; on_loan, where a handle
-       is marked, by a turn or since a process died in one and nobody has inherited it; no_room or no_memory. The mapping has room for the
-       shape of the opening.
+    /* Lets all handles go on over a fresh set of this shape with the keys that are there, or over a fresh map, as vbr_renew_all does
+       (vbr_renew_shared). Any process does it, while no process is in a turn; see to that first. All go on with the claims that they
+       have. It is refused with bad_shape, as of open; no_handle; on_loan, if a handle is marked, by a turn or since a process died in one
+       and nobody has inherited it; no_room or no_memory. The mapping has room for the shape of the opening.
 
            vbr::result<void> renewed = sessions.renew(shape); // no slot is lost any more */
     result<void> renew(const shape &wanted) noexcept {
@@ -345,7 +353,7 @@ private:
 template <class Of>
 using shared = basic_shared<typename Of::pass>;
 
-/* Those of plain numbers.
+/* Aliases for std::uint64_t.
 
        vbr::shared_set jobs = vbr::open_shared(shape, 3).value();
        vbr::claim worker = jobs.claim(2); */
@@ -355,7 +363,7 @@ using claim = shared_set::claim_type;
 using shared_map = shared<map<>>;
 using map_claim = shared_map::claim_type;
 
-/* Opens an empty set that this process shares with those that are forked from now on.
+/* Opens a set in memory that this process shares with those that are forked from now on, as vbr_open_shared does. It is empty.
 
        vbr::shared_set jobs = vbr::open_shared(shape, 3).value(); */
 inline result<shared_set> open_shared(const shape &wanted, std::size_t count) { return shared_set::open(wanted, count); }
@@ -372,7 +380,7 @@ result<shared_set> open_shared_with(const shape &wanted, std::size_t count, cons
     return shared_set::open_with(wanted, count, keys);
 }
 
-/* Opens a set in a file, of these keys, which may be none.
+/* Opens a set in a file, as vbr_open_shared does otherwise (vbr_open_shared_in). There may be no keys.
 
        auto by_name = vbr::open_shared_in(file, shape, 2); */
 inline result<shared_set> open_shared_in(int file, const shape &wanted, std::size_t count, const std::uint64_t *keys = nullptr,
@@ -380,7 +388,7 @@ inline result<shared_set> open_shared_in(int file, const shape &wanted, std::siz
     return shared_set::open_in(file, wanted, count, keys, key_count);
 }
 
-/* Opens an empty map that this process shares with those that are forked from now on.
+/* Opens a map in memory that this process shares with those that are forked from now on, as vbr_map_open_shared does. It is empty.
 
        vbr::shared_map sessions = vbr::open_map_shared(vbr::shape_for_processes(1024, 3, 4), 3).value(); */
 inline result<shared_map> open_map_shared(const shape &wanted, std::size_t count) { return shared_map::open(wanted, count); }
@@ -397,7 +405,7 @@ result<shared_map> open_map_shared_with(const shape &wanted, std::size_t count, 
     return shared_map::open_with(wanted, count, entries);
 }
 
-/* Opens a map in a file, of these entries, which may be none.
+/* Opens a map in a file, as vbr_map_open_shared does otherwise (vbr_map_open_shared_in). There may be no entries.
 
        auto by_name = vbr::open_map_shared_in(file, shape, 2); */
 inline result<shared_map> open_map_shared_in(int file, const shape &wanted, std::size_t count, const entry *entries = nullptr,

@@ -3,6 +3,7 @@
 
        vbr_stats told = vbr_stats_of(handle, 8); // of all eight handles
        printf("%llu refused for want of steps\n", (unsigned long long)told.out_of_steps);
+       printf("%llu traversals begun anew\n", (unsigned long long)told.restarts);
 
    A count lies in a line of the cache that is the handle's own, and one call writes it by one store: no thread waits for another. There
    are such lines for 1,024 handles, by their address, from a handle's first call to the end of the program. So a handle that is moved
@@ -26,18 +27,21 @@ extern "C" {
 #define VBR_STATS_BYTES(pointer) ((const char *)(pointer))
 #endif
 
-/* How many calls got each answer. VBR_NO_HANDLE is counted by `no_handle`, and the others by the counters of their names.
+/* How many calls got each answer: VBR_NO_HANDLE is counted by `no_handle`, and the others by the counters of their names. Then what
+   interference has cost them, as vbr_restarts, vbr_helps and vbr_advances say, which begins anew with a renewal. At last how many slots
+   lie in the pool that all handles share, as vbr_free_about says; that is 0 but in what vbr_stats_seen_by returns.
 
        uint64_t calls = told.yes + told.no, refused = told.out_of_steps + told.no_slot; */
 typedef struct vbr_stats {
     uint64_t yes, no, other, out_of_steps, no_slot, epoch_spent, held, reshaped, no_handle;
+    uint64_t restarts, helps, advances, free_about;
 } vbr_stats;
 
 /* The counts of a handle, and those of the handles that have no line. It is no part of the interface. */
 typedef struct vbr_stats_line {
     const void *handle;
     vbr_stats counts;
-    char after[48];
+    char after[16];
 } vbr_stats_line;
 #define VBR_STATS_LINES 1024u
 __attribute__((weak, aligned(128))) vbr_stats_line vbr_stats_lines[VBR_STATS_LINES + 1];
@@ -73,13 +77,30 @@ static inline uint64_t *vbr_stats_counter(vbr_stats *counts, vbr_answer answer) 
     }
 }
 
-/* Counts an answer of a call by this handle, and returns it. Only the thread that has the handle writes its line.
-   It is no part of the interface. */
-static inline vbr_answer vbr_stats_counts(const void *handle, vbr_answer answer) VBR_NOEXCEPT {
+/* Counts an answer of a call by this handle, and writes down what interference has cost its calls. Only the thread that has the handle
+   writes its line; in the one that several share, the answers alone are counted. It is no part of the interface. */
+static inline void vbr_stats_notes(const void *handle, vbr_answer answer, uint64_t restarts, uint64_t helps, uint64_t advances) VBR_NOEXCEPT {
     vbr_stats_line *line = vbr_stats_line_of(handle, 1);
     uint64_t *counter = vbr_stats_counter(&line->counts, answer);
-    if (line == &vbr_stats_lines[VBR_STATS_LINES]) __atomic_fetch_add(counter, 1, __ATOMIC_RELAXED);
-    else __atomic_store_n(counter, __atomic_load_n(counter, __ATOMIC_RELAXED) + 1, __ATOMIC_RELAXED);
+    if (line == &vbr_stats_lines[VBR_STATS_LINES]) {
+        __atomic_fetch_add(counter, 1, __ATOMIC_RELAXED);
+        return;
+    }
+    __atomic_store_n(counter, __atomic_load_n(counter, __ATOMIC_RELAXED) + 1, __ATOMIC_RELAXED);
+    __atomic_store_n(&line->counts.restarts, restarts, __ATOMIC_RELAXED);
+    __atomic_store_n(&line->counts.helps, helps, __ATOMIC_RELAXED);
+    __atomic_store_n(&line->counts.advances, advances, __ATOMIC_RELAXED);
+}
+
+/* Counts an answer of a call by this handle, and returns it. It is no part of the interface. */
+static inline vbr_answer vbr_stats_counts(const vbr_handle *handle, vbr_answer answer) VBR_NOEXCEPT {
+    vbr_stats_notes(handle, answer, vbr_restarts(handle), vbr_helps(handle), vbr_advances(handle));
+    return answer;
+}
+
+/* The same of a handle to a map. It is no part of the interface. */
+static inline vbr_answer vbr_stats_map_counts(const vbr_map_handle *handle, vbr_answer answer) VBR_NOEXCEPT {
+    vbr_stats_notes(handle, answer, vbr_map_restarts(handle), vbr_map_helps(handle), vbr_map_advances(handle));
     return answer;
 }
 
@@ -93,11 +114,14 @@ static inline void vbr_stats_adds(vbr_stats *sum, const vbr_stats_line *line) VB
     sum->held += __atomic_load_n(&line->counts.held, __ATOMIC_RELAXED);
     sum->reshaped += __atomic_load_n(&line->counts.reshaped, __ATOMIC_RELAXED);
     sum->no_handle += __atomic_load_n(&line->counts.no_handle, __ATOMIC_RELAXED);
+    sum->restarts += __atomic_load_n(&line->counts.restarts, __ATOMIC_RELAXED);
+    sum->helps += __atomic_load_n(&line->counts.helps, __ATOMIC_RELAXED);
+    sum->advances += __atomic_load_n(&line->counts.advances, __ATOMIC_RELAXED);
 }
 
 /* Adds up the counts of `count` handles of either kind, which lie side by side from the first on. It is no part of the interface. */
 static inline vbr_stats vbr_stats_sum(const char *handles, size_t count) VBR_NOEXCEPT {
-    vbr_stats sum = {0, 0, 0, 0, 0, 0, 0, 0, 0};
+    vbr_stats sum = {0, 0, 0, 0, 0, 0, 0, 0, 0, 0, 0, 0, 0};
     for (size_t i = 0; i < count; i++) {
         const vbr_stats_line *line = vbr_stats_line_of(&handles[i * sizeof(vbr_handle)], 0);
         if (line != &vbr_stats_lines[VBR_STATS_LINES]) vbr_stats_adds(&sum, line);
@@ -120,11 +144,31 @@ VBR_NODISCARD VBR_NONNULL static inline vbr_stats vbr_map_stats_of(const vbr_map
     return vbr_stats_sum(VBR_STATS_BYTES(handles), count);
 }
 
+/* Returns the counts of `count` handles, added up, with how many slots lie in the pool that they share, which a handle of the caller's
+   counts; others may be in calls meanwhile.
+
+       vbr_stats seen = vbr_stats_seen_by(&handle[0], handle, 2); // seen.free_about slots lie in the shared pool */
+VBR_NODISCARD VBR_NONNULL static inline vbr_stats vbr_stats_seen_by(const vbr_handle *mine, const vbr_handle *handles, size_t count) VBR_NOEXCEPT {
+    vbr_stats told = vbr_stats_of(handles, count);
+    told.free_about = vbr_free_about(mine);
+    return told;
+}
+
+/* Returns the counts of handles to a map, as vbr_stats_seen_by does for a set.
+
+       vbr_stats seen = vbr_map_stats_seen_by(&map[0], map, 1); // seen.advances + 1 is the epoch of a map with one handle */
+VBR_NODISCARD VBR_NONNULL static inline vbr_stats vbr_map_stats_seen_by(const vbr_map_handle *mine, const vbr_map_handle *handles,
+                                                                        size_t count) VBR_NOEXCEPT {
+    vbr_stats told = vbr_map_stats_of(handles, count);
+    told.free_about = vbr_map_free_about(mine);
+    return told;
+}
+
 /* Returns the counts of all handles of the program, added up. A shared object that hides its symbols has counts of its own.
 
        vbr_stats all = vbr_stats_of_all(); // of sets and maps */
 VBR_NODISCARD static inline vbr_stats vbr_stats_of_all(void) VBR_NOEXCEPT {
-    vbr_stats sum = {0, 0, 0, 0, 0, 0, 0, 0, 0};
+    vbr_stats sum = {0, 0, 0, 0, 0, 0, 0, 0, 0, 0, 0, 0, 0};
     for (size_t i = 0; i <= VBR_STATS_LINES; i++) vbr_stats_adds(&sum, &vbr_stats_lines[i]);
     return sum;
 }
@@ -159,64 +203,69 @@ VBR_NODISCARD static inline vbr_answer vbr_stats_next_within(vbr_handle *handle,
 
 VBR_NODISCARD static inline vbr_answer vbr_stats_map_insert_within(vbr_map_handle *handle, uint64_t key, uint64_t value,
                                                                    uint32_t steps) VBR_NOEXCEPT {
-    return vbr_stats_counts(handle, vbr_map_insert_within(handle, key, value, steps));
+    return vbr_stats_map_counts(handle, vbr_map_insert_within(handle, key, value, steps));
 }
 
 VBR_NODISCARD static inline vbr_answer vbr_stats_map_remove_within(vbr_map_handle *handle, uint64_t key, uint64_t *value,
                                                                    uint32_t steps) VBR_NOEXCEPT {
-    return vbr_stats_counts(handle, vbr_map_remove_within(handle, key, value, steps));
+    return vbr_stats_map_counts(handle, vbr_map_remove_within(handle, key, value, steps));
 }
 
 VBR_NODISCARD static inline vbr_answer vbr_stats_map_get_within(vbr_map_handle *handle, uint64_t key, uint64_t *value,
                                                                 uint32_t steps) VBR_NOEXCEPT {
-    return vbr_stats_counts(handle, vbr_map_get_within(handle, key, value, steps));
+    return vbr_stats_map_counts(handle, vbr_map_get_within(handle, key, value, steps));
 }
 
 VBR_NODISCARD static inline vbr_answer vbr_stats_map_replace_within(vbr_map_handle *handle, uint64_t key, uint64_t value,
                                                                     uint64_t *there, uint32_t steps) VBR_NOEXCEPT {
-    return vbr_stats_counts(handle, vbr_map_replace_within(handle, key, value, there, steps));
+    return vbr_stats_map_counts(handle, vbr_map_replace_within(handle, key, value, there, steps));
 }
 
 VBR_NODISCARD static inline vbr_answer vbr_stats_map_put_within(vbr_map_handle *handle, uint64_t key, uint64_t value,
                                                                 uint64_t *there, uint32_t steps) VBR_NOEXCEPT {
-    return vbr_stats_counts(handle, vbr_map_put_within(handle, key, value, there, steps));
+    return vbr_stats_map_counts(handle, vbr_map_put_within(handle, key, value, there, steps));
+}
+
+VBR_NODISCARD static inline vbr_answer vbr_stats_map_fetch_add_within(vbr_map_handle *handle, uint64_t key, uint64_t delta,
+                                                                      uint64_t *there, uint32_t steps) VBR_NOEXCEPT {
+    return vbr_stats_map_counts(handle, vbr_map_fetch_add_within(handle, key, delta, there, steps));
 }
 
 VBR_NODISCARD static inline vbr_answer vbr_stats_map_get_or_insert_within(vbr_map_handle *handle, uint64_t key, uint64_t value,
                                                                           uint64_t *there, uint32_t steps) VBR_NOEXCEPT {
-    return vbr_stats_counts(handle, vbr_map_get_or_insert_within(handle, key, value, there, steps));
+    return vbr_stats_map_counts(handle, vbr_map_get_or_insert_within(handle, key, value, there, steps));
 }
 
 VBR_NODISCARD static inline vbr_answer vbr_stats_map_compare_exchange_within(vbr_map_handle *handle, uint64_t key,
                                                                              uint64_t expected, uint64_t value, uint64_t *there,
                                                                              uint32_t steps) VBR_NOEXCEPT {
-    return vbr_stats_counts(handle, vbr_map_compare_exchange_within(handle, key, expected, value, there, steps));
+    return vbr_stats_map_counts(handle, vbr_map_compare_exchange_within(handle, key, expected, value, there, steps));
 }
 
 VBR_NODISCARD static inline vbr_answer vbr_stats_map_remove_if_within(vbr_map_handle *handle, uint64_t key, uint64_t expected,
                                                                       uint64_t *there, uint32_t steps) VBR_NOEXCEPT {
-    return vbr_stats_counts(handle, vbr_map_remove_if_within(handle, key, expected, there, steps));
+    return vbr_stats_map_counts(handle, vbr_map_remove_if_within(handle, key, expected, there, steps));
 }
 
 VBR_NODISCARD static inline vbr_answer vbr_stats_map_has_within(vbr_map_handle *handle, uint64_t key, uint32_t steps) VBR_NOEXCEPT {
-    return vbr_stats_counts(handle, vbr_map_has_within(handle, key, steps));
+    return vbr_stats_map_counts(handle, vbr_map_has_within(handle, key, steps));
 }
 
 static inline void vbr_stats_map_has_all_within(vbr_map_handle *handle, const uint64_t *keys, size_t count, vbr_answer *answers,
                                                 uint32_t steps) VBR_NOEXCEPT {
     vbr_map_has_all_within(handle, keys, count, answers, steps);
-    for (size_t i = 0; i < count; i++) (void)vbr_stats_counts(handle, answers[i]);
+    for (size_t i = 0; i < count; i++) (void)vbr_stats_map_counts(handle, answers[i]);
 }
 
 static inline void vbr_stats_map_get_all_within(vbr_map_handle *handle, const uint64_t *keys, size_t count, vbr_found *found,
                                                 uint32_t steps) VBR_NOEXCEPT {
     vbr_map_get_all_within(handle, keys, count, found, steps);
-    for (size_t i = 0; i < count; i++) (void)vbr_stats_counts(handle, found[i].answer);
+    for (size_t i = 0; i < count; i++) (void)vbr_stats_map_counts(handle, found[i].answer);
 }
 
 VBR_NODISCARD static inline vbr_answer vbr_stats_map_next_within(vbr_map_handle *handle, vbr_cursor *cursor, vbr_entry *entry,
                                                                  uint32_t steps) VBR_NOEXCEPT {
-    return vbr_stats_counts(handle, vbr_map_next_within(handle, cursor, entry, steps));
+    return vbr_stats_map_counts(handle, vbr_map_next_within(handle, cursor, entry, steps));
 }
 
 VBR_NODISCARD static inline vbr_answer vbr_stats_hold_within(vbr_handle *handle, uint32_t *slot, uint32_t steps) VBR_NOEXCEPT {
@@ -224,7 +273,7 @@ VBR_NODISCARD static inline vbr_answer vbr_stats_hold_within(vbr_handle *handle,
 }
 
 VBR_NODISCARD static inline vbr_answer vbr_stats_map_hold_within(vbr_map_handle *handle, uint32_t *slot, uint32_t steps) VBR_NOEXCEPT {
-    return vbr_stats_counts(handle, vbr_map_hold_within(handle, slot, steps));
+    return vbr_stats_map_counts(handle, vbr_map_hold_within(handle, slot, steps));
 }
 
 VBR_NODISCARD static inline vbr_answer vbr_stats_insert_held_within(vbr_handle *handle, uint64_t key, uint32_t steps) VBR_NOEXCEPT {
@@ -233,18 +282,18 @@ VBR_NODISCARD static inline vbr_answer vbr_stats_insert_held_within(vbr_handle *
 
 VBR_NODISCARD static inline vbr_answer vbr_stats_map_insert_held_within(vbr_map_handle *handle, uint64_t key, uint64_t value,
                                                                         uint32_t steps) VBR_NOEXCEPT {
-    return vbr_stats_counts(handle, vbr_map_insert_held_within(handle, key, value, steps));
+    return vbr_stats_map_counts(handle, vbr_map_insert_held_within(handle, key, value, steps));
 }
 
 VBR_NODISCARD static inline vbr_answer vbr_stats_map_replace_held_within(vbr_map_handle *handle, uint64_t key,
                                                                          const vbr_incarnation *at, uint64_t value,
                                                                          uint32_t steps) VBR_NOEXCEPT {
-    return vbr_stats_counts(handle, vbr_map_replace_held_within(handle, key, at, value, steps));
+    return vbr_stats_map_counts(handle, vbr_map_replace_held_within(handle, key, at, value, steps));
 }
 
 VBR_NODISCARD static inline vbr_answer vbr_stats_map_put_held_within(vbr_map_handle *handle, uint64_t key, uint64_t value,
                                                                      uint64_t *there, uint32_t steps) VBR_NOEXCEPT {
-    return vbr_stats_counts(handle, vbr_map_put_held_within(handle, key, value, there, steps));
+    return vbr_stats_map_counts(handle, vbr_map_put_held_within(handle, key, value, there, steps));
 }
 
 VBR_NODISCARD static inline vbr_answer vbr_stats_get_entry_within(vbr_handle *handle, uint64_t key, vbr_incarnation *at,
@@ -254,7 +303,7 @@ VBR_NODISCARD static inline vbr_answer vbr_stats_get_entry_within(vbr_handle *ha
 
 VBR_NODISCARD static inline vbr_answer vbr_stats_map_get_entry_within(vbr_map_handle *handle, uint64_t key, vbr_incarnation *at,
                                                                       uint32_t steps) VBR_NOEXCEPT {
-    return vbr_stats_counts(handle, vbr_map_get_entry_within(handle, key, at, steps));
+    return vbr_stats_map_counts(handle, vbr_map_get_entry_within(handle, key, at, steps));
 }
 
 VBR_NODISCARD static inline vbr_answer vbr_stats_remove_entry_within(vbr_handle *handle, uint64_t key, const vbr_incarnation *at,
@@ -264,7 +313,7 @@ VBR_NODISCARD static inline vbr_answer vbr_stats_remove_entry_within(vbr_handle 
 
 VBR_NODISCARD static inline vbr_answer vbr_stats_map_remove_entry_within(vbr_map_handle *handle, uint64_t key,
                                                                          const vbr_incarnation *at, uint32_t steps) VBR_NOEXCEPT {
-    return vbr_stats_counts(handle, vbr_map_remove_entry_within(handle, key, at, steps));
+    return vbr_stats_map_counts(handle, vbr_map_remove_entry_within(handle, key, at, steps));
 }
 
 VBR_NODISCARD static inline vbr_answer vbr_stats_next_at_within(vbr_handle *handle, vbr_cursor *cursor, uint64_t *key,
@@ -274,7 +323,7 @@ VBR_NODISCARD static inline vbr_answer vbr_stats_next_at_within(vbr_handle *hand
 
 VBR_NODISCARD static inline vbr_answer vbr_stats_map_next_at_within(vbr_map_handle *handle, vbr_cursor *cursor, uint64_t *key,
                                                                     vbr_incarnation *at, uint32_t steps) VBR_NOEXCEPT {
-    return vbr_stats_counts(handle, vbr_map_next_at_within(handle, cursor, key, at, steps));
+    return vbr_stats_map_counts(handle, vbr_map_next_at_within(handle, cursor, key, at, steps));
 }
 
 #undef vbr_insert_within
@@ -287,6 +336,7 @@ VBR_NODISCARD static inline vbr_answer vbr_stats_map_next_at_within(vbr_map_hand
 #undef vbr_map_get_within
 #undef vbr_map_replace_within
 #undef vbr_map_put_within
+#undef vbr_map_fetch_add_within
 #undef vbr_map_get_or_insert_within
 #undef vbr_map_compare_exchange_within
 #undef vbr_map_remove_if_within
@@ -317,6 +367,7 @@ VBR_NODISCARD static inline vbr_answer vbr_stats_map_next_at_within(vbr_map_hand
 #define vbr_map_get_within vbr_stats_map_get_within
 #define vbr_map_replace_within vbr_stats_map_replace_within
 #define vbr_map_put_within vbr_stats_map_put_within
+#define vbr_map_fetch_add_within vbr_stats_map_fetch_add_within
 #define vbr_map_get_or_insert_within vbr_stats_map_get_or_insert_within
 #define vbr_map_compare_exchange_within vbr_stats_map_compare_exchange_within
 #define vbr_map_remove_if_within vbr_stats_map_remove_if_within

@@ -80,7 +80,7 @@ static inline vbr_answer vbr_tsan_added(uint64_t key, vbr_answer answer) {
     return answer;
 }
 
-/* What comes before an answer that tells whether a key was there, and that a value was written beside it. */
+/* What comes before an answer that says whether a key was there, and that a value was written beside it. */
 static inline vbr_answer vbr_tsan_found(uint64_t key, vbr_answer answer) {
     if (answer == VBR_YES || answer == VBR_OTHER) __tsan_acquire(vbr_tsan_there(key));
     if (answer == VBR_NO) __tsan_acquire(vbr_tsan_gone(key));
@@ -129,7 +129,7 @@ static inline vbr_answer vbr_tsan_walked(vbr_cursor *cursor, uint64_t *key, vbr_
 #define VBR_TSAN_SIZE(size) ((long)(size))
 #endif
 
-/* What a call writes that may tell a report, whose items take so many bytes each. */
+/* What a call writes that may give a report, whose items take so many bytes each. */
 static inline vbr_answer vbr_tsan_reported(void *items, size_t size, vbr_report *report, vbr_answer answer) {
     if (answer == VBR_YES || answer == VBR_NO_ROOM) __tsan_write_range(report, sizeof *report);
     if (answer == VBR_YES && report->live > 0) __tsan_write_range(items, VBR_TSAN_SIZE(report->live * size));
@@ -196,6 +196,26 @@ VBR_NODISCARD static inline uint64_t vbr_tsan_seed(const vbr_handle *handle) VBR
 VBR_NODISCARD static inline int64_t vbr_tsan_balance(const vbr_handle *handle) VBR_NOEXCEPT {
     vbr_tsan_reads(handle->owned);
     return vbr_balance(handle);
+}
+
+VBR_NODISCARD static inline uint64_t vbr_tsan_restarts(const vbr_handle *handle) VBR_NOEXCEPT {
+    vbr_tsan_reads(handle->owned);
+    return vbr_restarts(handle);
+}
+
+VBR_NODISCARD static inline uint64_t vbr_tsan_helps(const vbr_handle *handle) VBR_NOEXCEPT {
+    vbr_tsan_reads(handle->owned);
+    return vbr_helps(handle);
+}
+
+VBR_NODISCARD static inline uint64_t vbr_tsan_advances(const vbr_handle *handle) VBR_NOEXCEPT {
+    vbr_tsan_reads(handle->owned);
+    return vbr_advances(handle);
+}
+
+VBR_NODISCARD static inline uint32_t vbr_tsan_free_about(const vbr_handle *handle) VBR_NOEXCEPT {
+    vbr_tsan_reads(handle->owned);
+    return vbr_free_about(handle);
 }
 
 VBR_NODISCARD static inline vbr_answer vbr_tsan_close(vbr_handle *handle, uint64_t *keys, size_t room,
@@ -298,6 +318,13 @@ VBR_NODISCARD static inline vbr_answer vbr_tsan_map_put_within(vbr_map_handle *h
     return vbr_tsan_given(there, vbr_tsan_found(key, vbr_map_put_within(handle, key, value, there, steps)));
 }
 
+VBR_NODISCARD static inline vbr_answer vbr_tsan_map_fetch_add_within(vbr_map_handle *handle, uint64_t key, uint64_t delta,
+                                                                     uint64_t *there, uint32_t steps) VBR_NOEXCEPT {
+    vbr_tsan_map_uses(handle);
+    vbr_tsan_changes(key);
+    return vbr_tsan_given(there, vbr_tsan_found(key, vbr_map_fetch_add_within(handle, key, delta, there, steps)));
+}
+
 VBR_NODISCARD static inline vbr_answer vbr_tsan_map_get_or_insert_within(vbr_map_handle *handle, uint64_t key, uint64_t value,
                                                                          uint64_t *there, uint32_t steps) VBR_NOEXCEPT {
     vbr_tsan_map_uses(handle);
@@ -376,6 +403,26 @@ VBR_NODISCARD static inline uint64_t vbr_tsan_map_seed(const vbr_map_handle *han
 VBR_NODISCARD static inline int64_t vbr_tsan_map_balance(const vbr_map_handle *handle) VBR_NOEXCEPT {
     vbr_tsan_reads(handle->owned);
     return vbr_map_balance(handle);
+}
+
+VBR_NODISCARD static inline uint64_t vbr_tsan_map_restarts(const vbr_map_handle *handle) VBR_NOEXCEPT {
+    vbr_tsan_reads(handle->owned);
+    return vbr_map_restarts(handle);
+}
+
+VBR_NODISCARD static inline uint64_t vbr_tsan_map_helps(const vbr_map_handle *handle) VBR_NOEXCEPT {
+    vbr_tsan_reads(handle->owned);
+    return vbr_map_helps(handle);
+}
+
+VBR_NODISCARD static inline uint64_t vbr_tsan_map_advances(const vbr_map_handle *handle) VBR_NOEXCEPT {
+    vbr_tsan_reads(handle->owned);
+    return vbr_map_advances(handle);
+}
+
+VBR_NODISCARD static inline uint32_t vbr_tsan_map_free_about(const vbr_map_handle *handle) VBR_NOEXCEPT {
+    vbr_tsan_reads(handle->owned);
+    return vbr_map_free_about(handle);
 }
 
 VBR_NODISCARD static inline vbr_answer vbr_tsan_map_close(vbr_map_handle *handle, vbr_entry *entries, size_t room,
@@ -580,6 +627,10 @@ VBR_NODISCARD static inline vbr_answer vbr_tsan_map_report_slots(vbr_map_handle 
 #define vbr_buckets vbr_tsan_buckets
 #define vbr_seed vbr_tsan_seed
 #define vbr_balance vbr_tsan_balance
+#define vbr_restarts vbr_tsan_restarts
+#define vbr_helps vbr_tsan_helps
+#define vbr_advances vbr_tsan_advances
+#define vbr_free_about vbr_tsan_free_about
 #define vbr_close vbr_tsan_close
 #define vbr_close_all vbr_tsan_close_all
 #define vbr_report_all vbr_tsan_report_all
@@ -592,6 +643,7 @@ VBR_NODISCARD static inline vbr_answer vbr_tsan_map_report_slots(vbr_map_handle 
 #define vbr_map_get_within vbr_tsan_map_get_within
 #define vbr_map_replace_within vbr_tsan_map_replace_within
 #define vbr_map_put_within vbr_tsan_map_put_within
+#define vbr_map_fetch_add_within vbr_tsan_map_fetch_add_within
 #define vbr_map_get_or_insert_within vbr_tsan_map_get_or_insert_within
 #define vbr_map_compare_exchange_within vbr_tsan_map_compare_exchange_within
 #define vbr_map_remove_if_within vbr_tsan_map_remove_if_within
@@ -605,6 +657,10 @@ VBR_NODISCARD static inline vbr_answer vbr_tsan_map_report_slots(vbr_map_handle 
 #define vbr_map_buckets vbr_tsan_map_buckets
 #define vbr_map_seed vbr_tsan_map_seed
 #define vbr_map_balance vbr_tsan_map_balance
+#define vbr_map_restarts vbr_tsan_map_restarts
+#define vbr_map_helps vbr_tsan_map_helps
+#define vbr_map_advances vbr_tsan_map_advances
+#define vbr_map_free_about vbr_tsan_map_free_about
 #define vbr_map_close vbr_tsan_map_close
 #define vbr_map_close_all vbr_tsan_map_close_all
 #define vbr_map_report_all vbr_tsan_map_report_all

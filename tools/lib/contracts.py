@@ -35,6 +35,7 @@ ON_SHARED_WORDS = {
         "read_all_as": "load",
     },
     "warming.rt": {"peek": "peek"},
+    "free_slots.rt": {"free_about": "peek"},
     "opening.rt": {"build": "split_seat"},
     "closing.rt": {"close": "load_new_seat join_seat"},
 }

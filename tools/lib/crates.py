@@ -1,4 +1,5 @@
 """The crates of this repository, as crates.txt lists them and their folders have them."""
+import hashlib
 import os
 import re
 
@@ -24,6 +25,10 @@ class Crate:
             for folder, folders, names in os.walk(f"{self.folder}/{part}"):
                 folders.sort()
                 yield from (f"{folder}/{name}" for name in sorted(names))
+
+    def texts(self):
+        """What its proof reads: the files, by their paths in it, and their texts."""
+        return [(os.path.relpath(path, self.folder), text_of(path)) for path in self.files()]
 
     def lines(self):
         return sum(text_of(it).count("\n") for it in self.files())
@@ -63,6 +68,17 @@ class Crate:
 def text_of(path):
     with open(path, encoding="utf-8", errors="replace") as it:
         return it.read()
+
+
+def sum_of(parts):
+    """A sum that tells whether something of this has changed."""
+    return hashlib.sha256("\0".join(map(str, parts)).encode()).hexdigest()
+
+
+def lines_of(crates):
+    """The lines of crates.txt that list these crates."""
+    names = {it.name for it in crates}
+    return "".join(it for it in text_of(f"{ROOT}/crates.txt").splitlines(True) if re.split("[ :]", it)[0] in names)
 
 
 def all_crates():

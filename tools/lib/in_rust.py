@@ -3,10 +3,10 @@ and in library.rs the declarations of the library, and which of its calls are th
 import glob
 import re
 
+from call_docs import IN_PLACE, MOST, renewed, with_docs
 from crates import ROOT, text_of
 from interface import name_of, text_of_kind, type_of
 
-MOST = 126  # columns of bindings/rust/rustfmt.toml
 TYPES = {"uint64_t": "u64", "size_t": "usize", "uint32_t": "u32", "int64_t": "i64", "int": "c_int", "vbr_answer": "i32", "vbr_entry": "Pair", "vbr_found": "Found"}
 TYPES.update({"vbr_handle": "Raw", "vbr_map_handle": "Raw", "vbr_shared_handle": "SharedRaw", "vbr_cursor": "Cursor", "vbr_incarnation": "Stands", "vbr_report": "ReportNumbers"})
 # The files, each with its source in bindings/interface, whose calls it has, and of which kind it is, if its source is for both.
@@ -64,9 +64,11 @@ def number(prototype):
 def source(prototypes, name, owner, kind=None):
     """A file of the crate: of its source, for a kind if that is for both."""
     of = {it[0]: it for it in prototypes}
-    text = re.sub(r"^    %number (\w+)", lambda it: number(of[f"vbr_{it[1]}"]), text_of_kind(text_of(f"{ROOT}/bindings/interface/{name}.rs.in"), kind), flags=re.M)
+    path = f"bindings/interface/{name}.rs.in"
+    text = with_docs(text_of_kind(text_of(f"{ROOT}/{path}"), kind), path)
+    text = re.sub(r"^    %number (\w+)", lambda it: number(of[f"vbr_{it[1]}"]), text, flags=re.M)
     first, rest = CALL.sub(lambda it: both_forms(it, owner), text).split("\n", 1)
-    return f"{first}\n// tools/interface makes this file of bindings/interface/{name}.rs.in.\n{rest}"
+    return f"{first}\n// tools/interface makes this file of {path}.\n{rest}"
 
 
 def in_rust(kind):
@@ -129,5 +131,7 @@ def library_rs(prototypes, others):
 def files(prototypes):
     """What is made of the crate, by its path."""
     made = {f"{ROOT}/bindings/rust/src/{name}.rs": source(prototypes, *of) for name, of in FILES.items()}
-    others = "\n".join(made[it] if it in made else text_of(it) for it in glob.glob(f"{ROOT}/bindings/rust/src/*.rs") if it != LIBRARY)
+    by_hand = {it: text_of(it) for it in sorted(glob.glob(f"{ROOT}/bindings/rust/src/*.rs")) if it != LIBRARY and it not in made}
+    made.update({it: renewed(text, it[len(ROOT) + 1 :]) for it, text in by_hand.items() if IN_PLACE.search(text)})
+    others = "\n".join({**by_hand, **made}.values())
     return {path[len(ROOT) + 1 :]: text for path, text in {**made, LIBRARY: library_rs(prototypes, others)}.items()}

@@ -220,9 +220,10 @@ def made(source):
     return "\n".join(text), calls
 
 
-def header_and_calls(name):
-    """A header, and its calls, from its source in bindings/interface."""
-    return made(text_of(f"{ROOT}/bindings/interface/{name}.in"))
+def header_and_calls(name, of_c=True):
+    """A header, and its calls, from its source in bindings/interface; or as the crate for Rust has them, without what is of C alone."""
+    source = text_of(f"{ROOT}/bindings/interface/{name}.in")
+    return made(re.sub("</?c>", "", source) if of_c else re.sub("<c>.*?</c>", "", source, flags=re.S))
 
 
 def prototypes(header):

@@ -1,5 +1,5 @@
 """Where the lemmas are: the files of proofs/ that were written by hand for lemmas, crate by crate, and what each says of
-itself in its first line. tools/lemmas prints them, docs/LEMMAS.md has them, and tools/docs-check sees that it does.
+itself in its first line. tools/lemmas prints them, and tools/docs-check judges the first lines.
 
 A file is listed in the place that `mod` lines give it. A file that has only such lines stands for the folder of its name. The
 folders in which the kit looks for the proof of a function aren't listed: they are named after the function."""
@@ -59,7 +59,7 @@ def faults():
 
 
 def listed(crate):
-    """The list of a crate, as a table of docs/LEMMAS.md."""
+    """The list of a crate, as rows of a table."""
     rows = []
     for file in files_of(crate):
         name = file.path.rsplit("/", 1)[-1]

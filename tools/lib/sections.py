@@ -41,9 +41,13 @@ def sections(comment):
     return found[""][0], {name: it for name, it in found.items() if name}
 
 
+def first_comment(header):
+    return re.match(r"/\*.*?\*/", header, re.S)[0]
+
+
 def parameters_said(headers):
     """What the first comments of headers say of parameters, by their names."""
-    found = [sections(re.match(r"/\*.*?\*/", it, re.S)[0])[1] for it in headers]
+    found = [sections(first_comment(it))[1] for it in headers]
     return {it: what for each in found for names, what in each.get("Parameters", ("", []))[1] for it in names}
 
 

@@ -3,19 +3,19 @@
 //!
 //!     cargo run --release --example limiter [careless]
 //!
-//! A map has for each client, in one value, the last window in which it made a request and how many were admitted in it. A
-//! request is admitted by `fetch_update`, which counts it, or finds that there were enough; so no two threads admit the same one
-//! of them. An entry is made by `get_or_insert` where a client comes for the first time.
+//! A map of records has for each client, by its name, the last window in which it made a request and how many were admitted in it. A
+//! request is admitted by `compute`, which counts it, or finds that there were enough; so no two threads admit the same one of
+//! them, also if a client comes for the first time.
 //!
 //! The program counts, for each client and each window, how many requests were admitted, over all threads: no more than
-//! `LIMIT`, and just as many where one was refused. A careless limiter, which gets the value and puts the next one, admits too
+//! `LIMIT`, and just as many where one was refused. A careless limiter, which gets the record and puts the next one, admits too
 //! many.
 #![allow(clippy::cast_possible_truncation, reason = "the numbers are small")]
 use std::error::Error;
 use std::sync::atomic::AtomicU32;
 use std::sync::atomic::Ordering::Relaxed;
 use std::thread;
-use vbr::{Map, MapHandle, Refusal, Shape};
+use vbr::{record, Change, RecordLent, RecordMap, RecordRefusal, Shape, SmallStr};
 
 const THREADS: usize = 4;
 const CLIENTS: u32 = 16;
@@ -28,29 +28,14 @@ const WINDOW: u32 = 4_096;
 const REQUESTS: u32 = 400_000;
 const WINDOWS: u32 = REQUESTS / WINDOW + 1;
 
-/// How many requests of a client were admitted in a window, which is the last one that it made any in.
-#[derive(Clone, Copy)]
-struct Usage {
-    window: u32,
-    count: u32,
-}
+type Client = SmallStr<16>;
 
-impl Usage {
-    fn of(value: u64) -> Usage {
-        Usage { window: (value >> 32) as u32, count: value as u32 }
-    }
-
-    fn value(self) -> u64 {
-        u64::from(self.window) << 32 | u64::from(self.count)
-    }
-
-    /// With one request more, which comes in this window, or is late for it; none if that is too many.
-    fn with_one(self, now: u32) -> Option<Usage> {
-        match self {
-            Usage { window, .. } if now > window => Some(Usage { window: now, count: 1 }),
-            Usage { count: LIMIT, .. } => None,
-            Usage { window, count } => Some(Usage { window, count: count + 1 }),
-        }
+record! {
+    /// How many requests of a client were admitted in a window, which is the last one that it made any in.
+    #[derive(Clone, Copy)]
+    struct Usage {
+        window: u32,
+        count: u32,
     }
 }
 
@@ -61,40 +46,39 @@ enum Verdict {
     Refused(u32),
 }
 
-/// The limiter, as one thread has it.
-struct Limiter(MapHandle);
-
-impl Limiter {
-    fn admit(&mut self, client: u64, now: u32) -> Result<Verdict, Refusal> {
-        loop {
-            let mut refused = None;
-            let count = |value| {
-                let there = Usage::of(value);
-                let next = there.with_one(now);
-                refused = next.is_none().then_some(Verdict::Refused(there.window));
-                next.map(Usage::value)
-            };
-            if let Some(before) = self.0.fetch_update(client, count)? {
-                return Ok(Verdict::Admitted(now.max(Usage::of(before).window)));
-            }
-            if let Some(verdict) = refused {
-                return Ok(verdict);
-            }
-            if self.0.get_or_insert(client, Usage { window: now, count: 1 }.value())?.is_none() {
-                return Ok(Verdict::Admitted(now));
-            }
-        }
-    }
-
-    /// The same with a step between, in which another thread may count.
-    fn admit_carelessly(&mut self, client: u64, now: u32) -> Result<Verdict, Refusal> {
-        let there = Usage::of(self.0.get(client)?.unwrap_or(0));
-        let Some(next) = there.with_one(now) else {
-            return Ok(Verdict::Refused(there.window));
+impl Usage {
+    /// What becomes of one request more, which comes in this window, or is late for it.
+    fn with_one(before: Option<Usage>, now: u32) -> (Change<Usage>, Verdict) {
+        let (window, count) = match before {
+            Some(Usage { window, count }) if now <= window => (window, count + 1),
+            _ => (now, 1),
         };
-        self.0.put(client, next.value())?;
-        Ok(Verdict::Admitted(next.window))
+        if count > LIMIT {
+            return (Change::Keep, Verdict::Refused(window));
+        }
+        (Change::Put(Usage { window, count }), Verdict::Admitted(window))
     }
+}
+
+type Limiter<'m> = RecordLent<'m, Client, Usage>;
+
+fn admit(limiter: &mut Limiter, client: Client, now: u32) -> Result<Verdict, RecordRefusal> {
+    let mut verdict = Verdict::Refused(now);
+    limiter.compute(client, |before| {
+        let (change, told) = Usage::with_one(before, now);
+        verdict = told;
+        change
+    })?;
+    Ok(verdict)
+}
+
+/// The same with a step between, in which another thread may count.
+fn admit_carelessly(limiter: &mut Limiter, client: Client, now: u32) -> Result<Verdict, RecordRefusal> {
+    let (change, verdict) = Usage::with_one(limiter.get(client)?, now);
+    if let Change::Put(usage) = change {
+        limiter.put(client, usage)?;
+    }
+    Ok(verdict)
 }
 
 /// How many requests of each client were admitted in each window, and how many were refused.
@@ -111,15 +95,15 @@ impl Counts {
     }
 
     /// Serves requests until there are none.
-    fn serve(&self, limiter: &mut Limiter, is_careless: bool) -> Result<(), Refusal> {
+    fn serve(&self, limiter: &mut Limiter, is_careless: bool) -> Result<(), Box<dyn Error + Send + Sync>> {
         loop {
             let request = self.begun.fetch_add(1, Relaxed);
             if request >= REQUESTS {
                 return Ok(());
             }
             let (client, now) = (client_of(request), request / WINDOW);
-            let admit = if is_careless { Limiter::admit_carelessly } else { Limiter::admit };
-            let (counts, window) = match admit(limiter, u64::from(client), now)? {
+            let admit = if is_careless { admit_carelessly } else { admit };
+            let (counts, window) = match admit(limiter, Client::new(&format!("client {client}"))?, now)? {
                 Verdict::Admitted(window) => (&self.admitted, window),
                 Verdict::Refused(window) => (&self.refused, window),
             };
@@ -151,12 +135,14 @@ fn client_of(request: u32) -> u32 {
 
 fn main() -> Result<(), Box<dyn Error>> {
     let is_careless = std::env::args().nth(1).is_some_and(|word| word == "careless");
-    let mut limiters: Vec<_> = Map::handles(Shape::for_keys(CLIENTS, THREADS))?.into_iter().map(Limiter).collect();
+    let clients: RecordMap<Client, Usage> = RecordMap::open(Shape::for_keys(CLIENTS, THREADS))?;
     let counts = Counts::new();
     thread::scope(|scope| {
-        let threads: Vec<_> = limiters.iter_mut().map(|limiter| scope.spawn(|| counts.serve(limiter, is_careless))).collect();
+        let serve = || counts.serve(&mut clients.lend_wait(), is_careless);
+        let threads: Vec<_> = (0..THREADS).map(|_| scope.spawn(serve)).collect();
         threads.into_iter().try_for_each(|thread| thread.join().expect("a thread that ends"))
-    })?;
+    })
+    .map_err(|why| why as Box<dyn Error>)?;
     let full = counts.check();
     assert!(full > 0 && full < (CLIENTS * WINDOWS) as usize);
     println!("limiter in Rust: passed, the limit was reached {full} times by {CLIENTS} clients in {WINDOWS} windows");

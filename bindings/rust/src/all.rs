@@ -9,8 +9,13 @@ use core::ptr::NonNull;
 
 /// Calls of all handles of a set, in any order. None of them is in a call meanwhile.
 impl<T: Kind> HandleOf<T> {
-    /// Reports what is in the set, as the close of its last handle does. The handles stay as they are, and go on. It takes
-    /// the memory of a close.
+    // %doc vbr_report_all: sentence leaves notes
+    /// Reports what is in a set by all handles that were opened with it.
+    ///
+    /// It leaves the handles as they were; they go on.
+    ///
+    /// It takes the memory of a close.
+    // %end
     ///
     /// ```
     /// # use vbr::{Handle, Set, Shape};
@@ -28,9 +33,17 @@ impl<T: Kind> HandleOf<T> {
         handles.report()
     }
 
-    /// Lets the handles go on over a fresh set of this shape, with the keys that were in it, or a map with the entries: at
-    /// epoch 1, and larger if you want more of them. The balance of the first handle is the number of keys then, and the
-    /// others' is 0. The fresh set is opened before the old one is given up, so it takes the memory of both and of a report.
+    // %doc vbr_renew_all: sentence leaves notes
+    /// Lets all handles of a set go on over a fresh one of this shape, with the keys that were in it.
+    ///
+    /// It leaves the set at epoch 1. The first handle's balance is the number of keys, and the others' is 0. Walks that have
+    /// begun are refused from then on, by [`WalkError::Reshaped`](crate::WalkError::Reshaped). Each handle has taken its
+    /// reserve. A refusal leaves the handles as they were, and they go on.
+    ///
+    /// It takes the memory of a report and of an opening with the keys while the old set is still there, whose memory is
+    /// freed afterwards.
+    // %end
+    ///
     /// It has the seed of the shape, or if the shape has none, the seed of the old set; likewise the handles' budgets. The
     /// shape's handle count is ignored: the handles that there are go on.
     ///
@@ -46,7 +59,7 @@ impl<T: Kind> HandleOf<T> {
     ///
     /// # Errors
     ///
-    /// [`RenewError`], and the handles stay as they were, and go on.
+    /// [`RenewError`].
     pub fn renew_all(handles: &mut [HandleOf<T>], shape: Shape) -> Result<(), RenewError> {
         shape.check_numbers()?;
         handles.renew(shape, None)
@@ -98,12 +111,12 @@ pub(crate) trait All<T: Kind> {
     fn renew(&mut self, shape: Shape, records: Option<&Words>) -> Result<(), RenewError> {
         let mut shared = self.shared()?;
         let Shape { slots, buckets, last_epoch, seed, steps, .. } = shape;
-        let copies = match records {
+        let stood = match records {
             // SAFETY: it is there while one of its handles is open, and these are.
-            Some(records) => self.slots_of_items(unsafe { shared.as_ref() }.slots).and_then(|slots| records.copies(&slots)),
+            Some(_) => self.slots_of_items(unsafe { shared.as_ref() }.slots),
             None => Some(Vec::new()),
         };
-        let copies = copies.ok_or(RenewError::Memory)?;
+        let mut stood = stood.ok_or(RenewError::Memory)?;
         let seed = seed.unwrap_or_else(|| self.at(0).seed());
         let told = self.with_raw(|all, count| {
             // SAFETY: these are all handles of the set or map, and nothing else has one of them.
@@ -112,7 +125,7 @@ pub(crate) trait All<T: Kind> {
         match told {
             code::DONE => {
                 if let Some(records) = records {
-                    records.put(&copies);
+                    records.bring(&mut stood);
                 }
                 // SAFETY: this thread has all handles that share it, so nothing else reaches it.
                 unsafe { shared.as_mut() }.slots = slots;

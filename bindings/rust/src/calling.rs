@@ -1,7 +1,8 @@
 //! Calls of a set or a map itself, each by a loan that it makes and gives back.
 use crate::records::Words;
 use crate::{
-    max_epoch, Bits, Change, Compared, Entries, Keys, Kind, OutOfSteps, PassOf, Refusal, Shape, Table, MAX_BUCKETS, MAX_SLOTS,
+    max_epoch, Bits, Change, Compared, Entries, Keys, Kind, OutOfSteps, PassOf, Refusal, RenewError, Shape, Table,
+    MAX_BUCKETS, MAX_SLOTS,
 };
 
 /// How far [`Table::call`] lets a set or a map grow.
@@ -70,7 +71,13 @@ impl Growth {
 /// A thread that has a loan itself, by a name or in a closure that is under way, may wait for ever. A thread that makes many calls
 /// one after the other keeps a loan for them: it is quicker.
 impl<T: Kind> Table<T> {
-    /// Whether a key is there, as [`PassOf::has`] answers it.
+    // %doc vbr_has: sentence returns
+    /// Looks a key up.
+    ///
+    /// Returns `true` if the key is there; `false` if it is absent.
+    // %end
+    ///
+    /// It is [`PassOf::has`](crate::PassOf::has), by a loan.
     ///
     /// ```
     /// # use vbr::{Set, Shape};
@@ -79,9 +86,11 @@ impl<T: Kind> Table<T> {
     /// # Ok::<(), Box<dyn std::error::Error>>(())
     /// ```
     ///
+    // %errors vbr_has
     /// # Errors
     ///
-    /// [`OutOfSteps`].
+    /// [`OutOfSteps`]. No call was made then.
+    // %end
     pub fn has(&self, key: T::Key) -> Result<bool, OutOfSteps> {
         self.lend_wait().has(key)
     }
@@ -91,8 +100,12 @@ impl<T: Kind> Table<T> {
     ///
     /// The loan is back before the set is renewed ([`Table::renew`]), to the same shape if the epoch is spent, and to a larger one
     /// if there is no slot, as far as `growth` lets it. Of many threads that are refused one renews, and the others go on
-    /// with what it made. `call` may be asked several times, so of several calls it makes the last should be the one that may be
-    /// refused. It makes calls by the pass that it is given, and none of the set itself.
+    /// with what it made.
+    ///
+    // %doc call_again
+    /// The function that is given may be called several times, so of several calls that it makes the last should be the one
+    /// that may be refused. It makes calls by the pass that it gets, and none on the set or the map itself.
+    // %end
     ///
     /// A renewal waits until all loans are back, so a thread that has one waits for ever, and so does each after a loan was
     /// forgotten. [`Records`](crate::Records) beside the slots aren't carried over: if there are any, renew by
@@ -124,30 +137,61 @@ impl<T: Kind> Table<T> {
     ///
     /// What `call` is refused by. [`Refusal::NoSlot`] comes if the set may grow no further, and either of the two if there is
     /// no memory for a renewal; [`Refusal::EpochSpent`] also if the last epoch is 1.
-    pub fn call<R>(&self, growth: Growth, mut call: impl FnMut(&mut PassOf<T>) -> Result<R, Refusal>) -> Result<R, Refusal> {
+    pub fn call<R>(&self, growth: Growth, call: impl FnMut(&mut PassOf<T>) -> Result<R, Refusal>) -> Result<R, Refusal> {
+        self.call_or(growth, call, |why, _| why)
+    }
+
+    /// The same, with what is said of a refusal if the renewal after it failed.
+    pub(crate) fn call_or<R, E: From<Refusal>>(
+        &self,
+        growth: Growth,
+        mut call: impl FnMut(&mut PassOf<T>) -> Result<R, Refusal>,
+        failed: impl FnOnce(Refusal, RenewError) -> E,
+    ) -> Result<R, E> {
         loop {
             let (renewals, told) = {
                 let mut mine = self.lend_wait();
                 (self.lender.renewals(), call(&mut mine))
             };
-            match told {
-                Err(refusal) if self.is_renewed_after(refusal, growth, renewals, None) => {}
-                told => return told,
+            let why = match told {
+                Ok(answer) => return Ok(answer),
+                Err(why) => why,
+            };
+            match self.renew_after(why, growth, renewals, None) {
+                Ok(true) => {}
+                Ok(false) => return Err(why.into()),
+                Err(error) => return Err(failed(why, error)),
             }
         }
     }
 
     /// Renews it after a refusal, if that is of use, and records with it. Whether it is another one now than after so many renewals,
     /// by this thread or by another.
-    pub(crate) fn is_renewed_after(&self, why: Refusal, growth: Growth, renewals: usize, records: Option<&Words>) -> bool {
-        let Some(shape) = growth.after(why, self.lender.shape().get()) else { return false };
-        self.lender.renew_once(renewals, shape, records).is_ok() || self.lender.renewals() != renewals
+    pub(crate) fn renew_after(
+        &self,
+        why: Refusal,
+        growth: Growth,
+        renewals: usize,
+        records: Option<&Words>,
+    ) -> Result<bool, RenewError> {
+        let is_another = || self.lender.renewals() != renewals;
+        let told = match growth.after(why, self.lender.shape().get()) {
+            Some(shape) => self.lender.renew_once(renewals, shape, None, records).map(|()| true),
+            None => Ok(matches!(why, Refusal::NoSlot | Refusal::EpochSpent) && is_another()), // another thread's may serve
+        };
+        told.or_else(|error| if is_another() { Ok(true) } else { Err(error) })
     }
 }
 
 /// Calls of a set itself, each by a loan for it alone.
 impl<K: Bits> Table<Keys<K>> {
-    /// Adds a key, and says whether it was absent, as [`Pass::insert`](crate::Pass::insert) does.
+    // %doc vbr_insert: sentence returns
+    /// Adds a key.
+    ///
+    /// Returns `true` if the key was absent, and is added; `false` if it was there.
+    // %end
+    ///
+    /// It is [`Pass::insert`](crate::Pass::insert), by a loan.
     ///
     /// ```
     /// # use vbr::{Set, Shape};
@@ -156,14 +200,27 @@ impl<K: Bits> Table<Keys<K>> {
     /// # Ok::<(), Box<dyn std::error::Error>>(())
     /// ```
     ///
+    // %errors vbr_insert
     /// # Errors
     ///
-    /// The same as for [`Pass::insert`](crate::Pass::insert). No call was made then.
+    /// - [`Refusal::Held`] and [`Refusal::OutOfSteps`].
+    /// - [`Refusal::NoSlot`]: the key is absent. Have other handles give their slots back
+    ///   ([`give_slots_back`](crate::PassOf::give_slots_back)), remove keys, or try again.
+    /// - [`Refusal::EpochSpent`]: the key is absent.
+    ///
+    /// No call was made then.
+    // %end
     pub fn insert(&self, key: K) -> Result<bool, Refusal> {
         self.lend_wait().insert(key)
     }
 
-    /// Takes a key out, and says whether it was there, as [`Pass::remove`](crate::Pass::remove) does.
+    // %doc vbr_remove: sentence returns
+    /// Takes a key out.
+    ///
+    /// Returns `true` if the key was there, and is taken out; `false` if it was absent.
+    // %end
+    ///
+    /// It is [`Pass::remove`](crate::Pass::remove), by a loan.
     ///
     /// ```
     /// # use vbr::{Set, Shape};
@@ -172,9 +229,11 @@ impl<K: Bits> Table<Keys<K>> {
     /// # Ok::<(), Box<dyn std::error::Error>>(())
     /// ```
     ///
+    // %errors vbr_remove
     /// # Errors
     ///
     /// [`OutOfSteps`]. No call was made then.
+    // %end
     pub fn remove(&self, key: K) -> Result<bool, OutOfSteps> {
         self.lend_wait().remove(key)
     }
@@ -198,7 +257,13 @@ impl<K: Bits> Table<Keys<K>> {
 
 /// Calls of a map itself, each by a loan for it alone.
 impl<K: Bits, V: Bits> Table<Entries<K, V>> {
-    /// The value of a key, as [`MapPass::get`](crate::MapPass::get) gives it.
+    // %doc vbr_map_get: sentence returns
+    /// Looks a key up and gives its value.
+    ///
+    /// Returns its value if the key is there; `None` if it is absent.
+    // %end
+    ///
+    /// It is [`MapPass::get`](crate::MapPass::get), by a loan.
     ///
     /// ```
     /// # use vbr::{Map, Shape};
@@ -211,9 +276,11 @@ impl<K: Bits, V: Bits> Table<Entries<K, V>> {
     /// # Ok::<(), Box<dyn std::error::Error>>(())
     /// ```
     ///
+    // %errors vbr_map_get
     /// # Errors
     ///
-    /// [`OutOfSteps`].
+    /// [`OutOfSteps`]. No call was made then.
+    // %end
     pub fn get(&self, key: K) -> Result<Option<V>, OutOfSteps> {
         self.lend_wait().get(key)
     }
@@ -234,7 +301,13 @@ impl<K: Bits, V: Bits> Table<Entries<K, V>> {
         self.has(key)
     }
 
-    /// Adds a key with a value, and says whether it was absent, as [`MapPass::try_insert`](crate::MapPass::try_insert) does.
+    // %doc vbr_map_insert: sentence returns
+    /// Adds a key with its value.
+    ///
+    /// Returns `true` if the key was absent, and is added; `false` if it was there, and keeps the value that it has.
+    // %end
+    ///
+    /// It is [`MapPass::try_insert`](crate::MapPass::try_insert), by a loan.
     ///
     /// ```
     /// # use vbr::{Map, Shape};
@@ -243,14 +316,27 @@ impl<K: Bits, V: Bits> Table<Entries<K, V>> {
     /// # Ok::<(), Box<dyn std::error::Error>>(())
     /// ```
     ///
+    // %errors vbr_map_insert
     /// # Errors
     ///
-    /// The same as for [`MapPass::try_insert`](crate::MapPass::try_insert). No call was made then.
+    /// - [`Refusal::Held`] and [`Refusal::OutOfSteps`].
+    /// - [`Refusal::NoSlot`]: the key is absent. Have other handles give their slots back
+    ///   ([`give_slots_back`](crate::PassOf::give_slots_back)), remove keys, or try again.
+    /// - [`Refusal::EpochSpent`]: the key is absent.
+    ///
+    /// No call was made then.
+    // %end
     pub fn try_insert(&self, key: K, value: V) -> Result<bool, Refusal> {
         self.lend_wait().try_insert(key, value)
     }
 
-    /// Takes a key out, and gives the value that it had, as [`MapPass::remove`](crate::MapPass::remove) does.
+    // %doc vbr_map_remove: sentence returns
+    /// Takes a key out with its value.
+    ///
+    /// Returns the value of the entry that this call took if the key was there, and is taken out; `None` if it was absent.
+    // %end
+    ///
+    /// It is [`MapPass::remove`](crate::MapPass::remove), by a loan.
     ///
     /// ```
     /// # use vbr::{Map, Shape};
@@ -259,14 +345,22 @@ impl<K: Bits, V: Bits> Table<Entries<K, V>> {
     /// # Ok::<(), Box<dyn std::error::Error>>(())
     /// ```
     ///
+    // %errors vbr_map_remove
     /// # Errors
     ///
     /// [`OutOfSteps`]. No call was made then.
+    // %end
     pub fn remove(&self, key: K) -> Result<Option<V>, OutOfSteps> {
         self.lend_wait().remove(key)
     }
 
-    /// Gives a key this value, and gives the one that it had, as [`MapPass::put`](crate::MapPass::put) does.
+    // %doc vbr_map_put: sentence returns
+    /// Gives a key this value, whether it is there or not.
+    ///
+    /// Returns the value that it had if the key was there, and has the new value; `None` if it was absent, and is inserted.
+    // %end
+    ///
+    /// It is [`MapPass::put`](crate::MapPass::put), by a loan.
     ///
     /// ```
     /// # use vbr::{Map, Shape};
@@ -275,14 +369,23 @@ impl<K: Bits, V: Bits> Table<Entries<K, V>> {
     /// # Ok::<(), Box<dyn std::error::Error>>(())
     /// ```
     ///
+    // %errors vbr_map_put
     /// # Errors
     ///
-    /// The same as for [`MapPass::put`](crate::MapPass::put). No call was made then.
+    /// [`Refusal::Held`], [`Refusal::OutOfSteps`], [`Refusal::NoSlot`] and [`Refusal::EpochSpent`]. No call was made then.
+    // %end
     pub fn put(&self, key: K, value: V) -> Result<Option<V>, Refusal> {
         self.lend_wait().put(key, value)
     }
 
-    /// Gives a key that is there another value, as [`MapPass::replace`](crate::MapPass::replace) does.
+    // %doc vbr_map_replace: sentence returns
+    /// Gives a key that is there another value, so that no call finds it absent meanwhile.
+    ///
+    /// Returns the value that it had if the key was there, and has the new value; `None` if it was absent, and nothing was
+    /// changed.
+    // %end
+    ///
+    /// It is [`MapPass::replace`](crate::MapPass::replace), by a loan.
     ///
     /// ```
     /// # use vbr::{Map, Shape};
@@ -291,15 +394,25 @@ impl<K: Bits, V: Bits> Table<Entries<K, V>> {
     /// # Ok::<(), Box<dyn std::error::Error>>(())
     /// ```
     ///
+    // %errors vbr_map_replace
     /// # Errors
     ///
-    /// The same as for [`MapPass::replace`](crate::MapPass::replace). No call was made then.
+    /// - [`Refusal::Held`] and [`Refusal::OutOfSteps`].
+    /// - [`Refusal::NoSlot`] and [`Refusal::EpochSpent`]: the key was there at a moment.
+    ///
+    /// No call was made then.
+    // %end
     pub fn replace(&self, key: K, value: V) -> Result<Option<V>, Refusal> {
         self.lend_wait().replace(key, value)
     }
 
-    /// The value of a key, or `None` if it was absent and is inserted, as [`MapPass::get_or_insert`](crate::MapPass::get_or_insert)
-    /// does.
+    // %doc vbr_map_get_or_insert: sentence returns
+    /// Gives the value of a key, or inserts the key with this one: a get or an insert, in one call.
+    ///
+    /// Returns the value that it has if the key is there, and keeps its value; `None` if it was absent, and is inserted.
+    // %end
+    ///
+    /// It is [`MapPass::get_or_insert`](crate::MapPass::get_or_insert), by a loan.
     ///
     /// ```
     /// # use vbr::{Map, Shape};
@@ -308,14 +421,26 @@ impl<K: Bits, V: Bits> Table<Entries<K, V>> {
     /// # Ok::<(), Box<dyn std::error::Error>>(())
     /// ```
     ///
+    // %errors vbr_map_get_or_insert
     /// # Errors
     ///
-    /// The same as for [`MapPass::get_or_insert`](crate::MapPass::get_or_insert). No call was made then.
+    /// - [`Refusal::Held`] and [`Refusal::OutOfSteps`].
+    /// - [`Refusal::NoSlot`] and [`Refusal::EpochSpent`]: the key is absent.
+    ///
+    /// No call was made then.
+    // %end
     pub fn get_or_insert(&self, key: K, value: V) -> Result<Option<V>, Refusal> {
         self.lend_wait().get_or_insert(key, value)
     }
 
-    /// Gives a key another value if it has the expected one, as [`MapPass::compare_exchange`](crate::MapPass::compare_exchange) does.
+    // %doc vbr_map_compare_exchange: sentence returns
+    /// Gives a key another value if it has the one that is expected.
+    ///
+    /// Returns [`Compared::Equal`] if the key had the expected value, and has the new one; [`Compared::Other`] if it is there
+    /// with another value, and nothing was changed; [`Compared::Absent`] if it is absent, and nothing was changed.
+    // %end
+    ///
+    /// It is [`MapPass::compare_exchange`](crate::MapPass::compare_exchange), by a loan.
     ///
     /// ```
     /// # use vbr::{Compared, Map, Shape};
@@ -324,14 +449,26 @@ impl<K: Bits, V: Bits> Table<Entries<K, V>> {
     /// # Ok::<(), Box<dyn std::error::Error>>(())
     /// ```
     ///
+    // %errors vbr_map_compare_exchange
     /// # Errors
     ///
-    /// The same as for [`MapPass::compare_exchange`](crate::MapPass::compare_exchange). No call was made then.
+    /// - [`Refusal::Held`] and [`Refusal::OutOfSteps`].
+    /// - [`Refusal::NoSlot`] and [`Refusal::EpochSpent`]: the key had the expected value at a moment.
+    ///
+    /// No call was made then.
+    // %end
     pub fn compare_exchange(&self, key: K, expected: V, value: V) -> Result<Compared<V>, Refusal> {
         self.lend_wait().compare_exchange(key, expected, value)
     }
 
-    /// Takes a key out if it has the expected value, as [`MapPass::remove_if`](crate::MapPass::remove_if) does.
+    // %doc vbr_map_remove_if: sentence returns
+    /// Takes a key out if it has the value that is expected.
+    ///
+    /// Returns [`Compared::Equal`] if the key had the expected value, and is taken out; [`Compared::Other`] if it is there
+    /// with another value, and nothing was changed; [`Compared::Absent`] if it is absent, and nothing was changed.
+    // %end
+    ///
+    /// It is [`MapPass::remove_if`](crate::MapPass::remove_if), by a loan.
     ///
     /// ```
     /// # use vbr::{Compared, Map, Shape};
@@ -340,15 +477,17 @@ impl<K: Bits, V: Bits> Table<Entries<K, V>> {
     /// # Ok::<(), Box<dyn std::error::Error>>(())
     /// ```
     ///
+    // %errors vbr_map_remove_if
     /// # Errors
     ///
     /// [`OutOfSteps`]. No call was made then.
+    // %end
     pub fn remove_if(&self, key: K, expected: V) -> Result<Compared<V>, OutOfSteps> {
         self.lend_wait().remove_if(key, expected)
     }
 
-    /// Gives a key the value that `update` makes of the one that it has, as [`MapPass::fetch_update`](crate::MapPass::fetch_update)
-    /// does. `update` is asked while a handle is on loan, so it makes no call of the map itself.
+    /// Updates the value of a key, as [`MapPass::fetch_update`](crate::MapPass::fetch_update) does. `update` is asked while a handle is on
+    /// loan, so it makes no call of the map itself.
     ///
     /// ```
     /// # use vbr::{Map, Shape};
@@ -396,5 +535,24 @@ impl<K: Bits, V: Bits> Table<Entries<K, V>> {
     /// [`OutOfSteps`]. Nothing was changed then.
     pub fn remove_when(&self, key: K, when: impl FnMut(V) -> bool) -> Result<Option<V>, OutOfSteps> {
         self.lend_wait().remove_when(key, when)
+    }
+}
+
+impl<K: Bits> Table<Entries<K, u64>> {
+    /// Adds to the value of a key, modulo 2^64, or inserts the key with `delta`, as [`MapPass::fetch_add`](crate::MapPass::fetch_add)
+    /// does. It returns the value that the key had.
+    ///
+    /// ```
+    /// # use vbr::{Map, Shape};
+    /// let visits: Map = Map::open(Shape::for_keys(8, 1))?;
+    /// assert_eq!((visits.fetch_add(5, 1)?, visits.fetch_add(5, 1)?), (None, Some(1)));
+    /// # Ok::<(), Box<dyn std::error::Error>>(())
+    /// ```
+    ///
+    /// # Errors
+    ///
+    /// The same as for [`MapPass::fetch_add`](crate::MapPass::fetch_add). No call was made then.
+    pub fn fetch_add(&self, key: K, delta: u64) -> Result<Option<u64>, Refusal> {
+        self.lend_wait().fetch_add(key, delta)
     }
 }

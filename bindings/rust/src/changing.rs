@@ -1,8 +1,8 @@
 //! Calls of maps that do one thing or another, depending on what is there.
 // tools/interface makes this file of bindings/interface/changing.rs.in.
 use crate::library::{
-    compared, looked_up, updated, vbr_map_compare_exchange_within, vbr_map_get_or_insert_within, vbr_map_put_within,
-    vbr_map_remove_if_within, vbr_map_replace_within, with_value,
+    compared, looked_up, updated, vbr_map_compare_exchange_within, vbr_map_fetch_add_within, vbr_map_get_or_insert_within,
+    vbr_map_put_within, vbr_map_remove_if_within, vbr_map_replace_within, with_value,
 };
 use crate::{order, Bits, Cursor, Entries, OutOfSteps, PassOf, Refusal, Steps};
 use core::fmt::Debug;
@@ -76,15 +76,17 @@ impl Compared {
 /// The calls of maps that do one thing or another, depending on what is there, each at one moment.
 ///
 /// A call that gives a key another value is, in the history, a remove of the old value and an insert of the new one, next to
-/// each other: no call finds the key absent in between. One that changed nothing is a look-up. While the other handles stand
-/// still, 18n + 82 steps are enough, or 18n + w + 20 if that is more, with n nodes in the bucket of the key and w = slots / 64,
-/// rounded up; a [`compare_exchange`](PassOf::compare_exchange) wants two more, and a [`remove_if`](PassOf::remove_if) 9n + 11.
+/// each other. One that changed nothing is a look-up.
 ///
 /// A new value takes a slot before the slot of the old one is free, so these calls want one slot more than there are keys. The
 /// 64 of the handle in [`Shape`](crate::Shape) cover that.
 impl<K: Bits, V: Bits> PassOf<Entries<K, V>> {
-    /// Gives a key that is there another value, and returns the one that it had; `None` if it was absent, and then nothing
-    /// was changed.
+    /// Gives a key that is there another value, so that no call finds it absent meanwhile.
+    ///
+    /// Returns the value that it had if the key was there, and has the new value; `None` if it was absent, and nothing was
+    /// changed. After `Some` it leaves the new value in a slot that it took. The old value has given its own back.
+    ///
+    /// As many steps as for [`try_insert`](crate::MapPass::try_insert) are enough.
     ///
     /// ```
     /// # use vbr::{Map, Shape};
@@ -97,8 +99,10 @@ impl<K: Bits, V: Bits> PassOf<Entries<K, V>> {
     ///
     /// # Errors
     ///
-    /// [`Refusal::OutOfSteps`], and, if the key was there at a moment, [`Refusal::NoSlot`] and [`Refusal::EpochSpent`]. No
-    /// call was made then.
+    /// - [`Refusal::Held`] and [`Refusal::OutOfSteps`].
+    /// - [`Refusal::NoSlot`] and [`Refusal::EpochSpent`]: the key was there at a moment.
+    ///
+    /// No call was made then.
     #[inline]
     pub fn replace(&mut self, key: K, value: V) -> Result<Option<V>, Refusal> {
         self.replace_within(key, value, self.steps())
@@ -125,8 +129,15 @@ impl<K: Bits, V: Bits> PassOf<Entries<K, V>> {
         })
     }
 
-    /// Gives a key this value, and returns the one that it had; `None` if it was absent, and then it is inserted, as
-    /// `HashMap::insert` does.
+    /// Gives a key this value, whether it is there or not.
+    ///
+    /// Returns the value that it had if the key was there, and has the new value; `None` if it was absent, and is inserted.
+    /// It leaves what [`replace`](crate::MapPass::replace) leaves, or after `None` what
+    /// [`try_insert`](crate::MapPass::try_insert) leaves when it adds a key.
+    ///
+    /// As many steps as for [`try_insert`](crate::MapPass::try_insert) are enough.
+    ///
+    /// It is what `HashMap::insert` does.
     ///
     /// ```
     /// # use vbr::{Map, Shape};
@@ -139,7 +150,7 @@ impl<K: Bits, V: Bits> PassOf<Entries<K, V>> {
     ///
     /// # Errors
     ///
-    /// [`Refusal::OutOfSteps`], [`Refusal::NoSlot`] and [`Refusal::EpochSpent`]. No call was made then.
+    /// [`Refusal::Held`], [`Refusal::OutOfSteps`], [`Refusal::NoSlot`] and [`Refusal::EpochSpent`]. No call was made then.
     #[inline]
     pub fn put(&mut self, key: K, value: V) -> Result<Option<V>, Refusal> {
         self.put_within(key, value, self.steps())
@@ -166,7 +177,13 @@ impl<K: Bits, V: Bits> PassOf<Entries<K, V>> {
         })
     }
 
-    /// Returns the value of a key; `None` if it was absent, and then it is inserted with this value.
+    /// Gives the value of a key, or inserts the key with this one: a get or an insert, in one call.
+    ///
+    /// Returns the value that it has if the key is there, and keeps its value; `None` if it was absent, and is inserted.
+    /// After `None` it leaves what [`try_insert`](crate::MapPass::try_insert) leaves when it adds a key.
+    ///
+    /// As many steps as for [`try_insert`](crate::MapPass::try_insert) are enough.
+    ///
     /// [`MapPass::entry`](PassOf::entry) is another way to say so.
     ///
     /// ```
@@ -179,8 +196,10 @@ impl<K: Bits, V: Bits> PassOf<Entries<K, V>> {
     ///
     /// # Errors
     ///
-    /// [`Refusal::OutOfSteps`], and, if the key is absent, [`Refusal::NoSlot`] and [`Refusal::EpochSpent`]. No call was made
-    /// then.
+    /// - [`Refusal::Held`] and [`Refusal::OutOfSteps`].
+    /// - [`Refusal::NoSlot`] and [`Refusal::EpochSpent`]: the key is absent.
+    ///
+    /// No call was made then.
     #[inline]
     pub fn get_or_insert(&mut self, key: K, value: V) -> Result<Option<V>, Refusal> {
         self.get_or_insert_within(key, value, self.steps())
@@ -209,7 +228,16 @@ impl<K: Bits, V: Bits> PassOf<Entries<K, V>> {
         })
     }
 
-    /// Gives a key another value if it has the one that is expected. Values are compared by their bits.
+    /// Gives a key another value if it has the one that is expected.
+    ///
+    /// Returns [`Compared::Equal`] if the key had the expected value, and has the new one; [`Compared::Other`] if it is there
+    /// with another value, and nothing was changed; [`Compared::Absent`] if it is absent, and nothing was changed. After
+    /// [`Compared::Equal`] it leaves what [`replace`](crate::MapPass::replace) leaves; else it is a look-up.
+    ///
+    /// A value that is computed from the one found is stored so, and no other thread's is lost. Two more steps than for
+    /// [`try_insert`](crate::MapPass::try_insert) are enough.
+    ///
+    /// Values are compared by their bits.
     ///
     /// ```
     /// # use vbr::{Compared, Map, Shape};
@@ -222,8 +250,10 @@ impl<K: Bits, V: Bits> PassOf<Entries<K, V>> {
     ///
     /// # Errors
     ///
-    /// [`Refusal::OutOfSteps`], and, if the key had the expected value at a moment, [`Refusal::NoSlot`] and
-    /// [`Refusal::EpochSpent`]. No call was made then.
+    /// - [`Refusal::Held`] and [`Refusal::OutOfSteps`].
+    /// - [`Refusal::NoSlot`] and [`Refusal::EpochSpent`]: the key had the expected value at a moment.
+    ///
+    /// No call was made then.
     #[inline]
     pub fn compare_exchange(&mut self, key: K, expected: V, value: V) -> Result<Compared<V>, Refusal> {
         self.compare_exchange_within(key, expected, value, self.steps())
@@ -265,8 +295,15 @@ impl<K: Bits, V: Bits> PassOf<Entries<K, V>> {
         })
     }
 
-    /// Takes a key out if it has the value that is expected. Values are compared by their bits. While the other handles stand
-    /// still, 9n + 11 steps are enough, with n nodes in the bucket of the key.
+    /// Takes a key out if it has the value that is expected.
+    ///
+    /// Returns [`Compared::Equal`] if the key had the expected value, and is taken out; [`Compared::Other`] if it is there
+    /// with another value, and nothing was changed; [`Compared::Absent`] if it is absent, and nothing was changed. After
+    /// [`Compared::Equal`] it leaves what [`remove`](crate::MapPass::remove) leaves; else it is a look-up.
+    ///
+    /// As many steps as for [`remove`](crate::MapPass::remove) are enough.
+    ///
+    /// Values are compared by their bits.
     ///
     /// ```
     /// # use vbr::{Compared, Map, Shape};
@@ -312,13 +349,13 @@ impl<K: Bits, V: Bits> PassOf<Entries<K, V>> {
         })
     }
 
-    /// Does with a key what `change` says, which is asked with the value that the key has, or with `None` if it is absent, and returns
-    /// that value.
+    /// Does with a key what a function says of the value that it has, or of none, and returns that value.
     ///
-    /// The change is made only if the key is still as `change` was told. If another call came in between, `change` is asked
-    /// again, with what that left. So of all calls of a key each is told of what the one before it left, and no change is lost.
-    /// Each call that it takes has the budget of the handle: a look-up first, and then one for each time that `change` is
-    /// asked and doesn't keep the key as it is.
+    /// The change is made only if the key still has what the function was given. Else it is called again, with what is there
+    /// then. So each call on a key is given what the one before it left, and no change is lost.
+    ///
+    /// The function is `change`, and a key that is absent has `None`. Each call that it takes has the budget of the handle: a look-up first,
+    /// and then one for each time that `change` is asked and doesn't keep the key as it is.
     ///
     /// ```
     /// # use vbr::{Change, Map, Shape};
@@ -453,11 +490,11 @@ impl<K: Bits, V: Bits> PassOf<Entries<K, V>> {
         Ok(None)
     }
 
-    /// Gives a key the value that `update` makes from the one that it has, and returns the old one; `None` if the key is
-    /// absent, or `update` makes none, and then nothing was changed.
+    /// Gives a key the value that a function makes of the one that it has, and returns that one; none, and nothing is
+    /// changed, if the key is absent or the function makes none. No update of another thread is lost: if one comes in
+    /// between, the function is asked again, with the value that it left.
     ///
-    /// No update is lost. If another comes in between, `update` is called again, with the value that it left. Each call that
-    /// it takes has the budget of the handle.
+    /// The function is `update`, and none is `None`. Each call that it takes has the budget of the handle.
     ///
     /// ```
     /// # use vbr::{Map, Shape};
@@ -563,5 +600,57 @@ impl<K: Bits, V: Bits> PassOf<Entries<K, V>> {
     /// As an item, as for [`PassOf::iter`].
     pub fn values(&self) -> impl FusedIterator<Item = Result<V, OutOfSteps>> + Clone + Debug + '_ {
         self.iter().map(|entry| entry.map(|(_, value)| value))
+    }
+}
+
+/// Counters: values that are numbers.
+impl<K: Bits> PassOf<Entries<K, u64>> {
+    /// Adds a number modulo 2^64 to the value of a key, or inserts the key with it: a counter, in one call.
+    ///
+    /// Returns the value that it had if the key was there, and has the sum; `None` if it was absent, and is inserted with
+    /// delta. It leaves what [`put`](crate::MapPass::put) leaves.
+    ///
+    /// No other call comes between the value that it had and the sum, so no addition is lost. Its budget and its cost are
+    /// those of a put.
+    ///
+    /// It is what `AtomicU64::fetch_add` does.
+    ///
+    /// ```
+    /// # use vbr::{Map, Shape};
+    /// let mut handle = Map::handles(Shape::for_keys(8, 1))?.remove(0);
+    /// assert_eq!(handle.fetch_add(5, 2)?, None);
+    /// assert_eq!(handle.fetch_add(5, 3)?, Some(2));
+    /// assert_eq!(handle.fetch_add(5, 1_u64.wrapping_neg())?, Some(5));
+    /// assert_eq!(handle.get(5)?, Some(4));
+    /// # Ok::<(), Box<dyn std::error::Error>>(())
+    /// ```
+    ///
+    /// # Errors
+    ///
+    /// [`Refusal::Held`], [`Refusal::OutOfSteps`], [`Refusal::NoSlot`] and [`Refusal::EpochSpent`]. No call was made then.
+    #[inline]
+    pub fn fetch_add(&mut self, key: K, delta: u64) -> Result<Option<u64>, Refusal> {
+        self.fetch_add_within(key, delta, self.steps())
+    }
+
+    /// As [`PassOf::fetch_add`], with a budget of its own.
+    ///
+    /// ```
+    /// # use vbr::{Map, Refusal, Shape, Steps};
+    /// let mut handle = Map::handles(Shape::for_keys(8, 1))?.remove(0);
+    /// assert_eq!(handle.fetch_add_within(5, 2, Steps::new(1)), Err(Refusal::OutOfSteps));
+    /// # Ok::<(), vbr::OpenError>(())
+    /// ```
+    ///
+    /// # Errors
+    ///
+    /// The same as for [`PassOf::fetch_add`].
+    #[inline]
+    pub fn fetch_add_within(&mut self, key: K, delta: u64, steps: Steps) -> Result<Option<u64>, Refusal> {
+        let key = key.to_bits();
+        with_value(updated, |found| {
+            // SAFETY: as for `replace_within`.
+            order::changes(key, || unsafe { vbr_map_fetch_add_within(self.raw(), key, delta, found, steps.count()) })
+        })
     }
 }

@@ -1,5 +1,5 @@
 //! Why a set or a map isn't opened, a call isn't answered, and a handle isn't closed.
-use crate::{Handle, HandleOf, Keys, Kind, ShapeError, Table};
+use crate::{Handle, HandleOf, Keys, Kind, ShapeError, Table, MAX_SHARDS};
 use alloc::vec::Vec;
 use core::error::Error;
 use core::fmt;
@@ -17,13 +17,18 @@ use core::fmt;
 pub enum OpenError {
     /// A number of the shape is out of range: the first such one.
     Shape(ShapeError),
-    /// The keys, or the entries' keys, don't ascend, or are more than the slots.
+    // %answer VBR_BAD_KEYS
+    /// The keys do not ascend, or there are more than slots; nothing was done.
+    // %end
     Keys(KeysError),
     /// There is no memory.
     Memory,
     /// The file is shorter than the memory of the set ([`SharedTable::size`](crate::SharedTable::size)). Only an opening in a
     /// file returns this.
     ShortFile,
+    /// So many shards are not from 1 to [`MAX_SHARDS`](crate::MAX_SHARDS). Only an opening of a [`Sharded`](crate::Sharded) set or map
+    /// returns this.
+    Shards(usize),
 }
 
 /// Why a set or a map can't be opened with these keys.
@@ -81,10 +86,16 @@ pub struct OutOfSteps;
 #[derive(Clone, Copy, Debug, PartialEq, Eq, Hash)]
 #[non_exhaustive]
 pub enum WalkError {
-    /// The budget is spent. The cursor keeps how far it has come, so make the call again, as [`Refusal::OutOfSteps`] says.
+    // %answer VBR_OUT_OF_STEPS
+    /// The budget is spent; no call was made; a greater budget may help.
+    // %end
+    ///
+    /// The cursor keeps how far it has come, so make the call again, as [`Refusal::OutOfSteps`] says.
     OutOfSteps,
-    /// The walk began on another opening: the set was renewed since. The cursor is as it was. Begin anew, at
-    /// [`Cursor::first`](crate::Cursor::first).
+    // %answer VBR_RESHAPED
+    /// The walk began on another opening: the set was renewed since, or the handle was opened anew; nothing is given, and the
+    /// cursor stays; begin anew, from [`Cursor::first`](crate::Cursor::first).
+    // %end
     Reshaped,
 }
 
@@ -118,23 +129,32 @@ impl WalkError {
 /// ```
 #[derive(Clone, Copy, Debug, PartialEq, Eq, Hash)]
 pub enum Refusal {
-    /// The budget is spent. Make the call again, with twice the budget if that may have been too small:
-    /// [`Steps::AMPLE`](crate::Steps::AMPLE) is enough in short buckets, unless others disturb the call more than a hundred
-    /// times. A look-up or a remove with steps enough alone runs out of them only if others inserted or removed in the key's
-    /// bucket meanwhile, or advanced the epoch.
+    // %answer VBR_OUT_OF_STEPS
+    /// The budget is spent; no call was made; a greater budget may help.
+    // %end
+    ///
+    /// Make the call again, and double a budget that may be too small: [`Steps::AMPLE`](crate::Steps::AMPLE) is
+    /// enough in short buckets, unless others disturb the call more than a hundred times. A look-up or a remove with steps
+    /// enough alone runs out of them only if others inserted or removed in the key's bucket meanwhile, or advanced the epoch.
     OutOfSteps,
-    /// An insert of an absent key, or a call that gives a key another value, found no slot: its handle had none of its own, and
-    /// none was found in the shared pool. Other handles may keep free ones: have them give these back (`give_slots_back`), remove keys,
-    /// or make the call again; a greater budget alone doesn't help.
+    // %answer VBR_NO_SLOT
+    /// The handle found no slot for a node; no call was made.
+    // %end
+    ///
+    /// An insert of an absent key wants a slot, and so does a call that gives a key another value. The handle had none of its
+    /// own, and none was found in the shared pool. [`insert`](crate::Pass::insert) says what helps; a greater budget alone doesn't.
     NoSlot,
-    /// An insert of an absent key, or a call that gives a key another value, would have needed an epoch beyond the last one.
-    /// Renew the set or the map ([`Table::renew`], [`HandleOf::renew_all`]); until then look-ups and removes are answered as
-    /// always.
+    // %answer VBR_EPOCH_SPENT
+    /// A node is wanted and the last epoch is spent; no call was made; renew the set.
+    // %end
+    ///
+    /// An insert of an absent key wants a node, and so does a call that gives a key another value. [`Table::renew`] and
+    /// [`HandleOf::renew_all`] renew the set; until then look-ups and removes are answered as always.
     EpochSpent,
     /// A call would take a slot, and the handle has one in hand, since a [`Held`](crate::Held) was forgotten ([`core::mem::forget`]).
     /// [`PassOf::hold`](crate::PassOf::hold) takes another one in its place; drop that.
     Held,
-    /// A walk began on another opening: the set was renewed since. Begin anew ([`WalkError::Reshaped`]).
+    /// As [`WalkError::Reshaped`].
     Reshaped,
 }
 
@@ -156,9 +176,10 @@ pub enum Refusal {
 /// ```
 #[non_exhaustive]
 pub enum CloseError<H = Handle> {
-    /// It was the last handle, and a pass of the set or map is missing. The set or map is gone, and its memory is freed. No
-    /// program is known to get this, so there is no example: a dropped handle is closed, and a forgotten one keeps its set
-    /// open.
+    // %answer VBR_LOST
+    /// The handle was the last, and a pass is missing; the set is gone, and its memory is freed. A dropped handle gives its
+    /// pass back, and a forgotten one keeps its set open, so no program is known to get this.
+    // %end
     Lost,
     /// There is no memory for the report. The handle, or the set with all its handles, is as it was, and can be closed again.
     Memory(Unclosed<H>),
@@ -378,6 +399,7 @@ impl fmt::Display for OpenError {
             OpenError::Keys(why) => why.fmt(f),
             OpenError::Memory => f.write_str("there is no memory for the set or map"),
             OpenError::ShortFile => f.write_str("the file is too short for the set or map"),
+            OpenError::Shards(shards) => write!(f, "{shards} shards are not from 1 to {MAX_SHARDS}"),
         }
     }
 }

@@ -57,7 +57,7 @@ const LARGE: u32 = 1 << 17;
 /// Batches of calls that change a set or a map.
 impl<T: Kind> PassOf<T> {
     /// Puts all that an iterator gives into the set, as `Extend` does for `HashSet` and `HashMap`, and returns how many keys were
-    /// absent: by [`insert`](crate::Pass::insert) into a set, and by [`put`](crate::MapPass::put) into a map, where the last
+    /// absent: by [`insert`](crate::Pass::insert) into a set, and by [`put`](crate::MapPass::put) into a map, in which the last
     /// value of a key stays. Each is a call of its own, with the budget of the handle.
     ///
     /// [`insert_all`](crate::Pass::insert_all), [`try_insert_all`](crate::MapPass::try_insert_all) and
@@ -93,7 +93,7 @@ impl<T: Kind> PassOf<T> {
         Ok(progress.added)
     }
 
-    /// Makes a call for each of the items, which is told whether the key was there before, as far as that is known. In a large
+    /// Makes a call for each of the items, which is given whether the key was there before, as far as that is known. In a large
     /// table the keys are looked up first, some at a time, so that the words which the calls want come from memory together.
     #[inline]
     fn each<I: Copy>(

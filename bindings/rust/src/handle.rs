@@ -15,12 +15,15 @@ use core::ops::{Deref, DerefMut};
 use core::ptr::{null_mut, NonNull};
 use core::sync::atomic::{AtomicPtr, AtomicU32, AtomicU64, AtomicUsize, Ordering};
 
-/// A handle to a set, called [`Handle`](crate::Handle), or to a map, called [`MapHandle`](crate::MapHandle): a pass, the
-/// right of one thread at a time to make calls, and a share of the set. The calls are those of the pass, to which it derefs:
-/// [`PassOf`]. What is said here of a set and its keys holds for a map and its entries too.
+/// A handle to a set, called [`Handle`](crate::Handle), or to a map, called [`MapHandle`](crate::MapHandle): a pass and a share of the set.
+/// The calls are those of the pass, to which it derefs: [`PassOf`]. What is said here of a set and its keys holds for a map and its entries too.
 ///
-/// It may go to another thread, and is neither `Clone` nor `Sync`. A dropped handle is closed, and nothing is lost by it: the
-/// handle that is closed last gets the report. If the last one is dropped, the set goes with it.
+/// It may go to another thread, and is neither `Clone` nor `Sync`. A dropped handle is closed.
+///
+// %doc vbr_drop: leaves
+/// It leaves the handle empty, and its slots and its pass given back as by a close. The last handle of the set that is closed
+/// still gets the report. If the last one is dropped, the set ends.
+// %end
 ///
 /// ```
 /// # use vbr::{Set, Shape};
@@ -63,7 +66,7 @@ struct Parked {
     opening: AtomicU32,
 }
 
-/// What a handle has of its set: what it owns, null where it is empty, and of which opening it is.
+/// What a handle has of its set: what it owns, null if it is empty, and which opening it belongs to.
 pub(crate) struct Owned {
     ptr: *mut c_void,
     opening: u32,
@@ -120,10 +123,17 @@ impl<T: Kind> HandleOf<T> {
         self.raw.get_mut().steps = steps.count();
     }
 
-    /// Closes the handle. The answer is `None` while other handles of the set are open; the last one gets the report. It
-    /// alone takes memory: 8 bytes for each slot of a set, 16 of a map, and the size of one key or entry besides if these
-    /// aren't laid out as those of `u64` are; what isn't needed is given back if there is memory for the keys alone. While it
-    /// runs it takes as much as the words of the set, and 9 bytes for each slot, or 17 of a map.
+    // %doc vbr_close
+    /// Closes a handle; the last one of a set ends it, with a report.
+    ///
+    /// Returns the report if it was the last, and the set is closed; `None` if other handles of its set are open. It leaves
+    /// the handle empty, and its slots given back, as by [`give_slots_back`](crate::PassOf::give_slots_back), and its pass.
+    /// After [`CloseError::Memory`] it is still full: close it again, drop it, or go on with it.
+    // %end
+    ///
+    /// The report takes 8 bytes for each slot of a set, 16 of a map, and the size of one key or entry besides if these aren't laid out as
+    /// those of `u64` are; what isn't needed is given back if there is memory for the keys alone. While the last close runs it takes as
+    /// much as the words of the set, and 9 bytes for each slot, or 17 of a map.
     ///
     /// If nobody wants the report, drop the handle: with the last one the set ends, in a fraction of the time.
     ///
@@ -137,9 +147,12 @@ impl<T: Kind> HandleOf<T> {
     /// # Ok::<(), Box<dyn std::error::Error>>(())
     /// ```
     ///
+    // %errors vbr_close: but VBR_NO_ROOM
     /// # Errors
     ///
-    /// [`CloseError::Memory`], with the handle as it was, and only from the last handle; or [`CloseError::Lost`].
+    /// - [`CloseError::Memory`]: it is the last. Only then is memory needed, which is freed again.
+    /// - [`CloseError::Lost`].
+    // %end
     pub fn close(mut self) -> Result<Option<T::Report>, CloseError<HandleOf<T>>> {
         let Some(shared) = self.last() else {
             return Ok(None);

@@ -10,9 +10,9 @@ use core::marker::PhantomData;
 use core::mem::ManuallyDrop;
 use core::ops::Deref;
 
-/// Where an entry stands: its slot, and the birth of its node; in a map also its value. No other node that was ever in that
-/// slot has this birth, so it names one entry, which may have left meanwhile, and no later one with the same key. It stays
-/// valid until the set is renewed or closed.
+/// Where an entry stands: the slot of its node, and the birth of that node; in a map also its value. No other node that was
+/// ever in that slot has this birth. So it names one entry, which may have left meanwhile, and no later one with the same
+/// key. It stays valid until the set is renewed or closed.
 ///
 /// ```
 /// # use vbr::{Map, Shape};
@@ -105,9 +105,15 @@ impl<T: Kind> fmt::Debug for Incarnation<T> {
 
 /// Slots in hand, and where entries stand.
 impl<T: Kind> PassOf<T> {
-    /// Takes a slot in hand. Until a call makes it the node of a key, or it is dropped, nobody else has it: so what a program keeps
-    /// beside slots may be written there, as [`Records`](crate::Records) does. It is one of the 64 slots that are counted for each
-    /// handle. A [`Held`] borrows the pass, and looks up by it.
+    /// Takes a slot in hand, for a record that the program keeps beside it.
+    ///
+    /// It leaves the slot in the hand of this handle alone, until a call makes it the node of a key, or it is let go. So a
+    /// program may write the record of this slot meanwhile, and nobody else does. A close, a drop and a renewal put it back.
+    ///
+    /// A slot that is held is one of the 64 that are counted for each handle.
+    ///
+    /// A [`Held`] borrows the pass, looks up by it, and lets go of the slot once it is dropped. [`Records`](crate::Records) are such
+    /// records.
     ///
     /// ```
     /// # use vbr::{Map, Shape};
@@ -121,7 +127,7 @@ impl<T: Kind> PassOf<T> {
     ///
     /// # Errors
     ///
-    /// [`Refusal::OutOfSteps`], [`Refusal::NoSlot`] and [`Refusal::EpochSpent`], as for an insert of an absent key.
+    /// [`Refusal::OutOfSteps`], [`Refusal::NoSlot`] and [`Refusal::EpochSpent`]. No call was made then.
     #[inline]
     pub fn hold(&mut self) -> Result<Held<'_, T>, Refusal> {
         self.hold_within(self.steps())
@@ -153,7 +159,13 @@ impl<T: Kind> PassOf<T> {
         Ok(Held { pass: self, slot })
     }
 
-    /// Looks a key up, and says where it stands. Its steps are those of [`PassOf::has`], or of a map's `get`: all loads.
+    /// Looks a key up and says where it stands.
+    ///
+    /// Returns its entry if the key is there; `None` if it is absent. It leaves what [`has`](crate::PassOf::has) leaves.
+    ///
+    /// Its steps are those of [`has`](crate::PassOf::has), all loads.
+    ///
+    /// In a map its steps are those of [`get`](crate::MapPass::get), all loads.
     ///
     /// ```
     /// # use vbr::{Set, Shape};
@@ -191,10 +203,14 @@ impl<T: Kind> PassOf<T> {
         Ok(looked_up(told)?.then_some(Incarnation { stands, kind: PhantomData }))
     }
 
-    /// Says whether a slot still belongs to the entry that was found there, in one step, a load. If so, at each moment since
-    /// the entry was found no other node was in the slot, and nobody had it in hand. So what was copied from beside it since
-    /// then is that entry's, and whole; [`Records::read`](crate::Records::read) copies and asks. The entry itself may have
-    /// been taken out meanwhile.
+    /// Says whether a slot still belongs to the entry that was found there.
+    ///
+    /// Returns `true` if at each moment since the entry was found, no other node was in the slot, and nobody had it in hand.
+    /// So a record that was copied from beside it in between is the entry's, and whole. The entry itself may have been taken
+    /// out meanwhile. Returns `false` if the slot was handed out anew, and what was copied belongs to no entry. It leaves the
+    /// set as it was. It makes one step, a load.
+    ///
+    /// [`Records::read`](crate::Records::read) copies and asks.
     ///
     /// ```
     /// # use vbr::{Map, Shape};
@@ -213,8 +229,10 @@ impl<T: Kind> PassOf<T> {
         unsafe { T::IS_STILL(self.raw(), &raw const at.stands) == code::YES }
     }
 
-    /// Takes a key out if it still has the very entry that was found, and says whether it had. Otherwise nothing was changed.
-    /// A budget that is enough for a remove is enough.
+    /// Takes a key out if it still has the very entry that was found.
+    ///
+    /// Returns `true` if the key had that entry, and is taken out. Returns `false` if it is absent, or was taken out and
+    /// added again since then; nothing was changed. It leaves what [`remove`](crate::Pass::remove) leaves.
     ///
     /// ```
     /// # use vbr::{Set, Shape};
@@ -240,7 +258,7 @@ impl<T: Kind> PassOf<T> {
     ///
     /// # Errors
     ///
-    /// [`OutOfSteps`]. No call was made then.
+    /// [`OutOfSteps`]: a budget that is enough for [`remove`](crate::Pass::remove) is enough. No call was made then.
     #[inline]
     pub fn remove_entry(&mut self, key: T::Key, at: &Incarnation<T>) -> Result<bool, OutOfSteps> {
         self.remove_entry_within(key, at, self.steps())
@@ -267,7 +285,10 @@ impl<T: Kind> PassOf<T> {
         looked_up(order::removes(key, || unsafe { T::REMOVE_ENTRY(self.raw(), key, &raw const at.stands, steps.count()) }))
     }
 
-    /// Returns the next key of a walk, and where it stands; `None` at the end. Otherwise it is as [`PassOf::next`].
+    /// Gives the next key of a walk and says where it stands.
+    ///
+    /// Returns the next key and its entry if one is left, which stood there at a moment of the call; `None` if the walk is at
+    /// its end. It leaves what [`next`](crate::PassOf::next) leaves. Its steps are those of [`next`](crate::PassOf::next).
     ///
     /// ```
     /// # use vbr::{Cursor, Set, Shape};
@@ -284,7 +305,7 @@ impl<T: Kind> PassOf<T> {
     ///
     /// # Errors
     ///
-    /// [`WalkError`], as for [`PassOf::next`].
+    /// [`WalkError::Reshaped`] and [`WalkError::OutOfSteps`]. No call was made then.
     #[inline]
     #[allow(clippy::type_complexity, reason = "it is what `next` gives, with the entry")]
     pub fn next_at(&self, cursor: &mut Cursor) -> Result<Option<(T::Key, Incarnation<T>)>, WalkError> {
@@ -416,7 +437,9 @@ impl<'p, T: Kind> Held<'p, T> {
 }
 
 impl<'p, K: Bits> Held<'p, Keys<K>> {
-    /// Adds a key, which stands in this slot then. If it was there, the slot comes back.
+    /// Adds a key by the slot that is held.
+    ///
+    /// Returns `Ok(())` if the key was absent, and stands in this slot; `Err` of the slot if it was there.
     ///
     /// ```
     /// # use vbr::{Set, Shape};
@@ -438,7 +461,10 @@ impl<'p, K: Bits> Held<'p, Keys<K>> {
 }
 
 impl<'p, K: Bits, V: Bits> Held<'p, Entries<K, V>> {
-    /// Adds a key with its value, which stands in this slot then. If it was there, the slot comes back.
+    /// Adds a key with its value by the slot that is held.
+    ///
+    /// Returns `Ok(())` if the key was absent, and stands in this slot; `Err` of the slot if it was there, and keeps its
+    /// value.
     ///
     /// ```
     /// # use vbr::{Map, Shape};
@@ -460,8 +486,10 @@ impl<'p, K: Bits, V: Bits> Held<'p, Entries<K, V>> {
         })
     }
 
-    /// Gives a key this value, in place of the very entry that was found: it stands in this slot then. If the key is absent or has
-    /// another entry by now, nothing is changed, and the slot comes back.
+    /// Gives a key this value by the slot that is held, in place of the very entry that was found.
+    ///
+    /// Returns `Ok(())` if the key still had that entry, and this slot took its place; `Err` of the slot if it is absent, or
+    /// has another entry by now, also one with the same value.
     ///
     /// ```
     /// # use vbr::{Map, Shape};
@@ -492,7 +520,10 @@ impl<'p, K: Bits, V: Bits> Held<'p, Entries<K, V>> {
         })
     }
 
-    /// Gives a key this value, whether it is there or not, and gives the one that it had: it stands in this slot then.
+    /// Gives a key this value by the slot that is held, whether it is there or not.
+    ///
+    /// Returns the value that it had if the key was there, and stands in the slot with the new value; `None` if it was
+    /// absent, and is inserted in the slot.
     ///
     /// ```
     /// # use vbr::{Map, Shape};

@@ -4,12 +4,14 @@ use core::fmt;
 use core::iter::FusedIterator;
 use core::ops::Deref;
 
-/// Where a walk over all keys stands: before the first key, after one, or at the end. [`PassOf::next`] takes it on, and no
-/// thread that makes calls holds it up.
+// %doc vbr_cursor
+/// Where a walk stands: before the first key, or after the one that was given last. It may be copied and kept, and a walk
+/// goes on from a copy as well, and by any handle of the set. The first call notes of which opening the handle is; once the
+/// set is renewed, calls answer [`WalkError::Reshaped`](crate::WalkError::Reshaped). With a handle of another set, the walk
+/// is refused or continues as a different one, and nothing is unsafe.
+// %end
 ///
-/// It is plain: it can be copied and kept, and the walk goes on from a copy as well, by any handle of the set. Once the set is
-/// renewed, calls from there are refused ([`WalkError::Reshaped`](crate::WalkError::Reshaped)). With a handle of another set the
-/// walk is refused or another one, and does no harm.
+/// [`PassOf::next`] takes it on, and no thread that makes calls holds it up.
 ///
 /// ```
 /// # use vbr::{Cursor, Set, Shape};

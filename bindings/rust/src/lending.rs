@@ -156,7 +156,7 @@ impl<T: Kind> Lender<T> {
         self.made.renewals.load(Ordering::Relaxed)
     }
 
-    /// Lets the handles go on over a fresh set of this shape, once all loans are back, if they are before the deadline. Where another
+    /// Lets the handles go on over a fresh set of this shape, once all loans are back, if they are before the deadline. If another
     /// thread gives the set this shape meanwhile, that serves both.
     pub(crate) fn renew(&self, shape: Shape, deadline: Option<Instant>, records: Option<&Words>) -> Result<(), RenewError> {
         let (before, wanted) = (self.renewals(), shape.opened().with_handles(self.count()));
@@ -164,8 +164,14 @@ impl<T: Kind> Lender<T> {
     }
 
     /// The same if it was renewed that often: any later renewal serves.
-    pub(crate) fn renew_once(&self, before: usize, shape: Shape, records: Option<&Words>) -> Result<(), RenewError> {
-        self.renew_unless(|| self.renewals() != before, shape, None, records)
+    pub(crate) fn renew_once(
+        &self,
+        before: usize,
+        shape: Shape,
+        deadline: Option<Instant>,
+        records: Option<&Words>,
+    ) -> Result<(), RenewError> {
+        self.renew_unless(|| self.renewals() != before, shape, deadline, records)
     }
 
     fn renew_unless(
@@ -211,6 +217,12 @@ impl<T: Kind> Lender<T> {
     /// A pause that hasn't begun.
     fn pause(&self) -> Pause<'_, T> {
         Pause { of: self, has_turn: false, taken: 0 }
+    }
+
+    /// Whether a thread waits for all loans, as far as this one sees.
+    #[inline]
+    pub(crate) fn is_paused(&self) -> bool {
+        self.lends.load(Ordering::Relaxed) == 0
     }
 
     /// Whether no renewal is under way; what the last one made can be read then.
@@ -315,12 +327,16 @@ impl<T: Kind> AsMut<HandleOf<T>> for Place<T> {
     }
 }
 
-/// A handle on loan: [`Lent`] from a set or a map that outlives it, or [`OwnedLent`] with a share of its own of the set or
-/// the map. It goes back when this is dropped, in whatever thread, and what was done with it comes before what the next
-/// borrower does. One that is forgotten ([`core::mem::forget`]) isn't lent again, unless a close is refused; it is closed with
-/// its set.
+// %doc loan
+/// A handle on loan. It goes back at the end of this, in whatever thread, and what was done with it comes before what the
+/// next borrower does.
 ///
-/// It derefs to the handle's pass ([`PassOf`]), which makes all calls and doesn't close: so the handle stays where it is.
+/// It has the handle's pass, which makes all calls and doesn't close. So the handle stays where it is.
+// %end
+///
+/// It is a [`Lent`] from a set or a map that outlives it, or an [`OwnedLent`] with a share of its own of the set or the map. One that is
+/// forgotten ([`core::mem::forget`]) isn't lent again, unless a close is refused; it is closed with its set. It derefs to the pass
+/// ([`PassOf`]).
 ///
 /// A loan without a name is dropped at the end of its statement, and so after the arms of a `match` and after the block of an
 /// `if let`: a second loan there waits for ever if no handle is free. Name the answer or the loan first, or make the call of the
@@ -396,8 +412,10 @@ impl<T: Kind, B: Deref<Target = Table<T>>> LentBy<T, B> {
         LentBy { table, number, place, before: None }
     }
 
-    /// The number of the handle, from 0 on and below [`Table::handle_count`]: for data that lies beside each handle. While it is on
-    /// loan no other loan of the set has this number.
+    // %doc loan_number
+    /// The number of the handle, from 0 on and below the number of handles: for data that lies beside each handle. No other
+    /// loan has this number meanwhile.
+    // %end
     ///
     /// ```
     /// # use vbr::{Set, Shape};

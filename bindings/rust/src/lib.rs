@@ -28,7 +28,8 @@
 //!   [`RecordMap`]. Up to [`MAX_SLOTS`] slots
 //!   (2,147,483,647), of which each key takes one and each handle keeps up to 64; [`MAX_MANY_HANDLES`] handles; memory that is
 //!   taken at the opening, 8 × (2 + buckets + 4 × slots + ⌈slots / 64⌉) bytes for a set, and 8 more for each slot of a map. A
-//!   set doesn't grow by itself: [`Table::renew`], [`Table::call`] and [`HandleOf::renew_all`] let it go on in another shape.
+//!   set doesn't grow by itself: [`Table::renew`], [`Table::call`] and [`HandleOf::renew_all`] let it go on in another shape, and
+//!   one of several tables does ([`Sharded`]).
 //! - **The epochs end.** Only calls that take a slot, for a key or a new value, advance the epoch, each by one at most: about three
 //!   of a hundred inserts, also in a full cache that takes a key out before each that it puts in, since a handle keeps slots in
 //!   reserve ([`PassOf::reserve`]); more in small sets. The last epoch [`MAX_EPOCH`] lasts
@@ -47,7 +48,7 @@
 //! - **Argued and tested**, and not proved: that calls which a program orders (by a lock, a channel, a join, or a release and an
 //!   acquire) stand in that order; that what was written before an insert can be read by whoever finds the key; that handles may
 //!   change threads, and signal handlers make calls; that processes which share a set go on when one is killed. This crate, its
-//!   loans, its waiting and its maps of records are tested, and proved by nobody.
+//!   loans, its waiting, its maps of records, its caches, and its sets and maps of several tables are tested, and proved by nobody.
 //!
 //! # Names
 //!
@@ -116,15 +117,33 @@
 //! ```
 //!
 //! Programs to begin from are in `examples`: `record_map.rs`, accounts by name, in a map whose keys and values are of any size;
-//! `page_cache.rs`, the index of a page cache; `slot_records.rs`, records of any size
-//! beside the slots of a map, and `records.rs`, records that values name; `limiter.rs`, a rate limiter; `logins.rs`, logins that
-//! expire; `server.rs`, a map that a clock renews; `visits.rs`, a map that grows; `prefork.rs`, processes that share a map and
-//! are killed; and short ones, `routes.rs`, `interner.rs` and `visited.rs`.
+//! `cache.rs`, pages in a fixed number of bytes, which threads load; `slot_records.rs`, records of any size beside the slots of a map;
+//! `limiter.rs`, a rate limiter; `logins.rs`, logins that a sweeper takes out when they have expired; `server.rs`, a map that a clock
+//! renews; `visits.rs`, a map that grows; `index.rs`, an index of several tables; `prefork.rs`, processes that share a map and are
+//! killed; and short ones, `routes.rs`, `interner.rs` and `visited.rs`.
+//!
+//! # More keys than one table is to have
+//!
+//! A [`ShardedSet`] and a [`ShardedMap`] are made of several tables, the shards. A hash gives each key one shard for good, and each shard
+//! grows and is renewed by itself, while calls on the others go on. So an index of 40 million keys has the epochs of small tables, and no
+//! renewal stops all callers.
+//!
+//! ```
+//! use vbr::{Growth, Shape, ShardedMap};
+//!
+//! let share = Shape::for_shards(400_000, 16, 4); // a sixteenth of the keys, for 4 threads at a time
+//! let pages = ShardedMap::open(16, share, Growth::up_to(2 * share.slots))?; // and each shard may grow to twice its slots
+//! assert!(pages.try_insert(5, 50)?);
+//! assert_eq!((pages.get(5)?, pages.count_about()), (Some(50), 1));
+//! # Ok::<(), Box<dyn std::error::Error>>(())
+//! ```
+//!
+//! The page of [`Sharded`] says in which order calls stand, and what doesn't hold of several tables.
 //!
 //! # Maps of records
 //!
 //! A [`RecordMap`] has keys and values of any size, in fixed memory: values that are structs by [`record!`], and keys that are
-//! numbers, strings of a fixed capacity ([`SmallStr`]), or structs by [`impl_record_key!`]. Its calls are those of a map. A value is
+//! numbers, strings and bytes of a fixed capacity ([`SmallStr`], [`SmallBytes`]), or structs by [`impl_record_key!`]. Its calls are those of a map. A value is
 //! read as a copy, which is whole, and [`RecordMap::compute`] loses no update.
 //!
 //! ```
@@ -147,17 +166,35 @@
 //! # Ok::<(), Box<dyn std::error::Error>>(())
 //! ```
 //!
-//! A key of at most 64 bits is kept as itself. A longer one is hashed to 64 bits, by a hash whose key is drawn at random, and
-//! the whole key is compared. A second key with the same hash is refused ([`RecordRefusal::HashTaken`]): of a million keys some have
-//! one with a probability of 3 in a hundred million. Values are plain data, copied whole: for many bytes of which a call wants few, keep
-//! a number, and [`Records`]. Tasks don't await a loan of such a map, and processes don't share it.
+//! A key of more than 64 bits is hashed, and compared whole; its page says what two keys with one hash do. Values are plain data, copied
+//! whole: for many bytes of which a call wants few, keep a number, and [`Records`]. Tasks don't await a loan of such a map, and processes
+//! don't share it.
+//!
+//! # Caches
+//!
+//! A [`Cache`] is a map of records with a bound: it is opened for a number of bytes, which it never exceeds, or of entries, and evicts
+//! what wasn't used. Entries may have a time to live. [`Cache::get_or_load`] runs a loader once, however many threads miss the key. It
+//! renews itself before its last epoch, and counts its hits and misses.
+//!
+//! ```
+//! use std::time::Duration;
+//! use vbr::{Cache, CacheOptions, SmallBytes, SmallStr};
+//!
+//! let options = CacheOptions::new().with_time_to_live(Duration::from_secs(60));
+//! let pages: Cache<SmallStr<64>, SmallBytes<1_024>> = options.open_bytes(8 << 20, 4)?; // 8 MiB, four threads at a time
+//! let page = SmallStr::new("/index")?;
+//! let read = || SmallBytes::new(b"<html>"); // from a disk
+//! assert_eq!(pages.get_or_load(page, read)?, *b"<html>");
+//! assert!(pages.get(page)?.is_some());
+//! pages.remove(page)?; // the page was changed
+//! # Ok::<(), Box<dyn std::error::Error>>(())
+//! ```
 //!
 //! # Records of any size
 //!
-//! [`Records`] are values of any size, in fixed memory, one for each slot of a set or a map. A thread holds a slot
+//! [`Records`] are values of any size beside the slots of a set or a map. A thread holds a slot
 //! ([`PassOf::hold`]), writes its record, which nobody else does meanwhile, and publishes it with a key by the [`Held`] slot.
-//! A reader gets a copy that is whole, and belongs to the entry that the key had at a moment of the call. Nobody waits, and
-//! nobody frees a record.
+//! A reader gets a copy that is whole. Nobody waits, and nobody frees a record.
 //!
 //! [`PassOf::get_entry`] says where a key stands, and [`PassOf::iter_at`] where each key of a walk does.
 //! [`PassOf::remove_entry`] takes a key out only with the entry that was found.
@@ -178,8 +215,7 @@
 //! # Going over all keys
 //!
 //! [`PassOf::iter`] goes over all keys, and of a map over all entries, while other threads make calls. Each key that
-//! is there all the while is given, once, and none that wasn't there at a moment of its call. What isn't said is that they were
-//! there together at one moment.
+//! is there all the while is given once, and no key that was absent all the while. They needn't have been there together at one moment.
 //!
 //! ```
 //! use vbr::{Set, Shape};
@@ -236,10 +272,10 @@
 //! ```
 //!
 //! A loan without a name lasts to the end of its statement: in `match map.lend_wait().get(5)? { .. }` through all arms. A
-//! second loan in an arm is then one beside the first, and the thread waits for ever if no other handle comes back; so it is in
+//! second loan in an arm is then one beside the first, and the thread waits for ever if no other handle comes back; likewise in
 //! `if let` and `while let`. Keep the answer by a `let` before, or the loan, and make both calls by it. Or make the call of the
 //! map itself: [`get`](Map::get), [`put`](Map::put), [`insert`](Set::insert) of a set and so on lend a handle, call, and have it
-//! back when they return. Clippy tells of such a statement by `significant_drop_in_scrutinee`.
+//! back when they return. Clippy reports such a statement by `significant_drop_in_scrutinee`.
 //!
 //! ```
 //! # use vbr::{Map, Shape};
@@ -252,7 +288,7 @@
 //! ```
 //!
 //! [`Table::call`] makes calls by such a loan too. If one is refused for want of a slot or an epoch it renews the set, to a
-//! larger shape as far as it is told to ([`Growth`]), and makes the call again.
+//! larger shape as far as [`Growth`] lets it, and makes the call again.
 //!
 //! No call is a point of cancellation; but Rust doesn't say what becomes of a thread that is cancelled (`pthread_cancel`), so
 //! cancel none that has a handle. A call in which a signal comes goes on afterwards. The handler may insert, remove, change
@@ -265,7 +301,7 @@
 //! # Processes
 //!
 //! A [`SharedSet`] or a [`SharedMap`] lies in memory that a process shares with those that it forks afterwards. Any of them may be
-//! killed at any moment, and the others go on, in the same time and with right answers. A process claims a handle. That is
+//! killed at any moment, and the others go on. A process claims a handle. That is
 //! `unsafe`, since nothing can see whether another process has the handle. It makes calls by turns, which mark the handle while
 //! they last.
 //!
@@ -309,6 +345,10 @@ extern crate alloc;
 mod all;
 mod bits;
 mod boxed;
+mod cache;
+mod cache_lent;
+mod cache_loads;
+mod cache_options;
 mod calling;
 mod changing;
 mod entry;
@@ -334,6 +374,8 @@ mod records;
 mod reporting;
 mod set;
 mod shape;
+mod sharded;
+mod small_bytes;
 mod small_str;
 mod steps;
 mod table;
@@ -341,6 +383,10 @@ mod tasks;
 mod waiting;
 
 pub use bits::{Bits, ByBits};
+pub use cache::{Cache, CacheStatistics};
+pub use cache_lent::{CacheChange, CacheLent};
+pub use cache_loads::LoadError;
+pub use cache_options::{CacheOpenError, CacheOptions};
 pub use calling::Growth;
 pub use changing::{Change, Compared};
 pub use entry::{Entry, ModifiedEntry};
@@ -363,7 +409,9 @@ pub use record_map::RecordMap;
 pub use records::{Record, Records};
 pub use set::{Handle, Pass, Report, Set};
 pub use shape::{random_seed, Shape, ShapeError};
-pub use small_str::{SmallStr, TooLong};
+pub use sharded::{ShardRefusal, ShardStats, Sharded, ShardedIter, ShardedMap, ShardedSet, MAX_SHARDS};
+pub use small_bytes::{SmallBytes, TooLong};
+pub use small_str::SmallStr;
 pub use steps::Steps;
 pub use table::Table;
 pub use tasks::LendAsync;
@@ -383,16 +431,23 @@ pub const MAX_SLOTS: u32 = 2_147_483_647;
 /// ```
 pub const MAX_BUCKETS: u32 = 2_147_483_648;
 
-/// A last epoch that every shape takes: the greatest of 16,777,215 slots. With more slots it means the greatest that they leave
-/// room for. Small sets may have a greater one ([`max_epoch`]).
+// %doc VBR_MAX_EPOCH
+/// A last epoch that every shape accepts: the greatest for 16,777,215 slots. With more slots it stands for the greatest that
+/// they leave room for. Small sets may have a greater one.
+// %end
+///
+/// [`max_epoch`] gives that of any number of slots.
 ///
 /// ```
 /// assert_eq!(vbr::Shape::for_keys(8, 1).last_epoch, vbr::MAX_EPOCH);
 /// ```
 pub const MAX_EPOCH: u64 = 549_755_813_887;
 
-/// Returns the greatest last epoch of a set or a map with this many slots, or 0 if none can have so many. The more bits the
-/// number of slots has, the fewer are left for the epoch.
+// %doc vbr_max_epoch: sentence returns
+/// Returns the greatest last epoch of a set or a map with this many slots.
+///
+/// It is 0 if none can have so many slots. The more bits their number has, the fewer are left for the epoch.
+// %end
 ///
 /// ```
 /// assert_eq!(vbr::max_epoch(16_777_215), vbr::MAX_EPOCH);

@@ -21,8 +21,8 @@ pub(crate) mod code {
     pub(crate) const DONE: i32 = 0;
 }
 
-/// As C sees a handle: what it owns, null where it is empty, and the budget of its calls, which the library leaves alone. The mark
-/// that a call is under way is in use where processes share the handle. The library tells by `opening` whether the set was renewed.
+/// As C sees a handle: what it owns, null if it is empty, and the budget of its calls, which the library leaves alone. The mark
+/// that a call is under way is in use if processes share the handle. By `opening` the library knows whether the set was renewed.
 #[repr(C)]
 pub(crate) struct Raw {
     pub(crate) owned: *mut c_void,
@@ -70,7 +70,7 @@ pub(crate) struct Stands {
     pub(crate) slot: u32,
 }
 
-/// What a get of several keys tells of one.
+/// What a get of several keys answers for one.
 #[repr(C)]
 #[derive(Clone, Copy, Default)]
 pub(crate) struct Found {
@@ -103,6 +103,10 @@ extern "C" {
     fn vbr_buckets(handle: *const Raw) -> u32;
     fn vbr_seed(handle: *const Raw) -> u64;
     fn vbr_balance(handle: *const Raw) -> i64;
+    fn vbr_restarts(handle: *const Raw) -> u64;
+    fn vbr_helps(handle: *const Raw) -> u64;
+    fn vbr_advances(handle: *const Raw) -> u64;
+    fn vbr_free_about(handle: *const Raw) -> u32;
     fn vbr_spare(handle: *mut Raw) -> u32;
     fn vbr_reserve(handle: *mut Raw, wanted: u32) -> u32;
     fn vbr_close_all(handles: *mut Raw, count: usize, keys: *mut u64, room: usize, report: *mut ReportNumbers) -> i32;
@@ -124,6 +128,7 @@ extern "C" {
     pub(crate) fn vbr_map_get_within(handle: *mut Raw, key: u64, value: *mut u64, steps: u32) -> i32;
     pub(crate) fn vbr_map_replace_within(handle: *mut Raw, key: u64, value: u64, there: *mut u64, steps: u32) -> i32;
     pub(crate) fn vbr_map_put_within(handle: *mut Raw, key: u64, value: u64, there: *mut u64, steps: u32) -> i32;
+    pub(crate) fn vbr_map_fetch_add_within(handle: *mut Raw, key: u64, delta: u64, there: *mut u64, steps: u32) -> i32;
     pub(crate) fn vbr_map_get_or_insert_within(handle: *mut Raw, key: u64, value: u64, there: *mut u64, steps: u32) -> i32;
     pub(crate) fn vbr_map_compare_exchange_within(
         handle: *mut Raw,
@@ -144,6 +149,10 @@ extern "C" {
     fn vbr_map_buckets(handle: *const Raw) -> u32;
     fn vbr_map_seed(handle: *const Raw) -> u64;
     fn vbr_map_balance(handle: *const Raw) -> i64;
+    fn vbr_map_restarts(handle: *const Raw) -> u64;
+    fn vbr_map_helps(handle: *const Raw) -> u64;
+    fn vbr_map_advances(handle: *const Raw) -> u64;
+    fn vbr_map_free_about(handle: *const Raw) -> u32;
     fn vbr_map_spare(handle: *mut Raw) -> u32;
     fn vbr_map_reserve(handle: *mut Raw, wanted: u32) -> u32;
     fn vbr_map_close_all(handles: *mut Raw, count: usize, entries: *mut Pair, room: usize, report: *mut ReportNumbers)
@@ -237,7 +246,7 @@ extern "C" {
     pub(crate) fn vbr_unmap_shared(handles: *mut SharedRaw);
 }
 
-/// The calls of the library that sets and maps have alike, over an item, a key or a key with its value, and what a close tells.
+/// The calls of the library that sets and maps have alike, over an item, a key or a key with its value, and what a close reports.
 #[allow(clippy::type_complexity, reason = "a call has the type that it has in C")]
 pub(crate) trait Calls<Item, Told> {
     /// An item as C sees it.
@@ -257,6 +266,10 @@ pub(crate) trait Calls<Item, Told> {
     const BUCKETS: unsafe extern "C" fn(*const Raw) -> u32;
     const SEED: unsafe extern "C" fn(*const Raw) -> u64;
     const BALANCE: unsafe extern "C" fn(*const Raw) -> i64;
+    const RESTARTS: unsafe extern "C" fn(*const Raw) -> u64;
+    const HELPS: unsafe extern "C" fn(*const Raw) -> u64;
+    const ADVANCES: unsafe extern "C" fn(*const Raw) -> u64;
+    const FREE_ABOUT: unsafe extern "C" fn(*const Raw) -> u32;
     const SPARE: unsafe extern "C" fn(*mut Raw) -> u32;
     const RESERVE: unsafe extern "C" fn(*mut Raw, u32) -> u32;
     const CLOSE_ALL: unsafe extern "C" fn(*mut Raw, usize, *mut Self::Plain, usize, *mut ReportNumbers) -> i32;
@@ -287,7 +300,7 @@ pub(crate) trait Calls<Item, Told> {
     fn item(plain: Self::Plain) -> Item;
     fn key(plain: &Self::Plain) -> u64;
 
-    /// What the last close tells.
+    /// What the last close reports.
     fn report(contents: Contents<Item>) -> Told;
 
     /// Puts an item in, in the place of the one with its key if there is one, and says whether there was none.
@@ -319,6 +332,10 @@ impl<K: Bits> Calls<K, Report<K>> for Keys<K> {
     const BUCKETS: unsafe extern "C" fn(*const Raw) -> u32 = vbr_buckets;
     const SEED: unsafe extern "C" fn(*const Raw) -> u64 = vbr_seed;
     const BALANCE: unsafe extern "C" fn(*const Raw) -> i64 = vbr_balance;
+    const RESTARTS: unsafe extern "C" fn(*const Raw) -> u64 = vbr_restarts;
+    const HELPS: unsafe extern "C" fn(*const Raw) -> u64 = vbr_helps;
+    const ADVANCES: unsafe extern "C" fn(*const Raw) -> u64 = vbr_advances;
+    const FREE_ABOUT: unsafe extern "C" fn(*const Raw) -> u32 = vbr_free_about;
     const SPARE: unsafe extern "C" fn(*mut Raw) -> u32 = vbr_spare;
     const RESERVE: unsafe extern "C" fn(*mut Raw, u32) -> u32 = vbr_reserve;
     const CLOSE_ALL: unsafe extern "C" fn(*mut Raw, usize, *mut Self::Plain, usize, *mut ReportNumbers) -> i32 =
@@ -397,6 +414,10 @@ impl<K: Bits, V: Bits> Calls<(K, V), MapReport<K, V>> for Entries<K, V> {
     const BUCKETS: unsafe extern "C" fn(*const Raw) -> u32 = vbr_map_buckets;
     const SEED: unsafe extern "C" fn(*const Raw) -> u64 = vbr_map_seed;
     const BALANCE: unsafe extern "C" fn(*const Raw) -> i64 = vbr_map_balance;
+    const RESTARTS: unsafe extern "C" fn(*const Raw) -> u64 = vbr_map_restarts;
+    const HELPS: unsafe extern "C" fn(*const Raw) -> u64 = vbr_map_helps;
+    const ADVANCES: unsafe extern "C" fn(*const Raw) -> u64 = vbr_map_advances;
+    const FREE_ABOUT: unsafe extern "C" fn(*const Raw) -> u32 = vbr_map_free_about;
     const SPARE: unsafe extern "C" fn(*mut Raw) -> u32 = vbr_map_spare;
     const RESERVE: unsafe extern "C" fn(*mut Raw, u32) -> u32 = vbr_map_reserve;
     const CLOSE_ALL: unsafe extern "C" fn(*mut Raw, usize, *mut Self::Plain, usize, *mut ReportNumbers) -> i32 =
@@ -489,7 +510,7 @@ pub(crate) fn looked_up(told: i32) -> Result<bool, OutOfSteps> {
     }
 }
 
-/// The answer of a call that writes the value that was there where it answers yes.
+/// The answer of a call that writes the value that was there if it answers yes.
 #[inline]
 pub(crate) fn with_value<V: Bits, E>(
     answer: impl FnOnce(i32) -> Result<bool, E>,
@@ -500,7 +521,7 @@ pub(crate) fn with_value<V: Bits, E>(
     Ok(was_there.then(|| V::from_bits(value)))
 }
 
-/// The answer of a call that compares the value of a key, and writes its bits where the key is there.
+/// The answer of a call that compares the value of a key, and writes its bits if the key is there.
 #[inline]
 pub(crate) fn compared<E>(
     answer: impl FnOnce(i32) -> Result<bool, E>,
@@ -561,7 +582,7 @@ impl Answered for Found {
     }
 }
 
-/// The answer that a get of several keys tells of one.
+/// The answer that a get of several keys gives for one.
 #[inline]
 pub(crate) fn found<V: Bits>(Found { value, answer }: Found) -> Result<Option<V>, OutOfSteps> {
     Ok(looked_up(answer)?.then(|| V::from_bits(value)))

@@ -13,7 +13,7 @@ use core::slice;
 /// |---|---|
 /// | open and end | [`open`](Map::open), [`open_with`](Map::open_with), [`close`](Map::close), [`end`](Map::end) |
 /// | look up, by a loan for it alone | [`get`](Map::get), [`contains_key`](Map::contains_key), [`has`](Map::has) |
-/// | change, by a loan for it alone | [`try_insert`](Map::try_insert), [`put`](Map::put), [`replace`](Map::replace), [`get_or_insert`](Map::get_or_insert), [`compare_exchange`](Map::compare_exchange), [`fetch_update`](Map::fetch_update), [`compute`](Map::compute), [`remove`](Map::remove), [`remove_if`](Map::remove_if), [`remove_when`](Map::remove_when) |
+/// | change, by a loan for it alone | [`try_insert`](Map::try_insert), [`put`](Map::put), [`replace`](Map::replace), [`fetch_add`](Map::fetch_add), [`get_or_insert`](Map::get_or_insert), [`compare_exchange`](Map::compare_exchange), [`fetch_update`](Map::fetch_update), [`compute`](Map::compute), [`remove`](Map::remove), [`remove_if`](Map::remove_if), [`remove_when`](Map::remove_when) |
 /// | call, and grow if need be | [`call`](Map::call) |
 /// | borrow a handle | [`lend`](Map::lend), [`lend_wait`](Map::lend_wait), [`lend_timeout`](Map::lend_timeout), [`lend_owned`](Map::lend_owned), [`lend_owned_wait`](Map::lend_owned_wait), [`lend_owned_timeout`](Map::lend_owned_timeout), [`lend_async`](Map::lend_async), [`lend_owned_async`](Map::lend_owned_async) |
 /// | own handles | [`handles`](Map::handles), [`handles_with`](Map::handles_with), [`into_handles`](Map::into_handles), [`from_handles`](Map::from_handles), [`pass_mut`](Map::pass_mut) |
@@ -57,13 +57,13 @@ pub type Map<K = u64, V = u64> = Table<Entries<K, V>>;
 /// ```
 pub type MapHandle<K = u64, V = u64> = HandleOf<Entries<K, V>>;
 
-/// The pass of a handle to a map: the right of one thread at a time to make calls.
+/// The pass of a handle to a map, as [`PassOf`](crate::PassOf) says.
 ///
 /// | To | Calls |
 /// |---|---|
 /// | look up | [`get`](MapPass::get), [`get_all`](MapPass::get_all), [`contains_key`](MapPass::contains_key), [`has`](MapPass::has), [`has_all`](MapPass::has_all) |
 /// | change | [`try_insert`](MapPass::try_insert), [`put`](MapPass::put), [`replace`](MapPass::replace), [`remove`](MapPass::remove) |
-/// | do what depends on what is there | [`get_or_insert`](MapPass::get_or_insert), [`compare_exchange`](MapPass::compare_exchange), [`remove_if`](MapPass::remove_if), [`remove_when`](MapPass::remove_when), [`fetch_update`](MapPass::fetch_update), [`compute`](MapPass::compute), [`entry`](MapPass::entry) |
+/// | do what depends on what is there | [`fetch_add`](MapPass::fetch_add), [`get_or_insert`](MapPass::get_or_insert), [`compare_exchange`](MapPass::compare_exchange), [`remove_if`](MapPass::remove_if), [`remove_when`](MapPass::remove_when), [`fetch_update`](MapPass::fetch_update), [`compute`](MapPass::compute), [`entry`](MapPass::entry) |
 /// | change many | [`try_insert_all`](MapPass::try_insert_all), [`put_all`](MapPass::put_all), [`try_extend`](MapPass::try_extend), [`retain`](MapPass::retain), [`drain`](MapPass::drain), [`clear`](MapPass::clear) |
 /// | go over entries | [`iter`](MapPass::iter), [`keys`](MapPass::keys), [`values`](MapPass::values), [`next`](MapPass::next), [`iter_at`](MapPass::iter_at), [`next_at`](MapPass::next_at) |
 /// | name entries, and hold slots | [`get_entry`](MapPass::get_entry), [`is_still`](MapPass::is_still), [`remove_entry`](MapPass::remove_entry), [`hold`](MapPass::hold) |
@@ -85,10 +85,15 @@ impl<K: Bits, V: Bits> Kind for Entries<K, V> {
 
 /// The calls of maps alone.
 impl<K: Bits, V: Bits> PassOf<Entries<K, V>> {
-    /// Adds a key with its value if it is absent, and says whether it was. A key that is there keeps the value that it has;
-    /// what `HashMap::insert` does, which replaces it, is [`MapPass::put`]. While the other handles stand still, 18n + 82
-    /// steps are enough, or 18n + w + 20 if that is more, with n nodes in the bucket of the key and w = slots / 64, rounded
-    /// up.
+    /// Adds a key with its value.
+    ///
+    /// Returns `true` if the key was absent, and is added; `false` if it was there, and keeps the value that it has. After
+    /// `true` it leaves the handle's reserve for the next inserts topped up, as [`reserve`](crate::PassOf::reserve) says.
+    ///
+    /// While the other handles stand still, 18n + 82 steps are enough, or 18n + w + 20 if that is more, with n nodes in the
+    /// bucket of the key and w = slots / 64, rounded up.
+    ///
+    /// What `HashMap::insert` does, which replaces the value of a key that is there, is [`MapPass::put`].
     ///
     /// ```
     /// # use vbr::{Map, Shape};
@@ -101,8 +106,12 @@ impl<K: Bits, V: Bits> PassOf<Entries<K, V>> {
     ///
     /// # Errors
     ///
-    /// [`Refusal::OutOfSteps`], and, if the key is absent, [`Refusal::NoSlot`] and [`Refusal::EpochSpent`]. No call was made
-    /// then.
+    /// - [`Refusal::Held`] and [`Refusal::OutOfSteps`].
+    /// - [`Refusal::NoSlot`]: the key is absent. Have other handles give their slots back
+    ///   ([`give_slots_back`](crate::PassOf::give_slots_back)), remove keys, or try again.
+    /// - [`Refusal::EpochSpent`]: the key is absent.
+    ///
+    /// No call was made then.
     #[inline]
     pub fn try_insert(&mut self, key: K, value: V) -> Result<bool, Refusal> {
         self.try_insert_within(key, value, self.steps())
@@ -127,11 +136,13 @@ impl<K: Bits, V: Bits> PassOf<Entries<K, V>> {
         updated(order::adds(key, || unsafe { vbr_map_insert_within(self.raw(), key, value, steps.count()) }))
     }
 
-    /// Takes a key out, and gives the value that it had, if it was there: that of the entry that this call took, and no other one.
-    /// While the other handles stand still, 9n + 11 steps are enough, with n nodes in the bucket of the key.
+    /// Takes a key out with its value.
     ///
-    /// If it was there, its node has left its list, unless the budget ended first: then the next insert or remove that passes
-    /// the node takes it out.
+    /// Returns the value of the entry that this call took if the key was there, and is taken out; `None` if it was absent.
+    /// After `Some` it leaves the key's node out of its list, unless the budget ended first. Then the next insert or remove
+    /// that passes the node takes it out.
+    ///
+    /// While the other handles stand still, 9n + 11 steps are enough, with n nodes in the bucket of the key.
     ///
     /// ```
     /// # use vbr::{Map, Shape};
@@ -170,8 +181,11 @@ impl<K: Bits, V: Bits> PassOf<Entries<K, V>> {
         })
     }
 
-    /// The value of a key, if the key is in the map. All steps are loads; while the other handles stand still, 5n + 11 are enough,
-    /// with n nodes in the bucket of the key.
+    /// Looks a key up and gives its value.
+    ///
+    /// Returns its value if the key is there; `None` if it is absent. It leaves the map as it was: its steps are loads.
+    ///
+    /// While the other handles stand still, 5n + 11 steps are enough, with n nodes in the bucket of the key.
     ///
     /// It takes `&self`, as [`PassOf::has`] does.
     ///
@@ -219,8 +233,11 @@ impl<K: Bits, V: Bits> PassOf<Entries<K, V>> {
         })
     }
 
-    /// Looks keys up in their order, each with the budget of the handle, and writes what [`MapPass::get`] answers to each at its
-    /// place, as [`PassOf::has_all`] does for keys alone.
+    /// Looks keys up and gives their values, as [`has_all`](crate::PassOf::has_all) looks keys up.
+    ///
+    /// A refusal of one look-up says nothing about the others.
+    ///
+    /// Each has the budget of the handle, and what [`MapPass::get`] answers to it is written at its place.
     ///
     /// ```
     /// # use vbr::{Map, Shape};

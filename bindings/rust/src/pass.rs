@@ -7,9 +7,11 @@ use core::fmt;
 use core::marker::PhantomData;
 use core::{ptr, slice};
 
-/// The calls that a handle makes: the right of one thread at a time to make them. A [`HandleOf`](crate::HandleOf) owns its pass, a loan
-/// ([`LentBy`](crate::LentBy)) has that of the handle on loan, and a turn ([`Turn`](crate::Turn)) that of a handle which processes
-/// share; all deref to it, so a function that takes a pass takes any of them.
+/// The right of one thread at a time to make calls on a set or a map: what a handle owns and a loan lends, so a function that
+/// takes a pass takes either.
+///
+/// A [`HandleOf`](crate::HandleOf) owns its pass, a loan ([`LentBy`](crate::LentBy)) has that of the handle on loan, and a turn
+/// ([`Turn`](crate::Turn)) that of a handle which processes share; all deref to it.
 ///
 /// A pass is reached by reference alone. It has no size, so that none can be put in the place of another: handles stay in the
 /// sets that lend them, whatever a borrower does. It is neither `Clone` nor `Sync`.
@@ -92,8 +94,14 @@ impl<T: Kind> PassOf<T> {
         Steps::new(unsafe { (*self.raw()).steps })
     }
 
-    /// Whether a key is there. All steps are loads; while the other handles stand still, 5n + 11 are enough, with n nodes in the
-    /// bucket of the key. `contains` of a set and `contains_key` of a map are other names of it.
+    /// Looks a key up.
+    ///
+    /// Returns `true` if the key is there; `false` if it is absent. It leaves all that another thread can see as it was: its
+    /// steps are loads.
+    ///
+    /// While the other handles stand still, 5n + 11 steps are enough, with n nodes in the bucket of the key.
+    ///
+    /// `contains` of a set and `contains_key` of a map are other names of it.
     ///
     /// It changes what the handle owns, and nothing that another handle sees, so it takes `&self` of a type that is not `Sync`.
     ///
@@ -132,10 +140,14 @@ impl<T: Kind> PassOf<T> {
         looked_up(order::finds(key, || unsafe { T::HAS(self.raw(), key, steps.count()) }))
     }
 
-    /// Looks keys up in their order, each with the budget of the handle, and writes what [`PassOf::has`] answers to each at its
-    /// place. Each is a call of its own, so a refusal says nothing of the keys after it.
+    /// Looks keys up, in their order, each by a call of its own.
     ///
-    /// It is for many keys of a set that is larger than the cache: their look-ups wait for memory together.
+    /// A refusal of one look-up says nothing about the others.
+    ///
+    /// Use it for many keys of a set that is larger than the cache. Before the look-ups of sixteen keys it loads what they
+    /// begin with, so that they wait for memory together. These loads don't count as steps.
+    ///
+    /// Each has the budget of the handle, and what [`PassOf::has`] answers to it is written at its place.
     ///
     /// ```
     /// # use vbr::{Set, Shape};
@@ -229,9 +241,8 @@ impl<T: Kind> PassOf<T> {
     ///
     /// # Errors
     ///
-    /// An item is [`OutOfSteps`] if a whole call didn't come to a later bucket, as [`Iter`] says. While the other handles
-    /// stand still that is so only if the budget is below 5n + 11, with n nodes in the bucket. If they disturb the call there
-    /// m times, it is so only below (m + 1)(5(n + m) + 11).
+    /// An item is [`OutOfSteps`] if a whole call didn't come to a later bucket, as [`Iter`] says; [`PassOf::next`] says which
+    /// budget is enough.
     #[inline]
     pub fn iter(&self) -> Iter<'_, T> {
         self.iter_within(self.steps())
@@ -255,14 +266,20 @@ impl<T: Kind> PassOf<T> {
         Iter::new(self, steps)
     }
 
-    /// The next key of a walk; `None` at its end. The cursor is after the key then. A walk begins at [`Cursor::first`], and
-    /// what [`PassOf::iter`] says of a walk holds for these calls of one handle.
+    /// Gives the next key of a walk, by loads alone.
     ///
-    /// It makes three steps for each bucket that it enters, three for a removed node that is still in its list, and five for
-    /// another; and of a map two more, to read the value. If others disturb it in a bucket, it goes over that bucket again,
-    /// at most once for each disturbance. After the last node of a bucket the cursor is before the next bucket.
+    /// Returns the next key if one is left, which was there during the call; `None` if the walk is at its end: no key is
+    /// left. It leaves the cursor after the key that was given, and at [`WalkError::OutOfSteps`] as far as it has come. After
+    /// the last node of a bucket it is before the next bucket, so a walk doesn't enter the bucket again.
     ///
-    /// Between two of them the handle makes any other calls.
+    /// It enters the cursor's bucket at its head. It makes three steps for each bucket that it enters, three for a removed
+    /// node that is still in its list, and five for any other node. If others disturb it in a bucket, it goes over that
+    /// bucket again, at most once for each disturbance.
+    ///
+    /// In a map the value takes two steps more.
+    ///
+    /// A walk begins at [`Cursor::first`], and what [`PassOf::iter`] says of a walk holds for these calls of one handle. Between
+    /// two of them the handle makes any other calls.
     ///
     /// ```
     /// # use vbr::{Cursor, Set, Shape};
@@ -292,10 +309,12 @@ impl<T: Kind> PassOf<T> {
     ///
     /// # Errors
     ///
-    /// [`WalkError::OutOfSteps`]. The cursor keeps how far it has come, so make the call again. While the other handles
-    /// stand still, it has come to a later bucket, or the budget was below 5n + 11, with n nodes in the cursor's bucket.
+    /// - [`WalkError::Reshaped`].
+    /// - [`WalkError::OutOfSteps`]: call again, and with twice the budget if that may have been too small. The cursor has
+    ///   come to a later bucket then, or the budget was too small for its bucket. With n nodes there, 5n + 11 steps are
+    ///   enough while the other handles stand still, and (m + 1)(5(n + m) + 11) if they disturb the call there m times.
     ///
-    /// [`WalkError::Reshaped`] if the set was renewed since the walk began: begin anew.
+    /// No call was made then.
     #[inline]
     pub fn next(&self, cursor: &mut Cursor) -> Result<Option<T::Item>, WalkError> {
         self.next_within(cursor, self.steps())
@@ -333,8 +352,10 @@ impl<T: Kind> PassOf<T> {
         cursor.go_on(|cursor| self.next_within(cursor, steps))
     }
 
-    /// The last epoch that the handle read in a call; 1 before its first. It makes no step, so others may have advanced the
-    /// epoch since. Renew the set before it comes to [`PassOf::last_epoch`].
+    /// Returns the epoch that the handle read last in a call.
+    ///
+    /// It is 1 before its first call. Renew the set before it reaches [`last_epoch`](crate::PassOf::last_epoch). It makes no
+    /// step, so others may have advanced the epoch since.
     ///
     /// ```
     /// # use vbr::{Set, Shape};
@@ -349,7 +370,7 @@ impl<T: Kind> PassOf<T> {
         unsafe { T::EPOCH(self.raw()) }
     }
 
-    /// The last epoch of the set.
+    /// Returns the last epoch that the set was opened with.
     ///
     /// ```
     /// # use vbr::{Set, Shape};
@@ -363,7 +384,7 @@ impl<T: Kind> PassOf<T> {
         unsafe { T::LAST_EPOCH(self.raw()) }
     }
 
-    /// How many slots the set has.
+    /// Returns how many slots the set was opened with.
     ///
     /// ```
     /// # use vbr::{Set, Shape};
@@ -377,7 +398,7 @@ impl<T: Kind> PassOf<T> {
         unsafe { T::SLOTS(self.raw()) }
     }
 
-    /// How many buckets the set has.
+    /// Returns how many buckets the set was opened with.
     ///
     /// ```
     /// # use vbr::{Set, Shape};
@@ -391,9 +412,10 @@ impl<T: Kind> PassOf<T> {
         unsafe { T::BUCKETS(self.raw()) }
     }
 
-    /// The seed that spreads the keys of the set over its buckets, drawn or given: the one that it was opened with, or, of
-    /// one from 2^63 on, its equivalent below 2^63, which is 2^63 less. With it a set has each key in the same bucket, if it
-    /// has as many.
+    /// Returns a seed below 2^63 that spreads keys over the buckets as those of the set are spread.
+    ///
+    /// It is the seed that the set was opened with, drawn or given; if that is 2^63 or more, its equivalent, which is 2^63
+    /// less.
     ///
     /// ```
     /// # use vbr::{Set, Shape};
@@ -407,13 +429,18 @@ impl<T: Kind> PassOf<T> {
         unsafe { T::SEED(self.raw()) }
     }
 
-    /// How many keys the calls of the handle have added, less those that they took out: the inserts that were answered yes, less
-    /// the removes that were. The first of the handles that were opened together begins with the keys that the set opened with,
-    /// and the others with 0. A call that changes a value leaves it as it was. It makes no step.
+    /// Returns how many keys the handle's calls have added, less those that they took out.
     ///
-    /// So while no call is under way the balances of all handles of a set add up to the number of its keys. A handle takes its
-    /// balance along when it is closed. While threads run, let each put the balance of its handle where the others read it: the
-    /// sum of these is off by at most the calls that are under way or end while it is made.
+    /// It is the number of inserts that were answered yes, less that of removes that were. Of the handles that were opened
+    /// together the first begins with the keys that the set opened with, the others with 0. It makes no step.
+    ///
+    /// While no call is under way, the balances of all handles of a set add up to the number of its keys. A handle takes its
+    /// balance along when it is closed.
+    ///
+    /// A call that changes a value leaves it as it was.
+    ///
+    /// While threads run, let each put the balance of its handle where the others read it: the sum of these is off by at most the
+    /// calls that are under way or end while it is made.
     ///
     /// After a renewal the balance of the first handle is the number of keys, and that of the others 0. What was put before is of
     /// the set as it was, so put that of each handle anew before the sum is made.
@@ -432,10 +459,82 @@ impl<T: Kind> PassOf<T> {
         unsafe { T::BALANCE(self.raw()) }
     }
 
-    /// Puts the slots that the handle keeps to itself, at most 64, into the pool that all handles share, where any of them
-    /// finds them, and returns how many they were. It keeps none then. It makes a step for each, and can't fail. A handle
-    /// that is closed or dropped does so by itself: call it on a handle that won't insert for a while. The next insert that
-    /// adds a key takes slots in reserve again ([`PassOf::reserve`]).
+    /// Returns how often calls by the handle broke a traversal off, since others had changed what it read, and began it anew.
+    ///
+    /// It is that number since the opening or the last renewal, and 0 for an empty handle. It is counted for those who
+    /// operate a program, and tested; nothing is proved of it. It leaves all as it was. It makes no step.
+    ///
+    /// ```
+    /// # use vbr::{Set, Shape};
+    /// let handle = Set::<u64>::handles(Shape::new(8, 2, 100))?.remove(0);
+    /// assert_eq!(handle.restarts(), 0); // no other thread makes calls
+    /// # Ok::<(), Box<dyn std::error::Error>>(())
+    /// ```
+    #[inline]
+    pub fn restarts(&self) -> u64 {
+        // SAFETY: as for `has_within`.
+        unsafe { T::RESTARTS(self.raw()) }
+    }
+
+    /// Returns how many removed nodes calls by the handle met on their way, and unlinked for others.
+    ///
+    /// It is that number, of which [`restarts`](crate::PassOf::restarts) says the rest. It leaves all as it was. It makes no
+    /// step.
+    ///
+    /// ```
+    /// # use vbr::{Set, Shape};
+    /// let handle = Set::<u64>::handles(Shape::new(8, 2, 100))?.remove(0);
+    /// assert_eq!(handle.helps(), 0); // no remove was held up
+    /// # Ok::<(), Box<dyn std::error::Error>>(())
+    /// ```
+    #[inline]
+    pub fn helps(&self) -> u64 {
+        // SAFETY: as for `has_within`.
+        unsafe { T::HELPS(self.raw()) }
+    }
+
+    /// Returns how often calls by the handle advanced the epoch.
+    ///
+    /// It is that number, of which [`restarts`](crate::PassOf::restarts) says the rest. The epoch is one more than those of
+    /// all handles together, while none was renewed. It leaves all as it was. It makes no step.
+    ///
+    /// ```
+    /// # use vbr::{Set, Shape};
+    /// let handle = Set::<u64>::handles(Shape::new(8, 2, 100))?.remove(0);
+    /// assert_eq!(handle.advances() + 1, handle.epoch());
+    /// # Ok::<(), Box<dyn std::error::Error>>(())
+    /// ```
+    #[inline]
+    pub fn advances(&self) -> u64 {
+        // SAFETY: as for `has_within`.
+        unsafe { T::ADVANCES(self.raw()) }
+    }
+
+    /// Returns how many slots lie in the pool that all handles share.
+    ///
+    /// It is that number, at most that of the slots, and 0 for an empty handle. It is exact while no call is under way, and
+    /// else what others take and give meanwhile may be counted or not. It leaves all as it was. It loads one word for each 64
+    /// slots, and makes no step.
+    ///
+    /// ```
+    /// # use vbr::{Set, Shape};
+    /// let handles = Set::<u64>::handles(Shape::for_keys(1_000, 1))?;
+    /// assert_eq!(handles[0].free_about(), handles[0].slots() - 32); // it keeps 32 to itself
+    /// # Ok::<(), Box<dyn std::error::Error>>(())
+    /// ```
+    #[inline]
+    pub fn free_about(&self) -> u32 {
+        // SAFETY: as for `has_within`.
+        unsafe { T::FREE_ABOUT(self.raw()) }
+    }
+
+    /// Puts the slots that the handle keeps to itself into the pool that all handles share, where any of them finds them.
+    ///
+    /// Returns how many it gave back, at most 64. It can't fail. It leaves the handle without slots of its own. Its next
+    /// insert that adds a key takes slots in reserve again, as [`reserve`](crate::PassOf::reserve) says.
+    ///
+    /// It makes one step for each slot, makes no call on the set, and takes no memory. A handle that is closed or dropped
+    /// does so by itself.
     ///
     /// ```
     /// # use vbr::{Refusal, Set, Shape};
@@ -468,10 +567,14 @@ impl<T: Kind> PassOf<T> {
         self.give_slots_back()
     }
 
-    /// Takes slots out of the pool that all handles share until the handle keeps `wanted` to itself, or 63 if that is less,
-    /// and returns how many it took: fewer only if one pass over all slots finds no more. It makes at most one step for each
-    /// slot that it takes, one for each 64 slots of the set, and one for each slot that others take out of that pool
-    /// meanwhile. It makes no call on the set, takes no memory and can't fail. [`PassOf::give_slots_back`] does the opposite.
+    /// Takes slots for the handle's next inserts out of the pool that all handles share.
+    ///
+    /// `wanted` is how many the handle then keeps to itself, or 63 if that is less. Returns how many it took: fewer only if
+    /// one pass over all slots finds no more. It can't fail. It leaves these slots for this handle alone.
+    /// [`give_slots_back`](crate::PassOf::give_slots_back) does the opposite.
+    ///
+    /// It makes at most one step for each slot that it takes, one for each 64 slots of the set, and one for each slot that
+    /// others take out of that pool meanwhile. It makes no call on the set, and takes no memory.
     ///
     /// A handle keeps a reserve by itself: 32 slots, or slots / (8 * handles) if that is less, so none in a set with fewer
     /// than 8 slots for each handle. With 64 slots or more for each it takes them when it is opened or renewed, in as many

@@ -10,22 +10,33 @@ use core::ptr::{addr_of_mut, null_mut, NonNull};
 use core::sync::atomic::{compiler_fence, AtomicU32, Ordering};
 use std::os::fd::{AsFd, AsRawFd};
 
-/// A set, by the name of [`SharedSet`], or a map, by that of [`SharedMap`], in memory that the process which opens it shares with
-/// those that are forked from it afterwards. Any of them may be killed or stopped at any moment: the others go on in the same time
-/// and with right answers. A call in which a process dies was made, or it wasn't. The calls are proved; that a killed process does
-/// no more than stand still is argued and tested.
+// %doc vbr_shared.h
+/// Sets and maps that processes share. Any of the processes may be killed or stopped, at any moment, and the others go on, in
+/// the same time and with right answers. A process opens a set, and forks. Each makes calls by a handle of its own, and the
+/// handle of a dead one goes to another.
 ///
-/// All that the library keeps lies in that memory, the handles too. So a copy of this in a forked process is the same set, and
-/// owns nothing. A process *claims* a handle ([`SharedTable::claim`]), and makes calls by it in *turns* ([`Claim::turn`]), which
-/// mark the handle while they last. By the mark [`SharedTable::inherit`] knows whether a process died in a call.
+/// All that the library keeps for a set lies in one mapping, at one address in all these processes: its words, what its
+/// handles own, and the handles. A call in which a process dies was made, or it wasn't. The calls on keys are proved. The
+/// others are tested, and why the processes go on is argued.
 ///
-/// When this is dropped, the memory is taken out of the process that drops it, and out of no other: a forked process may drop
-/// its own copy, or end without that. The system frees the memory with the last process that has it.
+/// At most one process, and one thread of it, uses a handle at a time. A process that isn't forked from one that has the
+/// mapping can't use it. The memory is freed with the last process that has it. A process that is killed while it opens,
+/// reports on, renews, closes or unmaps a set may leave it torn, and one that writes to memory that isn't its own may write
+/// to the set.
+// %end
 ///
-/// A process that is killed while it opens, reports or renews the set may leave it torn, and one that writes to memory that isn't
-/// its own may write to the set.
+/// A set is a [`SharedSet`], and a map a [`SharedMap`]; what is said of a set and its keys holds for a map and its entries too. A copy of
+/// this in a forked process is the same set.
 ///
-/// What is said here of a set and its keys holds for a map and its entries too.
+// %doc claims
+/// The handles lie in the mapping that the processes share. A process *claims* a handle, and makes calls by it in *turns*. A
+/// claim owns nothing, so its end closes nothing, nor does that of its copy in a forked process. A turn sets the mark by
+/// which `inherit` knows whether a process died in a call. There is no other way to make a call, so no program leaves the
+/// mark out.
+///
+/// The end of this takes the mapping out of this process, and out of no other: a forked process may end its own copy, or
+/// leave without that.
+// %end
 ///
 /// ```
 /// # extern "C" {
@@ -88,12 +99,17 @@ pub type SharedSet<K = u64> = SharedTable<Keys<K>>;
 pub type SharedMap<K = u64, V = u64> = SharedTable<Entries<K, V>>;
 
 impl<T: Kind> SharedTable<T> {
-    /// Opens an empty set in memory that this process shares with those that are forked from now on, with the handles that the shape
-    /// is for. Beside the slots for keys and handles it wants some for deaths ([`Shape::with_deaths`]). Its seed is drawn: that of
-    /// the shape isn't asked.
+    // %doc vbr_open_shared: sentence notes
+    /// Opens a set in memory that this process shares with those that are forked from now on.
     ///
-    /// It maps [`SharedTable::size`] bytes, of which the system gives pages as they are touched. If it has none left by then,
-    /// it ends the process by a signal; no call says so.
+    /// Besides the slots that a set needs, count 66 for each process that may die in a call between two renewals.
+    ///
+    /// It maps [`SharedTable::size`](crate::SharedTable::size) bytes, of which the system gives pages as they are touched. If
+    /// it has none left by then, it ends the process by a signal, and no call says that there is no memory.
+    // %end
+    ///
+    /// [`Shape::with_deaths`] counts these slots. The set is empty, and has the handles that the shape is for. Its seed is drawn: that
+    /// of the shape isn't asked.
     ///
     /// ```
     /// # use vbr::{SharedSet, Shape};
@@ -102,9 +118,13 @@ impl<T: Kind> SharedTable<T> {
     /// # Ok::<(), vbr::OpenError>(())
     /// ```
     ///
+    // %errors vbr_open_shared: but VBR_BAD_KEYS
     /// # Errors
     ///
-    /// [`OpenError::Shape`], which is tested first, and [`OpenError::Memory`]. Nothing is kept then.
+    /// [`OpenError::Shape`] and [`OpenError::Memory`].
+    // %end
+    ///
+    /// They are tested in this order, and nothing is kept then.
     ///
     /// # Panics
     ///
@@ -113,7 +133,9 @@ impl<T: Kind> SharedTable<T> {
         SharedTable::open_with(shape, &[])
     }
 
-    /// Opens a set of these keys, which ascend, each above the one before, as [`SharedTable::open`] opens an empty one.
+    // %doc vbr_open_with: sentence
+    /// Opens a set of these keys, which ascend, each above the one before.
+    // %end
     ///
     /// ```
     /// # use vbr::{SharedSet, Shape};
@@ -123,9 +145,13 @@ impl<T: Kind> SharedTable<T> {
     /// # Ok::<(), Box<dyn std::error::Error>>(())
     /// ```
     ///
+    // %errors vbr_open_shared
     /// # Errors
     ///
-    /// [`OpenError::Shape`], which is tested first, [`OpenError::Keys`] and [`OpenError::Memory`]. Nothing is kept then.
+    /// [`OpenError::Shape`], [`OpenError::Keys`] and [`OpenError::Memory`].
+    // %end
+    ///
+    /// They are tested in this order, and nothing is kept then.
     pub fn open_with(shape: Shape, items: &[T::Item]) -> Result<SharedTable<T>, OpenError> {
         Self::open_by(shape, items, |first, count, Shape { slots, buckets, last_epoch, .. }, items| {
             // SAFETY: `items` has as many as the call is given, and nothing else has what it writes.
@@ -133,9 +159,15 @@ impl<T: Kind> SharedTable<T> {
         })
     }
 
-    /// Opens a set of these keys in a file, as [`SharedTable::open_with`] does without one: a file of `memfd_create`, to be looked at
-    /// by its name, or of a tmpfs with large pages. It is open for reading and writing, and has [`SharedTable::size`] bytes or more.
-    /// What was in it is lost. It may be closed afterwards.
+    // %doc vbr_open_shared_in: sentence file leaves
+    /// Opens a set in a file, as [`SharedTable::open`](crate::SharedTable::open) does otherwise.
+    ///
+    /// `file` is open for reading and writing, with [`SharedTable::size`](crate::SharedTable::size) bytes or more: one of
+    /// `memfd_create`, to be looked at by its name, or of a tmpfs with large pages. It may be closed afterwards. While a
+    /// process has the set, nobody makes it shorter: whoever touches what was cut off is ended by a signal. A memfd keeps its
+    /// length by `F_SEAL_SHRINK`. It leaves what [`SharedTable::open`](crate::SharedTable::open) leaves. What was in the file
+    /// is lost once it is mapped.
+    // %end
     ///
     /// ```
     /// # use std::fs::File;
@@ -185,8 +217,11 @@ impl<T: Kind> SharedTable<T> {
         Ok(table)
     }
 
-    /// How many bytes the memory of a set of this shape has: enough to renew it in this shape while it is full. What of them isn't
-    /// touched takes no memory.
+    // %doc vbr_shared_size: sentence returns
+    /// Returns how many bytes the mapping of a set or a map of this shape has.
+    ///
+    /// It is enough to renew it in this shape while it is full. Pages that aren't touched take no memory.
+    // %end
     ///
     /// ```
     /// # use vbr::{SharedMap, Shape};
@@ -240,8 +275,15 @@ impl<T: Kind> SharedTable<T> {
         Claim { handle: self.at(number), number, table: PhantomData }
     }
 
-    /// Takes over the handle with this number from a process that is dead, as `waitpid` has said, and says what is left of
-    /// it. Then another process may claim it. Any process that has the set does so, while all others make calls.
+    // %doc vbr_inherit
+    /// Takes over the handle of a process that is dead, as waitpid has reported.
+    ///
+    /// Returns [`Inherited::Whole`] if no call was under way, and the handle is as the last call left it, with its slots;
+    /// [`Inherited::WithoutSlots`] if a call was under way, which was made or it wasn't. After [`Inherited::WithoutSlots`] it
+    /// leaves the handle without its mark and the slots that it kept. Up to 66 slots are lost until the next renewal.
+    // %end
+    ///
+    /// Then another process may claim it. Any process that has the set does so, while all others make calls.
     ///
     /// ```
     /// # use vbr::{Inherited, SharedSet, Shape};
@@ -276,10 +318,18 @@ impl<T: Kind> SharedTable<T> {
         }
     }
 
-    /// Lets the handles go on over a fresh set of this shape, with the keys that were in it, or a map with the entries: at epoch 1,
-    /// and with all slots that the dead have lost. Any process does so, and all go on with the claims that they have. Handles whose
-    /// process died in a call are inherited first. The budgets of the shape are those of the handles then, if it has any. Its seed
-    /// isn't asked, nor how many handles it is for. It takes no memory but that of the set, and goes once over all slots.
+    // %doc vbr_renew_shared: sentence leaves notes
+    /// Lets all handles go on over a fresh set of this shape with the keys that are there, or over a fresh map, as
+    /// [`HandleOf::renew_all`](crate::HandleOf::renew_all) does.
+    ///
+    /// It leaves what [`HandleOf::renew_all`](crate::HandleOf::renew_all) leaves. All go on with the handles that they have,
+    /// and the slots that dead processes lost are won back.
+    ///
+    /// Once all handles are found full, those whose process died in a call are inherited, whatever the answer is then.
+    // %end
+    ///
+    /// Any process does so. The budgets of the shape are those of the handles then, if it has any. Its seed isn't asked, nor how many
+    /// handles it is for. It takes no memory but that of the set, and goes once over all slots.
     ///
     /// ```
     /// # use vbr::{SharedSet, Shape};
@@ -300,7 +350,7 @@ impl<T: Kind> SharedTable<T> {
     /// # Safety
     ///
     /// Until it returns no process and no thread is in a turn, or begins one, and none inherits, reports or renews. What they did is
-    /// ordered before, and what they do afterwards behind: a word in shared memory, or a pipe, that each process reads between two
+    /// ordered before it, and what they do afterwards after it: a word in shared memory, or a pipe, that each process reads between two
     /// turns does that.
     pub unsafe fn renew(&self, shape: Shape) -> Result<(), RenewError> {
         shape.check_numbers()?;
@@ -338,7 +388,7 @@ impl<T: Kind> SharedTable<T> {
     ///
     /// # Safety
     ///
-    /// That of [`SharedTable::renew`].
+    /// As for [`SharedTable::renew`].
     pub unsafe fn report(&self) -> Result<T::Report, ReportError> {
         // SAFETY: nothing else has a handle, as the caller promises, and those of the dead are inherited before they are asked.
         let slots = unsafe {
@@ -423,10 +473,9 @@ impl<T: Kind> Drop for SharedTable<T> {
 /// ```
 #[derive(Clone, Copy, Debug, PartialEq, Eq, Hash)]
 pub enum Inherited {
-    /// The process died between two turns. The handle is as its last call left it, with its slots.
+    /// The process died between two turns.
     Whole,
-    /// The process died in a turn. The call that was under way was made, or it wasn't. The handle goes on without the slots that it
-    /// kept, and up to 66 are lost until the next renewal. Its balance may lack that call.
+    /// The process died in a turn. The handle's balance may lack the call that was under way.
     WithoutSlots,
 }
 
@@ -468,7 +517,7 @@ pub struct Claim<'s, T: Kind = Keys> {
 unsafe impl<T: Kind> Send for Claim<'_, T> {}
 
 impl<T: Kind> Claim<'_, T> {
-    /// The number of the handle, from 0 on and below [`SharedTable::handle_count`]: for data that lies beside each handle.
+    /// The number of the handle that it claims: for data that lies beside each.
     ///
     /// ```
     /// # use vbr::{SharedSet, Shape};
@@ -483,8 +532,12 @@ impl<T: Kind> Claim<'_, T> {
         self.number
     }
 
-    /// Begins a turn, in which the handle makes a call, or several. It marks the handle by a plain store, and its end clears the mark
-    /// by another. Keep it no longer than its calls: a process that dies in a turn loses slots, and a renewal waits for its end.
+    // %doc turn
+    /// Begins a turn, in which the handle makes a call, or several. It marks the handle by a plain store, and its end clears
+    /// the mark by another.
+    // %end
+    ///
+    /// Keep it no longer than its calls: a process that dies in a turn loses slots, and a renewal waits for its end.
     ///
     /// ```
     /// # use vbr::{SharedMap, Shape};

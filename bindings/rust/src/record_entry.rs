@@ -16,10 +16,14 @@ pub(crate) struct Opening {
     pub(crate) renewals: usize,
 }
 
-/// An entry of a [`RecordMap`](crate::RecordMap) that was read: its key, its value, and which one it is. No later entry of the key is
-/// taken for it, even with the same value, so what depends on the value that was read isn't done to another one
-/// ([`RecordLent::replace_entry`](crate::RecordLent::replace_entry), [`RecordLent::remove_entry`](crate::RecordLent::remove_entry)). It
-/// may be kept for as long as you like, and over the loan. After a renewal of the map all entries are others.
+// %doc record_entry
+/// A key with its value as they were at one moment, and which entry that was. No later entry of the key is taken for it, even
+/// with the same value. After a renewal of the map all entries are others.
+// %end
+///
+/// It is of a [`RecordMap`](crate::RecordMap), and may be kept for as long as you like, and over the loan. So what depends on the value
+/// that was read isn't done to another one ([`RecordLent::replace_entry`](crate::RecordLent::replace_entry),
+/// [`RecordLent::remove_entry`](crate::RecordLent::remove_entry)).
 ///
 /// ```
 /// # use vbr::{RecordMap, Shape};

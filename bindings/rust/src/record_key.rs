@@ -1,12 +1,12 @@
 //! Keys of maps of records.
-use crate::{Bits, Record, SmallStr};
+use crate::{Bits, Record, SmallBytes, SmallStr};
 use core::hash::BuildHasher;
 
 /// A type of keys of a [`RecordMap`](crate::RecordMap).
 ///
-/// Each type of [`Bits`] is one, and is kept as the key itself, without a hash. So is [`SmallStr`], and arrays of 16, 20, 32 and 64
-/// bytes and pairs of `u64`: these are hashed to 64 bits, and the whole key stands in the record. A struct of yours is made one by
-/// [`impl_record_key!`](crate::impl_record_key), which is hashed likewise.
+/// Each type of [`Bits`] is one, and is kept as the key itself, without a hash. So are [`SmallStr`] and [`SmallBytes`], arrays of 16, 20,
+/// 32 and 64 bytes, and pairs of `u64`: these are hashed to 64 bits, and the whole key stands in the record. A struct of yours is made
+/// one by [`impl_record_key!`](crate::impl_record_key), which is hashed likewise.
 ///
 /// What has no fixed size is none:
 ///
@@ -92,8 +92,8 @@ impl<K: Bits> RecordKey for K {
 /// ```
 #[macro_export]
 macro_rules! impl_record_key {
-    ($($name:ty),+ $(,)?) => {$(
-        impl $crate::RecordKey for $name {
+    (@of [$($parameter:tt)*] $name:ty) => {
+        impl<$($parameter)*> $crate::RecordKey for $name {
             type Kept = $name;
 
             #[inline]
@@ -111,26 +111,12 @@ macro_rules! impl_record_key {
                 kept
             }
         }
-    )+};
+    };
+    ($($name:ty),+ $(,)?) => {
+        $($crate::impl_record_key!(@of [] $name);)+
+    };
 }
 
 impl_record_key!([u8; 16], [u8; 20], [u8; 32], [u8; 64], (u64, u64));
-
-impl<const N: usize> RecordKey for SmallStr<N> {
-    type Kept = SmallStr<N>;
-
-    #[inline]
-    fn number(self, hasher: &impl BuildHasher) -> u64 {
-        hasher.hash_one(self)
-    }
-
-    #[inline]
-    fn kept(self) -> SmallStr<N> {
-        self
-    }
-
-    #[inline]
-    fn from_kept(_: u64, kept: SmallStr<N>) -> SmallStr<N> {
-        kept
-    }
-}
+impl_record_key!(@of [const N: usize] SmallBytes<N>);
+impl_record_key!(@of [const N: usize] SmallStr<N>);

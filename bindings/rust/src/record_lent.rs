@@ -94,8 +94,12 @@ impl<'m, K: RecordKey, V: Record, H> RecordLent<'m, K, V, H> {
         self.lent.give_slots_back()
     }
 
-    /// Returns the next entry of a walk, a key and its value; `None` at the end. It is as [`PassOf::next`](crate::PassOf::next): a key that
-    /// is there all the while is given, once, with a value that it had at a moment of its call. The walk may go on by another loan.
+    // %doc record_next
+    /// The next entry of a walk, a key with a value that it had at a moment of the call; none at the end. A key that is there
+    /// for the whole walk is given once.
+    // %end
+    ///
+    /// It is as [`PassOf::next`](crate::PassOf::next). The walk may go on by another loan.
     ///
     /// ```
     /// # use vbr::{Cursor, RecordMap, Shape};
@@ -194,7 +198,13 @@ impl<'m, K: RecordKey, V: Record, H> RecordLent<'m, K, V, H> {
 }
 
 impl<K: RecordKey, V: Record, H: BuildHasher> RecordLent<'_, K, V, H> {
-    /// Whether a key is there. Of a hashed key it reads the key in the record, and no value.
+    // %doc vbr_map_has: sentence returns
+    /// Looks a key up without its value.
+    ///
+    /// Returns `true` if the key is there; `false` if it is absent.
+    // %end
+    ///
+    /// Of a hashed key it reads the key in the record, and no value.
     ///
     /// ```
     /// # use vbr::{RecordMap, Shape, SmallStr};
@@ -214,8 +224,11 @@ impl<K: RecordKey, V: Record, H: BuildHasher> RecordLent<'_, K, V, H> {
         self.map.has_kept(&self.lent, self.map.number_of(key), key)
     }
 
-    /// The value of a key, a copy that is whole, and that the key had at a moment of the call; none if the key is absent. All its
-    /// steps are loads.
+    // %doc vbr_map_get: sentence returns leaves
+    /// Looks a key up and gives its value.
+    ///
+    /// Returns its value if the key is there; `None` if it is absent. It leaves the map as it was: its steps are loads.
+    // %end
     ///
     /// ```
     /// # use vbr::{RecordMap, Shape};
@@ -234,7 +247,9 @@ impl<K: RecordKey, V: Record, H: BuildHasher> RecordLent<'_, K, V, H> {
         Ok(self.map.find(&self.lent, self.map.number_of(key), key)?.value())
     }
 
-    /// The value of a key, as [`RecordLent::get`] gives it, and which entry it is of.
+    // %doc record_get_entry
+    /// The value of a key, as `get` gives it, and which entry it is of.
+    // %end
     ///
     /// ```
     /// # use vbr::{RecordMap, Shape};
@@ -257,7 +272,11 @@ impl<K: RecordKey, V: Record, H: BuildHasher> RecordLent<'_, K, V, H> {
         })
     }
 
-    /// Adds a key with a value, and says whether it was absent; one that is there keeps its value.
+    // %doc vbr_map_insert: sentence returns
+    /// Adds a key with its value.
+    ///
+    /// Returns `true` if the key was absent, and is added; `false` if it was there, and keeps the value that it has.
+    // %end
     ///
     /// ```
     /// # use vbr::{RecordMap, Shape};
@@ -277,8 +296,11 @@ impl<K: RecordKey, V: Record, H: BuildHasher> RecordLent<'_, K, V, H> {
         Ok(before.is_none())
     }
 
-    /// Gives a key this value, and returns the one that it had; `None` if it was absent, and then it is inserted. Nobody finds
-    /// the key absent in between.
+    // %doc vbr_map_put: sentence returns
+    /// Gives a key this value, whether it is there or not.
+    ///
+    /// Returns the value that it had if the key was there, and has the new value; `None` if it was absent, and is inserted.
+    // %end
     ///
     /// ```
     /// # use vbr::{RecordMap, Shape};
@@ -296,8 +318,12 @@ impl<K: RecordKey, V: Record, H: BuildHasher> RecordLent<'_, K, V, H> {
         self.compute(key, |_| Change::Put(value))
     }
 
-    /// Gives a key that is there another value, and returns the one that it had; `None` if it was absent, and then nothing was
+    // %doc vbr_map_replace: sentence returns
+    /// Gives a key that is there another value, so that no call finds it absent meanwhile.
+    ///
+    /// Returns the value that it had if the key was there, and has the new value; `None` if it was absent, and nothing was
     /// changed.
+    // %end
     ///
     /// ```
     /// # use vbr::{RecordMap, Shape};
@@ -317,8 +343,14 @@ impl<K: RecordKey, V: Record, H: BuildHasher> RecordLent<'_, K, V, H> {
         Ok(self.change(key, |before| before.map_or(Change::Keep, |_| Change::Put(value)))?.unwrap_or_default())
     }
 
-    /// Gives a key another value if it still has the entry that was read, and says whether it had; otherwise nothing was changed. So no
-    /// update that came in between is lost. An entry of another map, or from before a renewal, is none that the map has.
+    // %doc replace_entry
+    /// Gives a key this value if it still has the very entry that was read, and says whether it had; else nothing is changed.
+    /// So no update that came in between is lost.
+    // %end
+    ///
+    // %doc other_entries
+    /// An entry of another map, or from before a renewal, is none that the map has.
+    // %end
     ///
     /// ```
     /// # use vbr::{RecordMap, Shape};
@@ -342,7 +374,13 @@ impl<K: RecordKey, V: Record, H: BuildHasher> RecordLent<'_, K, V, H> {
         Ok(self.written(entry.key, value)?.replace(entry.number, &entry.at, ())?.is_ok())
     }
 
-    /// Takes a key out, and returns the value that it had; `None` if it was absent. It takes no slot.
+    // %doc vbr_map_remove: sentence returns
+    /// Takes a key out with its value.
+    ///
+    /// Returns the value of the entry that this call took if the key was there, and is taken out; `None` if it was absent.
+    // %end
+    ///
+    /// It takes no slot.
     ///
     /// ```
     /// # use vbr::{RecordMap, Shape};
@@ -366,8 +404,16 @@ impl<K: RecordKey, V: Record, H: BuildHasher> RecordLent<'_, K, V, H> {
         Ok(None)
     }
 
-    /// Takes a key out if it still has the entry that was read, and says whether it had; otherwise nothing was changed. An
-    /// entry of another map, or from before a renewal, is none that the map has.
+    // %doc vbr_map_remove_entry: sentence returns
+    /// Takes a key out with its value if it still has the very entry that was found.
+    ///
+    /// Returns `true` if the key had that entry, and is taken out. Returns `false` if it is absent, or was taken out and
+    /// added again, or given a value, even the same one, since then; nothing was changed.
+    // %end
+    ///
+    // %doc other_entries
+    /// An entry of another map, or from before a renewal, is none that the map has.
+    // %end
     ///
     /// ```
     /// # use vbr::{RecordMap, Shape};
@@ -390,12 +436,14 @@ impl<K: RecordKey, V: Record, H: BuildHasher> RecordLent<'_, K, V, H> {
         self.lent.remove_entry(entry.number, &entry.at)
     }
 
-    /// Does with a key what `change` says, which is asked with the value that the key has, or with `None` if it is absent, and returns
-    /// that value.
+    // %doc compute
+    /// Does with a key what a function says of the value that it has, or of none, and returns that value.
     ///
-    /// The change is made only if the key still has the entry that `change` was told of. If another call came in between, `change`
-    /// is asked again, with what that left. So of all calls of a key each is told of what the one before it left, and no change is
-    /// lost.
+    /// The change is made only if the key still has what the function was given. Else it is called again, with what is there
+    /// then. So each call on a key is given what the one before it left, and no change is lost.
+    // %end
+    ///
+    /// `change` is the function that is asked.
     ///
     /// ```
     /// # use vbr::{Change, RecordMap, Shape};

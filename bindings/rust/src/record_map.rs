@@ -8,16 +8,20 @@ use std::hash::{BuildHasher, RandomState};
 use std::sync::atomic::{AtomicU64, Ordering};
 use std::time::{Duration, Instant};
 
-/// A map whose keys and values have any size, in fixed memory, and without a lock: [`Records`] beside the slots of a [`Map`], with
-/// the rules of both kept by the type.
+// %doc record_map
+/// A map with keys and values of any size, in fixed memory, and without a lock. It is a map of numbers of 64 bits, and beside
+/// each of its slots a record, which has the value, and the key if that has more than 64 bits.
+// %end
 ///
-/// Values are of any type of [`Record`]: structs by [`record!`](crate::record), numbers, arrays, [`SmallStr`](crate::SmallStr). A
-/// reader gets a copy, which is whole, and which the key had at a moment of the call. Nobody waits, nobody frees a value, and no
-/// call takes memory.
+// %doc record_values
+/// A value is copied whole into a record that nobody else sees yet, and that record is never written again while the key has
+/// it. So a reader waits for nobody, and gets a copy that is whole, and that the key had at a moment of the call. Each change
+/// is made at one moment, of a value that was read: none is lost. Calls take no memory; an opening and a renewal do.
+// %end
 ///
-/// Keys are of any type of [`RecordKey`]. One of at most 64 bits ([`Bits`](crate::Bits)) is kept as the key itself. Others are
-/// hashed to 64 bits: strings as `SmallStr`, long arrays, and structs by [`impl_record_key!`](crate::impl_record_key). The whole
-/// key then stands in the record, and each call compares it.
+/// The two are a [`Map`] and [`Records`], and the type keeps the rules of both. Values are of any type of [`Record`]: structs by
+/// [`record!`](crate::record), numbers, arrays, [`SmallStr`](crate::SmallStr). Keys are of any type of [`RecordKey`]: of at most 64 bits
+/// ([`Bits`](crate::Bits)), strings as `SmallStr`, long arrays, and structs by [`impl_record_key!`](crate::impl_record_key).
 ///
 /// ```
 /// use vbr::{record, Change, RecordMap, Shape, SmallStr};
@@ -41,17 +45,21 @@ use std::time::{Duration, Instant};
 ///
 /// # Two keys with one hash
 ///
-/// A map has one entry for a hash. While a key is there, another one with the same hash is refused
-/// ([`RecordRefusal::HashTaken`]), and found absent by each look-up. No answer is ever that of another key. Hashes are keyed: by
-/// [`RandomState`] unless the map was opened with another hasher, so nobody outside can choose keys with one hash. Of n keys any
-/// two have one with a probability below n² / 2^65: 3 in a hundred million with a million keys, and 3 in a hundred with a
-/// billion. Keys that are kept as themselves are never refused so.
+// %doc record_keys
+/// A key of at most 64 bits is kept as it is. Of any other the map keeps 64 bits of its hash, and the record has the key,
+/// with which each call compares. Two keys with one hash aren't in the map at the same time: a call that would add the second
+/// one is refused, and no call gives the answer of one for the other. The hash has a key that is drawn, unless the program
+/// gives another hash, so nobody outside can choose keys that share it, or a bucket. Of n keys any two have one hash with a
+/// probability below n^2 / 2^65: 3 in a hundred million with a million keys.
+// %end
+///
+/// The second key with a hash is refused by [`RecordRefusal::HashTaken`]. The usual hash is by [`RandomState`].
 ///
 /// # Calls, loans and renewals
 ///
 /// The map lends its handles, as a [`Table`](crate::Table) does. [`RecordMap::lend_wait`] gives a [`RecordLent`], which makes all
 /// calls. Calls of the map itself lend a handle each, and have it back when they return; a thread that makes many keeps a loan for
-/// them. A thread that has a loan itself may wait for ever, also in a closure that the map asks.
+/// them. A closure that the map asks makes no call of the map: it would wait for a second loan.
 ///
 /// An insert takes a slot, and so does each new value. So these calls are refused as those of a map ([`Refusal`]): without a
 /// slot, and after the last epoch. [`RecordMap::call`] then renews the map and calls again; [`RecordMap::renew`] is for a clock. Both
@@ -158,7 +166,9 @@ impl<K: RecordKey, V: Record, H: BuildHasher> RecordMap<K, V, H> {
 
 /// What a map is, its loans, and its renewals.
 impl<K: RecordKey, V: Record, H> RecordMap<K, V, H> {
-    /// How many slots the map has.
+    // %doc vbr_map_slots: sentence
+    /// Returns how many slots the map was opened with.
+    // %end
     ///
     /// ```
     /// # use vbr::{RecordMap, Shape};
@@ -180,7 +190,9 @@ impl<K: RecordKey, V: Record, H> RecordMap<K, V, H> {
         self.records.slots()
     }
 
-    /// The last epoch of the map.
+    // %doc vbr_map_last_epoch: sentence
+    /// Returns the last epoch that the map was opened with.
+    // %end
     ///
     /// ```
     /// # use vbr::{RecordMap, Shape};
@@ -202,8 +214,7 @@ impl<K: RecordKey, V: Record, H> RecordMap<K, V, H> {
         self.table.handle_count()
     }
 
-    /// How many keys are in the map, at one moment. It waits until all loans are back, as [`Table::key_count`](crate::Table::key_count)
-    /// does: so a thread that has one itself waits for ever.
+    /// How many keys are in the map, at one moment. It waits for all loans, as [`Table::key_count`](crate::Table::key_count) does.
     ///
     /// ```
     /// # use vbr::{RecordMap, Shape};
@@ -217,7 +228,7 @@ impl<K: RecordKey, V: Record, H> RecordMap<K, V, H> {
         self.table.key_count()
     }
 
-    /// As [`RecordMap::key_count`], or `None` if not all loans were back when the time was over.
+    /// As [`RecordMap::key_count`], or `None` if a loan was still out when the time was over.
     ///
     /// ```
     /// # use std::time::Duration;
@@ -232,7 +243,13 @@ impl<K: RecordKey, V: Record, H> RecordMap<K, V, H> {
         self.table.key_count_timeout(limit)
     }
 
-    /// Lends a free handle, or returns `None` if each was lent at some moment of the call, or the map is being renewed. It never waits.
+    // %doc vbr_lend: sentence returns
+    /// Lends a free handle.
+    ///
+    /// Returns the handle, or `None` if each was lent at some moment of the call, or they are being renewed.
+    // %end
+    ///
+    /// It never waits.
     ///
     /// ```
     /// # use vbr::{RecordMap, Shape};
@@ -247,8 +264,14 @@ impl<K: RecordKey, V: Record, H> RecordMap<K, V, H> {
         self.table.lend().map(|lent| RecordLent::of(self, lent))
     }
 
-    /// Lends a free handle as soon as there is one, as [`Table::lend_wait`](crate::Table::lend_wait) does. A thread that has a loan itself
-    /// may wait for ever, and a loan without a name lasts to the end of its statement.
+    // %doc lend_wait
+    /// Lends a free handle as soon as there is one: if each is lent, the thread sleeps until one is given back.
+    ///
+    /// A thread that has a loan itself may wait for ever. Threads that wait have no order: one that comes later may be lent a
+    /// handle before.
+    // %end
+    ///
+    /// A loan without a name lasts to the end of its statement.
     ///
     /// ```
     /// # use vbr::{RecordMap, Shape};
@@ -267,7 +290,9 @@ impl<K: RecordKey, V: Record, H> RecordMap<K, V, H> {
         RecordLent::of(self, self.table.lend_wait())
     }
 
-    /// As [`RecordMap::lend_wait`], or `None` if each handle was lent until the time was over.
+    // %doc lend_for
+    /// Lends a free handle, as `lend_wait` does, or none if each was lent until the time was over.
+    // %end
     ///
     /// ```
     /// # use std::time::Duration;
@@ -283,8 +308,20 @@ impl<K: RecordKey, V: Record, H> RecordMap<K, V, H> {
         self.table.lend_timeout(limit).map(|lent| RecordLent::of(self, lent))
     }
 
-    /// Lets the map go on in this shape, at epoch 1, with its entries and their records, as [`Records::renew`] does. It waits until all
-    /// loans are back: so a thread that has one itself waits for ever.
+    // %doc vbr_map_lender_renew: sentence
+    /// Lets the handles go on over a fresh map of this shape, as [`HandleOf::renew_all`](crate::HandleOf::renew_all) does,
+    /// once none is on loan.
+    // %end
+    ///
+    // %doc lender_renew
+    /// It lends none meanwhile, and waits for the loans, so a thread that has one itself waits for ever. Threads that wait
+    /// for a handle keep waiting. A refusal leaves the set as it was, and it lends again.
+    ///
+    /// If another thread renews to the same shape while this one waits, one renewal serves both. So each thread may ask for
+    /// one if a call was refused since the last epoch is spent, once it has no loan.
+    // %end
+    ///
+    /// The records go along, as [`Records::renew`] carries them.
     ///
     /// ```
     /// # use vbr::{RecordMap, Shape};
@@ -303,7 +340,7 @@ impl<K: RecordKey, V: Record, H> RecordMap<K, V, H> {
         self.records.renew(&self.table, shape)
     }
 
-    /// As [`RecordMap::renew`], or [`RenewError::Lent`] if not all loans were back when the time was over.
+    /// As [`RecordMap::renew`], or [`RenewError::Lent`] if a loan was still out when the time was over.
     ///
     /// ```
     /// # use std::time::Duration;
@@ -354,7 +391,7 @@ impl<K: RecordKey, V: Record, H> RecordMap<K, V, H> {
             };
             match told {
                 Err(RecordRefusal::Refused(why))
-                    if self.table.is_renewed_after(why, growth, renewals, Some(&self.records.words)) => {}
+                    if self.table.renew_after(why, growth, renewals, Some(&self.records.words)) == Ok(true) => {}
                 told => return told,
             }
         }

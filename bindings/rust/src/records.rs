@@ -10,8 +10,7 @@ use std::time::Instant;
 /// A type of records, which are made of words of 64 bits.
 ///
 /// Numbers have it, `bool` and `char`, arrays and pairs of such, arrays of bytes, eight of which share a word,
-/// [`SmallStr`](crate::SmallStr) and `()`. [`record!`] says
-/// it of a struct by its fields. For a type of your own say how it gives its words, one after another, and how it is made of them:
+/// [`SmallStr`](crate::SmallStr), [`SmallBytes`](crate::SmallBytes) and `()`. [`record!`] says it of a struct by its fields. For a type of your own say how it gives its words, one after another, and how it is made of them:
 ///
 /// ```
 /// use vbr::Record;
@@ -191,16 +190,23 @@ macro_rules! record {
     };
 }
 
-/// Records beside the entries of a set or a map, one for each slot: values of any size, in fixed memory.
+// %doc vbr_records.h
+/// Records beside the entries of a set or a map, one for each slot: for values of any size, in fixed memory.
 ///
-/// A record is written while its slot is held, and never after that, so an entry has one record for as long as it is there. To change
-/// the record of a key, hold another slot, write the whole record there, and put that slot in the place of the entry that was read
-/// ([`Held::replace`]). Nobody frees a record: it goes where its slot goes. A reader copies a record, asks whether the slot is the
-/// entry's own still, and else finds the key again. So it holds nobody up, takes no memory, and a copy is always whole, and of its key.
+/// A record is written while its slot is held, and then never again, so an entry has one record for as long as it is there.
+/// To change the record of a key, hold another slot, write the whole record there, and put that slot in place of the entry
+/// that was read, by [`replace`](crate::Held::replace). The old record stays as it is for those who still read it. Nobody
+/// frees it: it goes where its slot goes.
 ///
-/// The words are atomic: a writer stores each with release, and a reader loads each with acquire. Threads share them by reference.
+/// A reader copies a record, and then asks whether the slot is still the entry's own. If it isn't, it finds the key again. So
+/// it holds nobody up, takes no memory, and begins anew only if others took the entry out, or changed it, while it copied.
+/// Which record belongs to which entry is proved; that copies are whole is argued, and tested.
 ///
-/// A [`RecordMap`](crate::RecordMap) does all this by itself, for keys of any size too.
+/// The words of records are atomic: a writer stores each with release, and a reader loads each with acquire. That costs
+/// nothing on x86-64.
+// %end
+///
+/// Threads share them by reference. A [`RecordMap`](crate::RecordMap) does all this by itself, for keys of any size too.
 ///
 /// ```
 /// use vbr::{Map, Records, Shape};
@@ -237,8 +243,13 @@ pub(crate) struct Words {
 }
 
 impl<R: Record> Records<R> {
-    /// Records of zeros, one for each of so many slots, which are those of the set, or more, for a renewal with more of them. It takes
-    /// 8 bytes for each word of each.
+    // %doc vbr_records_open: sentence leaves
+    /// Opens records, one for each slot of a set or a map.
+    ///
+    /// It leaves the records, of zeros.
+    // %end
+    ///
+    /// It may have more slots than the set, for a renewal with more of them. It takes 8 bytes for each word of a record.
     ///
     /// ```
     /// # use vbr::{Records, Shape};
@@ -271,7 +282,9 @@ impl<R: Record> Records<R> {
         self.words.slots
     }
 
-    /// Writes the record of a slot that is held.
+    // %doc vbr_records_write: sentence
+    /// Writes the record of a held slot.
+    // %end
     ///
     /// ```
     /// # use vbr::{Records, Set, Shape};
@@ -295,9 +308,15 @@ impl<R: Record> Records<R> {
         record.store(&mut |word| words.next().expect(MORE).store(word, Ordering::Release));
     }
 
-    /// The record of a key, as it was written before the key was inserted, or got this entry; none if the key is absent. It
-    /// is that of a moment of the call, whole. It looks up, copies and asks, and does so again only if the slot was handed
-    /// out anew meanwhile. Each look-up has the budget of the handle. All its steps are loads.
+    // %doc vbr_records_read
+    /// Reads the record of a key of a set.
+    ///
+    /// Returns its record if the entry was there at a moment of the call, with this record, whole; `None` if the key is
+    /// absent. It leaves the set as it was: all its steps are loads.
+    ///
+    /// It looks up, copies, and asks. It does so again only if the slot was handed out anew while it copied. Each look-up has
+    /// the budget of the handle.
+    // %end
     ///
     /// ```
     /// # use vbr::{Records, Set, Shape};
@@ -364,8 +383,13 @@ impl<R: Record> Records<R> {
         self.words.read_entry(pass, key)
     }
 
-    /// The record of a slot as it is, for a loop of your own. It may be one of two until [`PassOf::is_still`] says yes to the entry that
-    /// was found there before: follow nothing that is in it. [`Records::read`] does all that.
+    // %doc vbr_records_copy: sentence notes
+    /// Copies the record of a slot, as it is, for a loop of your own.
+    ///
+    /// The copy counts for nothing until [`is_still`](crate::PassOf::is_still) has said yes to the entry that was found there
+    /// before. Until then it may mix two records: follow no pointer and no index in it.
+    /// [`Records::read`](crate::Records::read) does all that.
+    // %end
     ///
     /// ```
     /// # use vbr::{Records, Set, Shape};
@@ -390,8 +414,15 @@ impl<R: Record> Records<R> {
         self.words.copy(at)
     }
 
-    /// Renews the set as [`HandleOf::renew_all`] does, and carries the records over to the slots that its entries have then. It takes 4
-    /// bytes for each slot besides, and a copy of the records of all entries.
+    // %doc vbr_records_renew_all: sentence leaves
+    /// Renews a set by [`HandleOf::renew_all`](crate::HandleOf::renew_all) and carries its records over to the slots that its
+    /// keys have then.
+    ///
+    /// It leaves what [`HandleOf::renew_all`](crate::HandleOf::renew_all) leaves; a refusal leaves the records as they were
+    /// too.
+    // %end
+    ///
+    /// It takes 4 bytes for each slot besides, and moves the records where they are.
     ///
     /// ```
     /// # use vbr::{Map, Records, Shape};
@@ -416,8 +447,12 @@ impl<R: Record> Records<R> {
         HandleOf::renew_along(handles, shape, &self.words)
     }
 
-    /// Renews a set that lends its handles as [`Table::renew`] does, and carries the records over, as [`Records::renew_all`] does. While a
-    /// program does so by its records alone, no entry is without its own.
+    // %doc records_renew_lent
+    /// Renews a set whose handles are lent, as its `renew` does, and carries the records over, as `renew_all` of records
+    /// does.
+    ///
+    /// While a program renews by its records alone, no entry is without its own.
+    // %end
     ///
     /// ```
     /// # use vbr::{Map, Records, Shape};
@@ -460,7 +495,12 @@ impl Words {
     /// The words of a slot.
     #[inline]
     fn of(&self, slot: u32) -> &[AtomicU64] {
-        let from = slot as usize * self.each;
+        self.of_place(slot as usize)
+    }
+
+    #[inline]
+    fn of_place(&self, place: usize) -> &[AtomicU64] {
+        let from = place * self.each;
         &self.all[from..from + self.each]
     }
 
@@ -483,7 +523,13 @@ impl Words {
     /// The record of a slot as it is, or what its first words make.
     #[inline]
     fn copy<R: Record, T: Kind>(&self, at: &Incarnation<T>) -> R {
-        let mut words = self.of(at.slot()).iter();
+        self.copy_of(at.slot())
+    }
+
+    /// The same of the slot with this number, whosever it is.
+    #[inline]
+    pub(crate) fn copy_of<R: Record>(&self, slot: u32) -> R {
+        let mut words = self.of(slot).iter();
         // so the question comes after it, and after what its writer did before
         R::load(&mut || words.next().expect(MORE).load(Ordering::Acquire))
     }
@@ -495,20 +541,19 @@ impl Words {
         Ok(())
     }
 
-    /// A copy of the records of these slots, if there is memory. Nothing else is done with them meanwhile.
-    pub(crate) fn copies(&self, slots: &[u32]) -> Option<Vec<u64>> {
-        let mut copies = Vec::new();
-        copies.try_reserve_exact(slots.len() * self.each).ok()?;
-        for &slot in slots {
-            copies.extend(self.of(slot).iter().map(|word| word.load(Ordering::Relaxed)));
-        }
-        Some(copies)
-    }
-
-    /// Writes them to the first slots, in their order.
-    pub(crate) fn put(&self, copies: &[u64]) {
-        for (word, &copy) in self.all.iter().zip(copies) {
-            word.store(copy, Ordering::Relaxed);
+    /// Brings the records of these slots, each of which is named once, to the first slots, in their order. What stood there goes to some
+    /// other slot. Nothing else is done with the records meanwhile.
+    pub(crate) fn bring(&self, slots: &mut [u32]) {
+        for place in 0..slots.len() {
+            // what stood in an earlier place was exchanged for what that one got, and so on
+            let mut from = slots[place] as usize;
+            while from < place {
+                from = slots[from] as usize;
+            }
+            slots[place] = u32::try_from(from).expect("the number of a slot");
+            for (one, other) in self.of_place(place).iter().zip(self.of_place(from)) {
+                other.store(one.swap(other.load(Ordering::Relaxed), Ordering::Relaxed), Ordering::Relaxed);
+            }
         }
     }
 }

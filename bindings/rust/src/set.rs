@@ -37,7 +37,7 @@ use core::slice;
 /// ```
 pub type Set<K = u64> = Table<Keys<K>>;
 
-/// A handle to a set: the right of one thread at a time to make calls, and a share of the set. Its calls are those of its
+/// A handle to a set: a pass and a share of the set. Its calls are those of its
 /// [`Pass`], and [`HandleOf::close`].
 ///
 /// ```
@@ -58,7 +58,7 @@ pub type Set<K = u64> = Table<Keys<K>>;
 /// ```
 pub type Handle<K = u64> = HandleOf<Keys<K>>;
 
-/// The pass of a handle to a set: the right of one thread at a time to make calls.
+/// The pass of a handle to a set, as [`PassOf`](crate::PassOf) says.
 ///
 /// | To | Calls |
 /// |---|---|
@@ -85,9 +85,13 @@ impl<K: Bits> Kind for Keys<K> {
 
 /// The calls of sets alone.
 impl<K: Bits> PassOf<Keys<K>> {
-    /// Adds a key, and says whether it was absent, as `HashSet::insert` does. While the other handles stand still,
-    /// 18n + 82 steps are enough, or 18n + w + 20 if that is more, with n nodes in the bucket of the key and w = slots / 64,
-    /// rounded up.
+    /// Adds a key.
+    ///
+    /// Returns `true` if the key was absent, and is added; `false` if it was there. After `true` it leaves the handle's
+    /// reserve for the next inserts topped up, as [`reserve`](crate::PassOf::reserve) says.
+    ///
+    /// While the other handles stand still, 18n + 82 steps are enough, or 18n + w + 20 if that is more, with n nodes in the
+    /// bucket of the key and w = slots / 64, rounded up.
     ///
     /// ```
     /// # use vbr::{Set, Shape};
@@ -99,8 +103,12 @@ impl<K: Bits> PassOf<Keys<K>> {
     ///
     /// # Errors
     ///
-    /// [`Refusal::OutOfSteps`], and, if the key is absent, [`Refusal::NoSlot`] and [`Refusal::EpochSpent`]. No call was made
-    /// then.
+    /// - [`Refusal::Held`] and [`Refusal::OutOfSteps`].
+    /// - [`Refusal::NoSlot`]: the key is absent. Have other handles give their slots back
+    ///   ([`give_slots_back`](crate::PassOf::give_slots_back)), remove keys, or try again.
+    /// - [`Refusal::EpochSpent`]: the key is absent.
+    ///
+    /// No call was made then.
     #[inline]
     pub fn insert(&mut self, key: K) -> Result<bool, Refusal> {
         self.insert_within(key, self.steps())
@@ -125,11 +133,12 @@ impl<K: Bits> PassOf<Keys<K>> {
         updated(order::adds(key, || unsafe { vbr_insert_within(self.raw(), key, steps.count()) }))
     }
 
-    /// Takes a key out, and says whether it was there. While the other handles stand still, 9n + 11 steps are enough, with n nodes
-    /// in the bucket of the key.
+    /// Takes a key out.
     ///
-    /// If it was there, its node has left its list, unless the budget ended first: then the next insert or remove that passes
-    /// the node takes it out.
+    /// Returns `true` if the key was there, and is taken out; `false` if it was absent. After `true` it leaves the key's node
+    /// out of its list, unless the budget ended first. Then the next insert or remove that passes the node takes it out.
+    ///
+    /// While the other handles stand still, 9n + 11 steps are enough, with n nodes in the bucket of the key.
     ///
     /// ```
     /// # use vbr::{Set, Shape};

@@ -24,13 +24,14 @@ use core::fmt;
 /// do no harm, and by a seed, so that nobody can choose keys which fall into one bucket: each opening draws one from the
 /// system, unless the shape has one ([`Shape::with_seed`]). A renewal keeps the seed of its set, unless its shape has one.
 /// While a drawn seed is secret, any two keys share a bucket with a probability of at most 2 / buckets, if these are a power
-/// of two. The order in which a walk gives keys, how many steps a call needs, and how long it takes tell of the seed, so keep
+/// of two. The order in which a walk gives keys, how many steps a call needs, and how long it takes reveal the seed, so keep
 /// them from those who choose keys.
 ///
-/// Keys that are there at the start are best given to [`Set::open_with`], which lays them all in one go; by inserts a
-/// million took three times as long.
+// %doc opening_with_keys
+/// Keys that are there at the start are best given to `open_with`, which lays them all in one go; by inserts a million took
+/// three times as long.
+// %end
 ///
-/// [`Set::open_with`]: crate::Set::open_with
 /// [`Refusal::NoSlot`]: crate::Refusal::NoSlot
 /// [`Steps::AMPLE`]: crate::Steps::AMPLE
 ///
@@ -57,7 +58,7 @@ pub struct Shape {
     pub last_epoch: u64,
     /// How many handles an opening gives or lends, from 1 to [`MAX_MANY_HANDLES`].
     pub handles: usize,
-    /// What keys are spread by, any number; with `None` an opening draws it, and a renewal keeps that of its set.
+    /// What keys are spread by, any number; `None` says that an opening draws it, and a renewal keeps the set's.
     pub seed: Option<u64>,
     /// The budget of each call of the handles; with `None` an opening takes [`Steps::AMPLE`], and a renewal leaves them theirs.
     pub steps: Option<Steps>,
@@ -74,8 +75,12 @@ impl Shape {
         Shape { slots, buckets, last_epoch, handles: 1, seed: None, steps: None }
     }
 
-    /// The shape for this many keys at one time and this many handles: a slot for each key and 64 for each handle, but no more
-    /// than there may be; as many buckets as keys, rounded up to a power of two; and [`MAX_EPOCH`].
+    // %doc shape_for_keys
+    /// The shape for this many keys at one time and this many handles: a slot for each key and 64 for each handle, but at
+    /// most one more than there may be; and as many buckets as keys, rounded up to a power of two.
+    // %end
+    ///
+    /// Its last epoch is [`MAX_EPOCH`].
     ///
     /// ```
     /// # use vbr::{Set, Shape};
@@ -91,6 +96,28 @@ impl Shape {
         };
         let buckets = if keys < MAX_BUCKETS { keys.next_power_of_two() } else { MAX_BUCKETS };
         Shape::new(slots, buckets, MAX_EPOCH).with_handles(handles)
+    }
+
+    // %doc shape_for_shards
+    /// The shape of each shard, if this many keys in all are to be in so many shards at one time, with this many handles
+    /// each.
+    ///
+    /// It is the shape for a share of the keys, and for a margin, since shards get shares that differ: a thirty-second of the
+    /// share, and 512. That is at least eight standard deviations of a random choice. Opening with it takes the memory for
+    /// all these keys.
+    // %end
+    ///
+    /// They are the shards of a [`Sharded`](crate::Sharded) set or map.
+    ///
+    /// ```
+    /// # use vbr::Shape;
+    /// assert_eq!(Shape::for_shards(400_000, 16, 4), Shape::for_keys(25_000 + 781 + 512, 4));
+    /// ```
+    #[allow(clippy::cast_possible_truncation, reason = "it is no more than there may be, or one more")]
+    pub const fn for_shards(keys: u64, shards: usize, handles: usize) -> Shape {
+        let share = if shards == 0 { keys } else { keys.div_ceil(shards as u64) };
+        let most = share.saturating_add(share / 32 + 512);
+        Shape::for_keys(if most <= MAX_SLOTS as u64 { most as u32 } else { MAX_SLOTS + 1 }, handles)
     }
 
     /// The same shape with so many slots.
@@ -149,8 +176,8 @@ impl Shape {
         Shape { steps: Some(steps), ..self }
     }
 
-    /// The same shape with 66 slots more for each process that may die in a call between two renewals, of those that share a set
-    /// ([`SharedSet`](crate::SharedSet)): so many it may take along. Threads need none.
+    /// The same shape with 66 slots more for each of so many deaths of processes that share a set ([`SharedSet`](crate::SharedSet)), in calls
+    /// between two renewals. Threads need none.
     ///
     /// ```
     /// # use vbr::Shape;
@@ -160,9 +187,15 @@ impl Shape {
         Shape { slots: self.slots.saturating_add(deaths.saturating_mul(66)), ..self }
     }
 
-    /// The same shape with a seed: with the same one and as many buckets each key has the same bucket, so walks have the same
-    /// order and calls take as many steps. With seed 0 keys are multiplied by 2^64 over the golden ratio, as all were before
-    /// 0.3.0: the best for keys in sequence that nobody chooses. With [`random_seed`] a renewal has another.
+    /// The same shape with a seed.
+    ///
+    // %doc vbr_open_seeded: seed
+    /// `seed` is any number. With the same seed and number of buckets each key has the same bucket, so walks have the same
+    /// order and calls take as many steps. With 0 keys are multiplied by 2^64 over the golden ratio, as all libraries before
+    /// 0.3.0 did.
+    // %end
+    ///
+    /// That is the best for keys in sequence that nobody chooses. With [`random_seed`] a renewal has another.
     ///
     /// ```
     /// use vbr::{random_seed, Handle, Set, Shape};
@@ -178,7 +211,7 @@ impl Shape {
         Shape { seed: Some(seed), ..self }
     }
 
-    /// The same shape without a seed: an opening draws one, and a renewal keeps that of its set.
+    /// The same shape without a seed.
     ///
     /// ```
     /// # use vbr::Shape;
@@ -231,9 +264,13 @@ impl Shape {
     }
 }
 
-/// A seed that the system draws at random, as an opening has it whose shape has none: by `getrandom`, and without waiting. If
-/// the system has no random number yet, shortly after it was started, or refuses the call, the seed is made of the time and
-/// an address of the stack: it differs from one to the next, and somebody outside may guess it.
+// %doc vbr_random_seed: sentence returns
+/// Returns a seed that the system draws at random, as [`Table::open`](crate::Table::open) does: by getrandom, and without
+/// waiting.
+///
+/// If the system has no random number yet, shortly after its start, or refuses the call, it is made from the time and an
+/// address of the stack: it differs from call to call, and somebody outside may guess it. It can't fail.
+// %end
 ///
 /// ```
 /// assert_ne!(vbr::random_seed(), vbr::random_seed());

@@ -1,7 +1,6 @@
 //! Strings of a fixed capacity.
-use crate::Record;
+use crate::{Record, SmallBytes, TooLong};
 use core::cmp::Ordering;
-use core::error::Error;
 use core::fmt;
 use core::hash::{Hash, Hasher};
 use core::ops::Deref;
@@ -22,23 +21,7 @@ use core::ops::Deref;
 /// ```
 #[derive(Clone, Copy)]
 pub struct SmallStr<const N: usize> {
-    length: usize,
-    bytes: [u8; N],
-}
-
-/// Why a text isn't made a [`SmallStr`]: it has more bytes than there is room for.
-///
-/// ```
-/// # use vbr::SmallStr;
-/// let why = "harbour".parse::<SmallStr<4>>().unwrap_err();
-/// assert_eq!(why.to_string(), "the text has 7 bytes, and there is room for 4");
-/// ```
-#[derive(Clone, Copy, Debug, PartialEq, Eq, Hash)]
-pub struct TooLong {
-    /// How many bytes the text has.
-    pub bytes: usize,
-    /// How many there is room for.
-    pub most: usize,
+    bytes: SmallBytes<N>,
 }
 
 impl<const N: usize> SmallStr<N> {
@@ -56,10 +39,7 @@ impl<const N: usize> SmallStr<N> {
     /// [`TooLong`], if the text has more than `N` bytes.
     #[inline]
     pub fn new(text: &str) -> Result<SmallStr<N>, TooLong> {
-        let mut bytes = [0; N];
-        let room = bytes.get_mut(..text.len()).ok_or(TooLong { bytes: text.len(), most: N })?;
-        room.copy_from_slice(text.as_bytes());
-        Ok(SmallStr { length: text.len(), bytes })
+        Ok(SmallStr { bytes: SmallBytes::new(text.as_bytes())? })
     }
 
     /// The text. It goes once over the bytes, to see that they are UTF-8: what [`Record::load`] makes of any words may have others,
@@ -86,22 +66,21 @@ impl<const N: usize> SmallStr<N> {
     #[inline]
     #[must_use]
     pub fn as_bytes(&self) -> &[u8] {
-        &self.bytes[..self.length]
+        self.bytes.as_slice()
     }
 }
 
 impl<const N: usize> Record for SmallStr<N> {
-    const WORDS: usize = 1 + <[u8; N]>::WORDS;
+    const WORDS: usize = SmallBytes::<N>::WORDS;
 
     #[inline]
     fn store(&self, put: &mut impl FnMut(u64)) {
-        self.length.store(put);
         self.bytes.store(put);
     }
 
     #[inline]
     fn load(next: &mut impl FnMut() -> u64) -> SmallStr<N> {
-        SmallStr { length: usize::load(next).min(N), bytes: Record::load(next) }
+        SmallStr { bytes: Record::load(next) }
     }
 }
 
@@ -123,7 +102,7 @@ impl<const N: usize> AsRef<str> for SmallStr<N> {
 /// The empty string.
 impl<const N: usize> Default for SmallStr<N> {
     fn default() -> SmallStr<N> {
-        SmallStr { length: 0, bytes: [0; N] }
+        SmallStr { bytes: SmallBytes::default() }
     }
 }
 
@@ -195,11 +174,3 @@ impl<const N: usize> fmt::Debug for SmallStr<N> {
         fmt::Debug::fmt(self.as_str(), f)
     }
 }
-
-impl fmt::Display for TooLong {
-    fn fmt(&self, f: &mut fmt::Formatter<'_>) -> fmt::Result {
-        write!(f, "the text has {} bytes, and there is room for {}", self.bytes, self.most)
-    }
-}
-
-impl Error for TooLong {}

@@ -23,8 +23,11 @@
 pub struct Steps(u32);
 
 impl Steps {
-    /// So many that in short buckets a call runs out of them only if others disturb it more than a hundred times: 400,000.
-    /// They give a call that may take a slot a step more for each 64 slots above 16,777,216.
+    // %doc VBR_AMPLE_STEPS
+    /// The default budget, called ample. Enough for any call on a key while buckets are short, unless others disturb it more
+    /// than a hundred times while it runs. A call of a walk may run out of it if it passes many empty buckets. A call that
+    /// may take a slot, given just this number, has one step more for each 64 slots above 16,777,216.
+    // %end
     ///
     /// ```
     /// assert!(vbr::Steps::AMPLE > vbr::Steps::new(100_000));

@@ -28,7 +28,11 @@ pub struct Table<T: Kind> {
 }
 
 impl<T: Kind> Table<T> {
-    /// Opens an empty set, which lends the handles that the shape is for.
+    // %doc vbr_open: sentence
+    /// Opens an empty set.
+    // %end
+    ///
+    /// It lends the handles that the shape is for.
     ///
     /// ```
     /// use vbr::{Set, Shape};
@@ -44,9 +48,14 @@ impl<T: Kind> Table<T> {
     /// # Ok::<(), Box<dyn std::error::Error>>(())
     /// ```
     ///
+    // %errors vbr_open
     /// # Errors
     ///
-    /// [`OpenError::Shape`], which is tested first, and [`OpenError::Memory`]. Nothing is kept then.
+    /// - [`OpenError::Shape`].
+    /// - [`OpenError::Memory`].
+    // %end
+    ///
+    /// They are tested in this order, and nothing is kept then.
     ///
     /// # Panics
     ///
@@ -55,8 +64,12 @@ impl<T: Kind> Table<T> {
         Table::open_with(shape, &[])
     }
 
-    /// Opens a set of these keys, which ascend, each above the one before, at epoch 1. It takes the memory of [`Table::open`],
-    /// and goes once over the keys. While it runs it takes 16 bytes more for each key of a set, or 64 for each entry of a map.
+    // %doc vbr_open_with: sentence
+    /// Opens a set of these keys, which ascend, each above the one before.
+    // %end
+    ///
+    /// It takes the memory of [`Table::open`], and while it runs 16 bytes more for each key of a set, or 64 for each entry of a map. It goes
+    /// once over them.
     ///
     /// ```
     /// # use vbr::{Set, Shape};
@@ -65,15 +78,23 @@ impl<T: Kind> Table<T> {
     /// # Ok::<(), Box<dyn std::error::Error>>(())
     /// ```
     ///
+    // %errors vbr_open_with
     /// # Errors
     ///
-    /// [`OpenError::Shape`], which is tested first, [`OpenError::Keys`] and [`OpenError::Memory`]. Nothing is kept then.
+    /// [`OpenError::Shape`], [`OpenError::Keys`] and [`OpenError::Memory`].
+    // %end
+    ///
+    /// They are tested in this order, and nothing is kept then.
     pub fn open_with(shape: Shape, items: &[T::Item]) -> Result<Table<T>, OpenError> {
         let handles = HandleOf::open(shape, items)?;
         Ok(Table { lender: Lender::of(handles, shape).map_err(|_| OpenError::Memory)? })
     }
 
-    /// Opens an empty set, and gives the handles that the shape is for: one for each thread, which owns it.
+    // %doc vbr_open: sentence
+    /// Opens an empty set.
+    // %end
+    ///
+    /// Returns the handles that the shape is for: one for each thread, which owns it.
     ///
     /// ```
     /// use vbr::{Map, OpenError, Set, Shape, ShapeError};
@@ -209,7 +230,9 @@ impl<T: Kind> Table<T> {
         self.lender.first()
     }
 
-    /// How many slots the set has.
+    // %doc vbr_slots: sentence
+    /// Returns how many slots the set was opened with.
+    // %end
     ///
     /// ```
     /// # use vbr::{Set, Shape};
@@ -220,7 +243,9 @@ impl<T: Kind> Table<T> {
         self.lender.shape().slots()
     }
 
-    /// How many buckets the set has.
+    // %doc vbr_buckets: sentence
+    /// Returns how many buckets the set was opened with.
+    // %end
     ///
     /// ```
     /// # use vbr::{Set, Shape};
@@ -231,7 +256,9 @@ impl<T: Kind> Table<T> {
         self.lender.shape().buckets()
     }
 
-    /// The last epoch of the set.
+    // %doc vbr_last_epoch: sentence
+    /// Returns the last epoch that the set was opened with.
+    // %end
     ///
     /// ```
     /// # use vbr::{Set, Shape};
@@ -253,11 +280,10 @@ impl<T: Kind> Table<T> {
         self.lender.count()
     }
 
-    /// How many keys are in the set, at one moment. No handle is lent meanwhile, and it waits until all loans are back, as
-    /// [`Table::renew`] does: so a thread that has one itself waits for ever, and so does one that comes after a loan was forgotten. It
-    /// adds up the balances of the handles ([`PassOf::balance`]), and goes over no key.
+    /// How many keys are in the set, at one moment. It lends none meanwhile, and waits for the loans, as [`Table::renew`] does. It adds up
+    /// the balances of the handles ([`PassOf::balance`]), and goes over no key.
     ///
-    /// It is right over renewals. For a number that is read often, and off by what is under way, let each thread tell the balance of
+    /// It is right over renewals. For a number that is read often, and off by what is under way, let each thread publish the balance of
     /// its handle.
     ///
     /// ```
@@ -274,7 +300,7 @@ impl<T: Kind> Table<T> {
         self.lender.key_count(None).unwrap_or_default() // without a deadline the wait ends with all handles
     }
 
-    /// As [`Table::key_count`], or `None` if not all loans were back when the time was over.
+    /// As [`Table::key_count`], or `None` if a loan was still out when the time was over.
     ///
     /// ```
     /// # use std::time::Duration;
@@ -290,11 +316,20 @@ impl<T: Kind> Table<T> {
         self.lender.key_count(Instant::now().checked_add(limit))
     }
 
-    /// Lends a free handle, or returns `None` if each was lent at some moment of the call, or the set is being renewed. It
-    /// tries each handle at most once, takes no lock and no memory, and never waits: [`Table::lend_wait`] does.
+    // %doc vbr_lend
+    /// Lends a free handle.
     ///
-    /// A thread gets the handle that it had last, if that is free: a loan and its return are then one atomic exchange on a
-    /// word that other threads don't write. Keep no loan while the thread waits for something else.
+    /// Returns the handle, or `None` if each was lent at some moment of the call, or they are being renewed. It leaves the
+    /// handle on loan, until it is given back.
+    ///
+    /// It takes no lock and no memory. It tries each handle at most once, so it never waits.
+    ///
+    /// It begins with the handle that this thread was lent last, by any lender. If that is free, a loan and its return are
+    /// one atomic exchange on a word that other threads don't write. If there are no more threads than handles, each comes to
+    /// have its own.
+    // %end
+    ///
+    /// [`Table::lend_wait`] waits for a handle. Keep no loan while the thread waits for something else.
     ///
     /// ```
     /// # use vbr::{Map, Shape};
@@ -311,10 +346,15 @@ impl<T: Kind> Table<T> {
         self.lender.take().map(|number| LentBy::of(self, number))
     }
 
-    /// Lends a free handle as soon as there is one: if each is lent, the thread sleeps until one is given back. A thread that
-    /// has a loan itself may wait for ever, and a loan without a name lasts to the end of its statement: in
-    /// `match set.lend_wait().has(5)? { .. }` lend none in an arm. Calls of the set itself ([`Table::has`], [`Table::call`])
-    /// leave no loan behind. Threads that wait have no order: a thread that comes later may be lent a handle before.
+    // %doc lend_wait
+    /// Lends a free handle as soon as there is one: if each is lent, the thread sleeps until one is given back.
+    ///
+    /// A thread that has a loan itself may wait for ever. Threads that wait have no order: one that comes later may be lent a
+    /// handle before.
+    // %end
+    ///
+    /// A loan without a name lasts to the end of its statement: in `match set.lend_wait().has(5)? { .. }` lend none in an arm. Calls of
+    /// the set itself ([`Table::has`], [`Table::call`]) leave no loan behind.
     ///
     /// ```
     /// # use vbr::{Set, Shape};
@@ -333,7 +373,9 @@ impl<T: Kind> Table<T> {
         LentBy::of(self, self.number_awaited())
     }
 
-    /// Lends a free handle, as [`Table::lend_wait`] does, or returns `None` if each was lent until the time was over.
+    // %doc lend_for
+    /// Lends a free handle, as `lend_wait` does, or none if each was lent until the time was over.
+    // %end
     ///
     /// ```
     /// # use std::time::Duration;
@@ -348,8 +390,12 @@ impl<T: Kind> Table<T> {
         self.number_within(limit).map(|number| LentBy::of(self, number))
     }
 
-    /// As [`Table::lend`], with a share of the set: the loan may outlive the caller's. Beside the loan it costs two atomic
-    /// additions on a word that all threads share.
+    /// As [`Table::lend`], by a loan with a share of the set.
+    ///
+    // %doc lend_owned
+    /// The loan keeps the handles, so it may outlive what lent it: for tasks. Beside the loan it costs two atomic additions
+    /// on a word that all threads share.
+    // %end
     ///
     /// ```
     /// # use std::sync::Arc;
@@ -403,15 +449,20 @@ impl<T: Kind> Table<T> {
         self.number_within(limit).map(|number| LentBy::of(Arc::clone(self), number))
     }
 
-    /// Lets the handles go on over a fresh set of this shape, with the keys that were in it, or a map with the entries: at
-    /// epoch 1, and larger if you want more of them. No handle is lent meanwhile, and it waits until all loans are back: so a
-    /// thread that has one itself waits for ever (a loan of the same statement is one), and so does one that comes after a
-    /// loan was forgotten. Threads that wait for a handle keep waiting. The fresh set is opened before the old one is given
-    /// up, so it takes the memory of both and of a report. It has the seed of the shape, or if the shape has none, the seed
-    /// of the old set; likewise the handles' budgets. The shape's handle count is ignored.
+    // %doc vbr_lender_renew: sentence
+    /// Lets the handles go on over a fresh set of this shape, as [`HandleOf::renew_all`](crate::HandleOf::renew_all) does,
+    /// once none is on loan.
+    // %end
     ///
-    /// If another thread renews to the same shape while this one waits, one renewal serves both: so each thread may ask for
-    /// one that is refused by [`Refusal::EpochSpent`](crate::Refusal::EpochSpent), once it has dropped its loan.
+    // %doc lender_renew
+    /// It lends none meanwhile, and waits for the loans, so a thread that has one itself waits for ever. Threads that wait
+    /// for a handle keep waiting. A refusal leaves the set as it was, and it lends again.
+    ///
+    /// If another thread renews to the same shape while this one waits, one renewal serves both. So each thread may ask for
+    /// one if a call was refused since the last epoch is spent, once it has no loan.
+    // %end
+    ///
+    /// A loan of the same statement is one that it waits for, and so is one that was forgotten.
     ///
     /// ```
     /// # use vbr::{Refusal, Set, Shape};
@@ -425,13 +476,12 @@ impl<T: Kind> Table<T> {
     ///
     /// # Errors
     ///
-    /// [`RenewError::Shape`], which is tested before it waits, [`RenewError::Slots`] and [`RenewError::Memory`]. The set is as it
-    /// was then, and lends its handles again.
+    /// [`RenewError::Shape`], which is tested before it waits, [`RenewError::Slots`] and [`RenewError::Memory`].
     pub fn renew(&self, shape: Shape) -> Result<(), RenewError> {
         self.lender.renew(shape, None, None)
     }
 
-    /// As [`Table::renew`], or [`RenewError::Lent`] if not all loans were back when the time was over.
+    /// As [`Table::renew`], or [`RenewError::Lent`] if a loan was still out when the time was over.
     ///
     /// ```
     /// # use std::time::Duration;
@@ -447,14 +497,13 @@ impl<T: Kind> Table<T> {
     ///
     /// # Errors
     ///
-    /// The same as for [`Table::renew`], and [`RenewError::Lent`]. The set is as it was then, and lends its handles again.
+    /// The same as for [`Table::renew`], and [`RenewError::Lent`].
     pub fn renew_timeout(&self, shape: Shape, limit: Duration) -> Result<(), RenewError> {
         self.lender.renew(shape, Instant::now().checked_add(limit), None)
     }
 
-    /// Reports what is in the set, as a close does, and the set goes on. No handle is lent meanwhile, and it waits until all loans are
-    /// back, as [`Table::renew`] does: so a thread that has one itself waits for ever, and so does one that comes after a loan was
-    /// forgotten. It takes the memory of a close. [`PassOf::iter`] goes over the keys while other threads make calls.
+    /// Reports what is in the set, as [`HandleOf::report_all`] does, and the set goes on. No handle is lent meanwhile, and it waits until
+    /// all loans are back, as [`Table::renew`] does. [`PassOf::iter`] goes over the keys while other threads make calls.
     ///
     /// ```
     /// # use vbr::{Set, Shape};
@@ -472,7 +521,7 @@ impl<T: Kind> Table<T> {
         self.lender.report(None)
     }
 
-    /// As [`Table::report`], or [`ReportError::Lent`] if not all loans were back when the time was over.
+    /// As [`Table::report`], or [`ReportError::Lent`] if a loan was still out when the time was over.
     ///
     /// ```
     /// # use std::time::Duration;
@@ -492,7 +541,11 @@ impl<T: Kind> Table<T> {
         self.lender.report(Instant::now().checked_add(limit))
     }
 
-    /// Closes all handles, those of loans that were forgotten too, and reports what was in the set.
+    // %doc vbr_close_all: sentence
+    /// Closes a set by all handles that were opened with it, with a report.
+    // %end
+    ///
+    /// It closes those of loans that were forgotten too.
     ///
     /// ```
     /// # use vbr::{Entry, Map, Shape};

@@ -28,9 +28,8 @@ pub struct LendAsync<T: Kind = Keys, B: Deref<Target = Table<T>> + Clone = Arc<T
 
 /// Loans for tasks.
 impl<T: Kind> Table<T> {
-    /// Lends a free handle as soon as there is one: while each is lent, the task that awaits it sleeps, and its thread goes on with
-    /// others. It names no runtime, and works with each. A return wakes a task that waits, and a thread too if any waits. They have no
-    /// order: one that comes later may be lent a handle before. If the system refuses its barrier (`membarrier`), the task doesn't
+    /// As [`Table::lend_wait`], for a task: while each handle is lent, the task that awaits one sleeps, and its thread goes on with others.
+    /// It names no runtime, and works with each. A return wakes a task that waits, and a thread too if any waits. If the system refuses its barrier (`membarrier`), the task doesn't
     /// sleep: it is woken at once, and looks again.
     ///
     /// The loan may be kept over an `.await`. Keep it for few of them: others wait as long, and a task that has one itself and awaits a

@@ -41,6 +41,7 @@ fn calls_of_a_map() {
     assert_eq!((map.contains_key(5), map.has(7), map.get(6)), (Ok(true), Ok(false), Ok(Some(80))));
     assert_eq!((map.put(5, 71), map.replace(5, 72), map.replace(7, 1)), (Ok(Some(70)), Ok(Some(71)), Ok(None)));
     assert_eq!((map.get_or_insert(5, 1), map.get_or_insert(7, 90)), (Ok(Some(72)), Ok(None)));
+    assert_eq!((map.fetch_add(7, 3), map.fetch_add(7, u64::MAX - 2)), (Ok(Some(90)), Ok(Some(93))));
     assert_eq!(map.compare_exchange(5, 72, 73), Ok(Compared::Equal));
     assert_eq!(map.compare_exchange(5, 72, 74), Ok(Compared::Other(73)));
     assert_eq!((map.fetch_update(5, |it| it.checked_add(1)), map.get(5)), (Ok(Some(73)), Ok(Some(74))));
@@ -48,6 +49,17 @@ fn calls_of_a_map() {
     assert_eq!((map.remove(7), map.remove(7)), (Ok(Some(90)), Ok(None)));
     assert!(map.lend().is_some());
     assert_eq!(map.close().expect("a report").entries, [(5, 74)]);
+}
+
+#[test]
+fn four_threads_count() {
+    let visits: Map = Map::open(Shape::for_keys(8, 4)).expect("a map");
+    thread::scope(|scope| {
+        for _ in 0..4 {
+            scope.spawn(|| (0..20_000).for_each(|_| assert!(visits.fetch_add(5, 3).is_ok())));
+        }
+    });
+    assert_eq!(visits.close().expect("a report").entries, [(5, 240_000)]);
 }
 
 /// A loan of the statement lasts through its loop; a walk that is cloned goes on from the same place.

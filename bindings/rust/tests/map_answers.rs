@@ -71,6 +71,8 @@ fn values_that_change() {
     assert_eq!(handle.compare_exchange(9, 52, 53), Ok(Compared::Absent));
     assert_eq!(handle.remove_if(5, 52), Ok(Compared::Other(53)));
     assert_eq!(other.get(5), Ok(Some(53)));
+    assert_eq!((handle.fetch_add(5, 2), handle.fetch_add(5, u64::MAX - 1)), (Ok(Some(53)), Ok(Some(55))));
+    assert_eq!((handle.fetch_add(9, 90), other.get(9), handle.remove(9)), (Ok(None), Ok(Some(90)), Ok(Some(90))));
     assert_eq!((handle.remove_if(5, 53), handle.remove_if(5, 53)), (Ok(Compared::Equal), Ok(Compared::Absent)));
     assert_eq!(handle.fetch_update(7, |value| Some(value * 2)), Ok(Some(70)));
     assert_eq!(handle.fetch_update(7, |value| (value < 100).then_some(0)), Ok(None));
@@ -89,6 +91,7 @@ fn refused_changes_leave_the_value() {
         }
         assert_eq!((handle.replace(5, 51), handle.put(5, 51)), (Err(refusal), Err(refusal)));
         assert_eq!((handle.put(6, 60), handle.get_or_insert(6, 60)), (Err(refusal), Err(refusal)));
+        assert_eq!((handle.fetch_add(5, 1), handle.fetch_add(6, 1)), (Err(refusal), Err(refusal)));
         assert_eq!(handle.compare_exchange(5, 50, 51), Err(refusal));
         assert_eq!(handle.fetch_update(5, |value| Some(value + 1)), Err(refusal));
         assert_eq!(

@@ -7,7 +7,10 @@ use std::alloc::{GlobalAlloc, Layout, System};
 use std::cell::Cell;
 use std::ffi::{c_int, c_void};
 use std::panic::{catch_unwind, AssertUnwindSafe};
-use vbr::{Change, CloseError, OpenError, RecordMap, RenewError, ReportError, Set, Shape, SharedTable, Table};
+use vbr::{
+    Change, CloseError, Growth, OpenError, RecordMap, RenewError, ReportError, Set, Shape, ShardRefusal, Sharded,
+    SharedTable, Table,
+};
 
 /// Counts what this thread asks for, and refuses it while it is told to.
 struct Counting;
@@ -116,6 +119,7 @@ of_sets_and_maps! {
     a_set_that_lends_its_handles_closes_all_or_none
     a_set_that_lends_its_handles_is_renewed_or_not
     handles_that_are_lent_or_not
+    shards_that_are_doubled_or_not
     a_set_that_processes_share
     a_process_that_dies_in_a_report
 }
@@ -271,6 +275,55 @@ fn handles_that_are_lent_or_not<K: Both>() {
     let set = unclosed.into_table();
     assert!([(); 3].map(|()| set.lend()).iter().flatten().all(|it| it.has(2) == Ok(true)));
     assert_eq!(granted(1, || set.into_handles()).expect("memory for the vector").len(), 3);
+}
+
+/// They are opened all or none. A call that finds no memory to double its shard, or to renew it, says so, and the shard stays as it was; with memory
+/// the call is made. It asks the crate for none.
+fn shards_that_are_doubled_or_not<K: Both>() {
+    let open = || Sharded::<K>::open(2, Shape::new(4, 4, 3).with_handles(3), Growth::up_to(8));
+    let refusals = (0..).map_while(|blocks| granted(blocks, || open().err()));
+    assert_eq!(refusals.inspect(|error| assert_eq!(*error, OpenError::Memory)).count(), 1 + 2 * 7); // a place for each, and what each has
+    let by_the_library = |blocks, call: &dyn Fn() -> bool| {
+        LIBRARY_GRANTED.set(blocks);
+        let is_done = refused(call);
+        LIBRARY_GRANTED.set(usize::MAX);
+        is_done
+    };
+    for blocks in 0..8 {
+        LIBRARY_GRANTED.set(blocks);
+        let opened = open();
+        LIBRARY_GRANTED.set(usize::MAX);
+        assert_eq!(opened.err(), Some(OpenError::Memory));
+    }
+    let of = open().expect("memory");
+    let add = |key| of.call(key, |mine| K::insert(mine, key));
+    let mut keys: Vec<u64> = (0..).filter(|key| of.shard_of(*key) == 0).take(5).collect();
+    let fifth = keys.pop().expect("five keys");
+    let is_as_it_was = |keys: &[u64], slots| {
+        let stats = of.stats(0);
+        assert_eq!((stats.keys, stats.slots), (keys.len() as u64, slots));
+        assert!(keys.iter().all(|key| of.has(*key) == Ok(true)));
+    };
+    assert!(keys.iter().all(|key| add(*key) == Ok(true)));
+    let is_added = |blocks| {
+        by_the_library(blocks, &|| match add(fifth) {
+            Ok(is_new) => is_new,
+            Err(why) => {
+                assert_eq!(why, ShardRefusal::NoMemory);
+                false
+            }
+        })
+    };
+    let needed = (0..).take_while(|blocks| !is_added(*blocks)).inspect(|_| is_as_it_was(&keys, 4)).count();
+    assert!((4..1_000).contains(&needed));
+    let remove = |key| of.call(key, |mine| Ok(K::remove(mine, key)?));
+    let kept = keys.clone();
+    keys.push(fifth);
+    is_as_it_was(&keys, 8);
+    let turns = (0..100).take_while(|_| remove(fifth) == Ok(true) && is_added(0)).count(); // until the last epoch is spent
+    assert!(turns < 100);
+    is_as_it_was(&kept, 8);
+    assert_eq!(add(fifth), Ok(true));
 }
 
 /// It is opened whole or not. Its calls ask for no memory, and each block that a renewal asks for is refused in turn.

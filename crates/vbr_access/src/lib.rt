@@ -2,9 +2,9 @@
 //! unmoved epoch has confirmed, and the exchanges that stand on them (Michael 2002; Sheffi, Herlihy and
 //! Petrank 2021).
 //!
-//! A call that reads checks the epoch after it has read. Where the epoch has moved it answers
+//! A call that reads checks the epoch after it has read. If the epoch has moved it answers
 //! [`Rollback::EpochMoved`], and the caller begins again at a [`checkpoint`]. A call that exchanges
-//! answers [`Rollback::LostExchange`] where another word stood there. The calls that read, and those
+//! answers [`Rollback::LostExchange`] if another word stood there. The calls that read, and those
 //! that answer by one more load, are loads alone. What they do is in `vbr_at_table`.
 #![tactic(auto)]
 

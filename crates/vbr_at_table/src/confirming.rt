@@ -20,7 +20,7 @@ use vbr_words::{At, Nodes};
 
 /// Answers, in one step, that the key of a node is present: a look-up with yes, an insert with no, and
 /// a get, where nodes have values and the one of this node was checked, with its value. It does so only
-/// where the node's link is still the unmarked one that is held. Else it answers LostExchange: no call
+/// if the node's link is still the unmarked one that is held. Else it answers LostExchange: no call
 /// was made, and what the pass knew it knows.
 #[inline]
 pub fn confirm_present<N: Nodes>(
@@ -53,7 +53,7 @@ pub fn confirm_present<N: Nodes>(
 
 /// Answers, in one step, that a key is absent: a look-up or a remove with no, and a get with no, where
 /// nodes have values. The key would stand behind `pred` and before what its link names, or what marked
-/// nodes lead to from there. It does so only where that link is still the unmarked one that is held:
+/// nodes lead to from there. It does so only if that link is still the unmarked one that is held:
 /// then all nodes between are still marked. Else it answers LostExchange: no call was made, and what the
 /// pass knew it knows.
 #[inline]
@@ -82,7 +82,7 @@ pub fn confirm_absent<N: Nodes>(
 
 /// Answers a look-up, in one step, by what is held: the key is present there; or it is absent, and
 /// would stand behind that place and before what its link names, or what marked nodes lead to from
-/// there. It does so only where the link is still the unmarked one that is held; else it answers
+/// there. It does so only if the link is still the unmarked one that is held; else it answers
 /// LostExchange, and no call was made. Which of the two it is can't be foreseen, so it takes no
 /// branch.
 #[inline]

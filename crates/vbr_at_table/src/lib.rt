@@ -8,8 +8,8 @@
 //!
 //! Checked access to the lists of a set is by checkpoints, reads that an unmoved epoch has confirmed,
 //! and the exchanges that stand on them (Michael 2002). A call that reads checks the epoch after it has
-//! read. Where the epoch has moved it answers [`Rollback::EpochMoved`], and the caller begins again at a
-//! [`checkpoint`]. A call that exchanges answers [`Rollback::LostExchange`] where another word stood
+//! read. If the epoch has moved it answers [`Rollback::EpochMoved`], and the caller begins again at a
+//! [`checkpoint`]. A call that exchanges answers [`Rollback::LostExchange`] if another word stood
 //! there. The calls that read, and those that answer by one more load, are loads alone.
 //!
 //! A call that is made of these counts its steps once for all, when it ends. `vbr_pools` and

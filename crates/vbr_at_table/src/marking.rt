@@ -14,7 +14,7 @@ use vbr_slots::AtTable;
 use vbr_words::{At, Nodes, with_mark};
 
 /// Marks a node, in one step: the pass has removed its key. Where nodes have values, the one of this
-/// node was checked, and the call gives it. It does so only where the node's link is still the unmarked
+/// node was checked, and the call gives it. It does so only if the node's link is still the unmarked
 /// one that is held. Else it answers LostExchange: no call was made, and what the pass knew it knows.
 #[inline]
 pub fn mark<N: Nodes>(at: &mut AtTable<'_, N>, held: &Held) -> Result<Marked, Rollback>

@@ -4,7 +4,7 @@ use std::fmt;
 
 /// Why [`crate::take`] took no slot, or why a call of the list gave no answer, which stands on it.
 ///
-/// Where no slot was taken, nothing is in hand, and the own pool is as it was; or it was empty, and
+/// If no slot was taken, nothing is in hand, and the own pool is as it was; or it was empty, and
 /// has the one slot whose flag was won. Where a call gave no answer, the pass made no call, it has no
 /// slot in hand, and each slot that it could take is in its own pool.
 #[derive(Clone, Copy, Debug, PartialEq, Eq, Hash)]
@@ -15,10 +15,10 @@ pub enum Refusal {
         used: u32,
     },
     /// The own pool is empty, and each slot was outside the shared pool when it was looked for. An
-    /// insert answers this only where the key was absent.
+    /// insert answers this only if the key was absent.
     NoSlot,
     /// The epoch is the last, and each slot of the own pool, which has some, is stamped with it.
-    /// The budget had room to advance it. An insert answers this only where the key was absent.
+    /// The budget had room to advance it. An insert answers this only if the key was absent.
     EpochSpent {
         /// The last epoch.
         epoch: u64,

@@ -19,7 +19,7 @@ use vbr_words::{At, Nodes};
 /// Replaces the node that is held by the slot in hand, with this value, in four steps: in the
 /// history the pass has removed the key with the value that was there, and inserted it with this
 /// one, next to each other. `key` is the key of the node, its value was checked, and `next_birth`
-/// is the birth of what its link names. It does so only where the link of the node is still the
+/// is the birth of what its link names. It does so only if the link of the node is still the
 /// unmarked one that is held. Then the node is marked, and its link names the slot that was in
 /// hand. Else the hand comes back with LostExchange: no call was made.
 #[inline]

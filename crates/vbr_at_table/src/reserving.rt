@@ -9,7 +9,7 @@ use vbr_slots::pass::POOL;
 use vbr_words::Nodes;
 use vbr_words::flags::{FLAGS, next_flag};
 
-/// Takes slots out of the shared pool until the own pool has `wanted`, or 63 if that is less; fewer, where it
+/// Takes slots out of the shared pool until the own pool has `wanted`, or 63 if that is less; fewer, if it
 /// finds no more on a way once round the slots, which begins with the flag word of the slot that the pass
 /// tried last. Returns how many it took, and how many steps it made: at most one for each slot that it took, one
 /// for each flag word, and one for each slot that others took out of the shared pool meanwhile. It makes no call
@@ -31,7 +31,7 @@ pub fn reserve<N: Nodes>(at: &mut AtTable<'_, N>, wanted: u32) -> (u32, u32)
     (taken as u32, first + second)
 }
 
-/// Takes slots out of the shared pool as [`reserve`] does, but tries no more than `probes` times. Where it stops
+/// Takes slots out of the shared pool as [`reserve`] does, but tries no more than `probes` times. If it stops
 /// for that, the own pool may have fewer than `wanted`, and the next top-up goes on: the way begins after the slot
 /// that the pass tried last. Returns how many slots it took, and how many steps it made, one for each try. A
 /// pass that has what is wanted makes none. It makes no call of the set and changes no list.

@@ -19,23 +19,23 @@ use vbr_words::Nodes;
 use vbr_words::flags::{FLAGS, next_flag};
 
 /// Takes a slot, and gives birth to a new incarnation there, above the slot's stamp: a slot of the
-/// own pool, the oldest that may be born in; or, where that pool is empty, the first of the shared
+/// own pool, the oldest that may be born in; or, if that pool is empty, the first of the shared
 /// pool on a way once round its flag words, which begins where the pass looked last. It waits for
 /// nobody.
 ///
 /// The call makes at most `budget` steps. It goes in pieces, and tests before each whether the budget
-/// has room for it; if not, it answers OutOfSteps. It looks in the shared pool only where the own
-/// pool is empty: NoSlot, if nothing is there. It advances the epoch only where no slot of the own pool
+/// has room for it; if not, it answers OutOfSteps. It looks in the shared pool only if the own
+/// pool is empty: NoSlot, if nothing is there. It advances the epoch only if no slot of the own pool
 /// is stamped below the epoch that it read: EpochSpent, if that is the last. That is tested last, where
 /// the budget had room to advance it. A flag that it won stays in the own pool after a refusal. It wins one
-/// at most, and only where the pass had no slot that it may give birth in.
+/// at most, and only if the pass had no slot that it may give birth in.
 ///
 /// With slots in the own pool a budget of 80 is enough, whatever others do; with none, one of
 /// w + 13 + g is, where w is the number of flag words, and g that of the slots which other passes take
 /// out of the shared pool meanwhile. Of passes that take slots only as here, g is below their number,
 /// while no insert or store of theirs is answered yes.
 ///
-/// It tells how many steps it made.
+/// It returns how many steps it made.
 #[inline(always)]
 pub fn take<N: Nodes>(at: &mut AtTable<'_, N>, budget: u32) -> (Result<Hand, Refusal>, u32)
     requires empty_hand { (pass_of at.old).hand ≡ None }
@@ -163,7 +163,8 @@ fn choose<N: Nodes>(
     if epoch == at.slots.shape().last_epoch() {
         return Err((Refusal::EpochSpent { epoch }, used));
     }
-    at.advance(epoch);
+    let is_won = at.advance(epoch);
+    at.stepper.count_advance(is_won);
     at.read_epoch();
     Ok(((0, at.pool()[0]), used + 2))
 }

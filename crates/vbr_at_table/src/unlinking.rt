@@ -17,7 +17,7 @@ use vbr_words::{At, Layout, Nodes, decode};
 
 /// Unlinks a marked node behind `pred`, whose link names it: the slot is the pass's, to be retired,
 /// and `pred` comes back with its new link, which names what the marked link named. It does so only
-/// where the link of `pred` is still the unmarked one that is held; else no slot is unlinked.
+/// if the link of `pred` is still the unmarked one that is held; else no slot is unlinked.
 ///
 /// It makes one step, and two before that if the marked link names a node.
 ///

@@ -82,7 +82,7 @@ pub(crate) fn fill<N: Nodes>(
 
 /// Links the slot in hand with this key between `pred` and `succ`: the pass has inserted the key. It
 /// takes three steps, and a fourth where nodes have values, for this value. `succ` is the node that the
-/// link of `pred` names, if it names one. It does so only where the link of `pred` is still the unmarked
+/// link of `pred` names, if it names one. It does so only if the link of `pred` is still the unmarked
 /// one that is held. Else the hand comes back with LostExchange: no call was made, and what the pass
 /// knew it knows.
 #[inline]

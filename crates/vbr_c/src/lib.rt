@@ -9,9 +9,11 @@
 //! No call asks anything of its caller but what the types say: a handle is moved and never copied, and
 //! one call at a time has it. Only calls on all handles at once, such as `vbr_close_all`, also ask that
 //! the handles are of one set or map, and calls on several keys that there is room for each answer.
-//! A C programmer reads `bindings/include/vbr.h`, which says what each call answers.
+//! A C programmer reads `bindings/include/vbr.h`, which says what each call does and answers. An export
+//! that is given an array for its results, beside that of its items, is called by the file
+//! `bindings/src/null_pointers.c`: it is given the number of items once.
 //!
-//! ```c file=bindings/c/example.c
+//! ```c file=bindings/examples/example.c
 //! /* handles, count, slots (keys, and 64 for each handle), buckets (as many as keys), last_epoch */
 //! if (vbr_open(handle, 2, 1024 + 2 * 64, 1024, VBR_MAX_EPOCH) != VBR_OK) return 1;
 //! vbr_answer added = vbr_insert(&handle[0], 5);       /* VBR_YES: 5 was absent */
@@ -30,13 +32,14 @@ pub mod map;
 pub mod own_slots;
 pub mod records;
 pub mod set;
+pub mod tallies;
 
 pub use vbr_handles::{Entry, Found, Incarnation, ReportNumbers};
 
 // 0.3.0
 const VERSION: u32 = 3_000;
 
-/// Returns the version of the library: `vbr_version` of vbr.h, which has the rest.
+/// `vbr_version` of vbr.h.
 #[unsafe(no_mangle)]
 pub extern "C" fn vbr_version() -> u32
     ensures { result ≡ 0 * 1000000 + 3 * 1000 + 0 }

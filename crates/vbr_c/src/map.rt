@@ -6,7 +6,7 @@ ghost use Rattle.vbr_handles.specs.Batches.{TellsGetAll, TellsHasAll};
 ghost use Rattle.vbr_handles.specs.Calls.{TellsCall, TellsInsertEntry};
 ghost use Rattle.vbr_handles.specs.GivingSlotsBack.{ClosesMapHandle};
 ghost use Rattle.vbr_handles.specs.Iterating.{TellsNextEntry};
-ghost use Rattle.vbr_handles.specs.ValueCalls.{TellsExchange, TellsGetEntry, TellsGetOrInsert, TellsPut, TellsRemoveEntry, TellsRemoveIf, TellsReplace};
+ghost use Rattle.vbr_handles.specs.ValueCalls.{TellsExchange, TellsFetchAdd, TellsGetEntry, TellsGetOrInsert, TellsPut, TellsRemoveEntry, TellsRemoveIf, TellsReplace};
 ghost use Rattle.vbr_handles.specs.Opening.{AreEmpty, entries_start};
 ghost use Rattle.vbr_handles.specs.OpeningCodes.{TellsMapOpeningMany, TellsMapOpeningWith};
 ghost use Rattle.vbr_handles.specs.AllHandles.{KeepMapOpenings, KeepMapSteps, map_members_in};
@@ -22,8 +22,7 @@ use vbr_handles::{
 };
 use vbr_words::Entries;
 
-/// Opens a map of these entries, with its keys spread by the seed: `vbr_map_open_seeded` of
-/// vbr.h, which has its answers.
+/// `vbr_map_open_seeded` of vbr.h.
 #[unsafe(no_mangle)]
 pub extern "C" fn vbr_map_open_seeded(
     alloc: Global,
@@ -48,8 +47,7 @@ pub extern "C" fn vbr_map_open_seeded(
     coded_calls::open_with::<Entries, Entry, MapHandle>(alloc, handles, numbers, entries)
 }
 
-/// Opens a map of these entries for up to 65,536 handles, with its keys spread by the seed:
-/// `vbr_map_open_many_seeded` of vbr.h, which has its answers.
+/// `vbr_map_open_many_seeded` of vbr.h.
 #[unsafe(no_mangle)]
 pub extern "C" fn vbr_map_open_many_seeded(
     alloc: Global,
@@ -75,8 +73,7 @@ pub extern "C" fn vbr_map_open_many_seeded(
     coded_calls::open_many::<Entries, Entry, MapHandle>(alloc, handles, numbers, entries)
 }
 
-/// Adds a key with its value: `vbr_map_insert_within` of vbr.h, which has its answers and
-/// budgets.
+/// `vbr_map_insert_within` of vbr.h.
 #[unsafe(no_mangle)]
 pub extern "C" fn vbr_map_insert_within(
     handle: &mut MapHandle,
@@ -92,8 +89,7 @@ pub extern "C" fn vbr_map_insert_within(
     entries::insert(handle.owned.owner_mut(), key, value, budget)
 }
 
-/// Takes a key out, and gives its value: `vbr_map_remove_within` of vbr.h, which has its answers
-/// and budgets.
+/// `vbr_map_remove_within` of vbr.h.
 #[unsafe(no_mangle)]
 pub extern "C" fn vbr_map_remove_within(
     handle: &mut MapHandle,
@@ -109,7 +105,7 @@ pub extern "C" fn vbr_map_remove_within(
     entries::remove(handle.owned.owner_mut(), key, value, budget)
 }
 
-/// Gives the value of a key: `vbr_map_get_within` of vbr.h, which has its answers and budgets.
+/// `vbr_map_get_within` of vbr.h.
 #[unsafe(no_mangle)]
 pub extern "C" fn vbr_map_get_within(
     handle: &mut MapHandle,
@@ -125,8 +121,7 @@ pub extern "C" fn vbr_map_get_within(
     entries::get(handle.owned.owner_mut(), key, value, budget)
 }
 
-/// Gives a key another value if the key is there: `vbr_map_replace_within` of vbr.h, which has
-/// its answers and budgets.
+/// `vbr_map_replace_within` of vbr.h.
 #[unsafe(no_mangle)]
 pub extern "C" fn vbr_map_replace_within(
     handle: &mut MapHandle,
@@ -143,8 +138,7 @@ pub extern "C" fn vbr_map_replace_within(
     entries::replace(handle.owned.owner_mut(), key, value, there, budget)
 }
 
-/// Gives a key a value, whether the key is there or not: `vbr_map_put_within` of vbr.h, which has
-/// its answers and budgets.
+/// `vbr_map_put_within` of vbr.h.
 #[unsafe(no_mangle)]
 pub extern "C" fn vbr_map_put_within(
     handle: &mut MapHandle,
@@ -161,8 +155,24 @@ pub extern "C" fn vbr_map_put_within(
     entries::put(handle.owned.owner_mut(), key, value, there, budget)
 }
 
-/// Gives the value of a key, or inserts this one if the key is absent:
-/// `vbr_map_get_or_insert_within` of vbr.h, which has its answers and budgets.
+/// `vbr_map_fetch_add_within` of vbr.h.
+#[unsafe(no_mangle)]
+pub extern "C" fn vbr_map_fetch_add_within(
+    handle: &mut MapHandle,
+    key: u64,
+    delta: u64,
+    there: &mut u64,
+    budget: u32,
+) -> i32
+    ensures called { TellsFetchAdd handle.old.owned.member handle.new.owned.member
+        key delta budget there.old there.new result }
+    ensures steps { handle.new.steps ≡ handle.old.steps }
+    ensures opening { handle.new.opening ≡ handle.old.opening }
+{
+    entries::fetch_add(handle.owned.owner_mut(), key, delta, there, budget)
+}
+
+/// `vbr_map_get_or_insert_within` of vbr.h.
 #[unsafe(no_mangle)]
 pub extern "C" fn vbr_map_get_or_insert_within(
     handle: &mut MapHandle,
@@ -179,8 +189,7 @@ pub extern "C" fn vbr_map_get_or_insert_within(
     entries::get_or_insert(handle.owned.owner_mut(), key, value, there, budget)
 }
 
-/// Gives a key another value if it has the expected one: `vbr_map_compare_exchange_within` of
-/// vbr.h, which has its answers and budgets.
+/// `vbr_map_compare_exchange_within` of vbr.h.
 #[unsafe(no_mangle)]
 pub extern "C" fn vbr_map_compare_exchange_within(
     handle: &mut MapHandle,
@@ -205,8 +214,7 @@ pub extern "C" fn vbr_map_compare_exchange_within(
     )
 }
 
-/// Takes a key out if it has the expected value: `vbr_map_remove_if_within` of vbr.h, which has
-/// its answers and budgets.
+/// `vbr_map_remove_if_within` of vbr.h.
 #[unsafe(no_mangle)]
 pub extern "C" fn vbr_map_remove_if_within(
     handle: &mut MapHandle,
@@ -223,8 +231,7 @@ pub extern "C" fn vbr_map_remove_if_within(
     entries::remove_if(handle.owned.owner_mut(), key, expected, there, budget)
 }
 
-/// Looks a key up, without its value: `vbr_map_has_within` of vbr.h, which has its answers and
-/// budgets.
+/// `vbr_map_has_within` of vbr.h.
 #[unsafe(no_mangle)]
 pub extern "C" fn vbr_map_has_within(handle: &mut MapHandle, key: u64, budget: u32) -> i32
     ensures called { TellsCall Has handle.old.owned.member handle.new.owned.member
@@ -235,9 +242,7 @@ pub extern "C" fn vbr_map_has_within(handle: &mut MapHandle, key: u64, budget: u
     coded_calls::has(handle.owned.owner_mut(), key, budget)
 }
 
-/// Looks keys up, in their order, without their values: `vbr_map_has_all_within` of vbr.h, which
-/// has its answers and budgets. C calls its form in `bindings/null_pointers.c`, which is given the
-/// number of items once.
+/// `vbr_map_has_all_within` of vbr.h.
 #[unsafe(no_mangle)]
 pub extern "C" fn vbr_map_has_all_within(
     handle: &mut MapHandle,
@@ -254,9 +259,7 @@ pub extern "C" fn vbr_map_has_all_within(
     batches::has_all(handle.owned.owner_mut(), keys, answers, budget);
 }
 
-/// Gives the values of keys, in their order: `vbr_map_get_all_within` of vbr.h, which has its
-/// answers and budgets. C calls its form in `bindings/null_pointers.c`, which is given the number
-/// of items once.
+/// `vbr_map_get_all_within` of vbr.h.
 #[unsafe(no_mangle)]
 pub extern "C" fn vbr_map_get_all_within(
     handle: &mut MapHandle,
@@ -273,7 +276,7 @@ pub extern "C" fn vbr_map_get_all_within(
     batches::get_all(handle.owned.owner_mut(), keys, found, budget);
 }
 
-/// Returns the last epoch that the handle read: `vbr_map_epoch` of vbr.h, which has the rest.
+/// `vbr_map_epoch` of vbr.h.
 #[unsafe(no_mangle)]
 pub extern "C" fn vbr_map_epoch(handle: &mut MapHandle) -> u64
     ensures same { handle.new.owned.member ≡ handle.old.owned.member }
@@ -284,8 +287,7 @@ pub extern "C" fn vbr_map_epoch(handle: &mut MapHandle) -> u64
     accessors::epoch(handle.owned.owner_mut())
 }
 
-/// Returns the last epoch that the map was opened with: `vbr_map_last_epoch` of vbr.h, which has
-/// the rest.
+/// `vbr_map_last_epoch` of vbr.h.
 #[unsafe(no_mangle)]
 pub extern "C" fn vbr_map_last_epoch(handle: &mut MapHandle) -> u64
     ensures same { handle.new.owned.member ≡ handle.old.owned.member }
@@ -296,8 +298,7 @@ pub extern "C" fn vbr_map_last_epoch(handle: &mut MapHandle) -> u64
     accessors::last_epoch(handle.owned.owner_mut())
 }
 
-/// Returns the number of slots that the map was opened with: `vbr_map_slots` of vbr.h, which has
-/// the rest.
+/// `vbr_map_slots` of vbr.h.
 #[unsafe(no_mangle)]
 pub extern "C" fn vbr_map_slots(handle: &mut MapHandle) -> u32
     ensures same { handle.new.owned.member ≡ handle.old.owned.member }
@@ -308,8 +309,7 @@ pub extern "C" fn vbr_map_slots(handle: &mut MapHandle) -> u32
     accessors::slots(handle.owned.owner_mut())
 }
 
-/// Returns the number of buckets that the map was opened with: `vbr_map_buckets` of vbr.h, which
-/// has the rest.
+/// `vbr_map_buckets` of vbr.h.
 #[unsafe(no_mangle)]
 pub extern "C" fn vbr_map_buckets(handle: &mut MapHandle) -> u32
     ensures same { handle.new.owned.member ≡ handle.old.owned.member }
@@ -320,8 +320,7 @@ pub extern "C" fn vbr_map_buckets(handle: &mut MapHandle) -> u32
     accessors::buckets(handle.owned.owner_mut())
 }
 
-/// Returns a seed that spreads keys over the buckets as the map does: `vbr_map_seed` of vbr.h,
-/// which has the rest.
+/// `vbr_map_seed` of vbr.h.
 #[unsafe(no_mangle)]
 pub extern "C" fn vbr_map_seed(handle: &mut MapHandle) -> u64
     ensures same { handle.new.owned.member ≡ handle.old.owned.member }
@@ -332,8 +331,7 @@ pub extern "C" fn vbr_map_seed(handle: &mut MapHandle) -> u64
     accessors::seed(handle.owned.owner_mut())
 }
 
-/// Returns how many keys the handle added, less those that it took out: `vbr_map_balance` of
-/// vbr.h, which has the rest.
+/// `vbr_map_balance` of vbr.h.
 #[unsafe(no_mangle)]
 pub extern "C" fn vbr_map_balance(handle: &mut MapHandle) -> i64
     ensures same { handle.new.owned.member ≡ handle.old.owned.member }
@@ -344,8 +342,7 @@ pub extern "C" fn vbr_map_balance(handle: &mut MapHandle) -> i64
     accessors::balance(handle.owned.owner_mut())
 }
 
-/// Closes a handle; the last one of its map gets the report: `vbr_map_close` of vbr.h, which has
-/// its answers.
+/// `vbr_map_close` of vbr.h.
 #[unsafe(no_mangle)]
 pub extern "C" fn vbr_map_close(
     alloc: Global,
@@ -361,8 +358,7 @@ pub extern "C" fn vbr_map_close(
     giving_slots_back::close::<Entries, Entry>(alloc, handle.owned.owner_mut(), entries, report)
 }
 
-/// Closes a map by all its handles at once, with a report: `vbr_map_close_all` of vbr.h, which
-/// has its answers.
+/// `vbr_map_close_all` of vbr.h.
 #[unsafe(no_mangle)]
 pub extern "C" fn vbr_map_close_all(
     alloc: Global,
@@ -379,8 +375,7 @@ pub extern "C" fn vbr_map_close_all(
     coded_calls::close_all::<Entries, Entry, MapHandle>(alloc, handles, entries, report)
 }
 
-/// Reports what is in a map by all its handles at once: `vbr_map_report_all` of vbr.h, which has
-/// its answers.
+/// `vbr_map_report_all` of vbr.h.
 #[unsafe(no_mangle)]
 pub extern "C" fn vbr_map_report_all(
     alloc: Global,
@@ -397,9 +392,7 @@ pub extern "C" fn vbr_map_report_all(
     coded_calls::report_all::<Entries, Entry, MapHandle>(alloc, handles, entries, report)
 }
 
-/// Reports what is in a map, with the slot of each entry: `vbr_map_report_slots` of vbr.h, which
-/// has its answers. C calls its form in `bindings/null_pointers.c`, which is given the number of
-/// items once.
+/// `vbr_map_report_slots` of vbr.h.
 #[unsafe(no_mangle)]
 pub extern "C" fn vbr_map_report_slots(
     alloc: Global,
@@ -420,8 +413,7 @@ pub extern "C" fn vbr_map_report_slots(
     )
 }
 
-/// Moves all handles of a map to a fresh one with the same entries, spread by the seed:
-/// `vbr_map_renew_all_seeded` of vbr.h, which has its answers.
+/// `vbr_map_renew_all_seeded` of vbr.h.
 #[unsafe(no_mangle)]
 pub extern "C" fn vbr_map_renew_all_seeded(
     alloc: Global,
@@ -445,7 +437,7 @@ pub extern "C" fn vbr_map_renew_all_seeded(
     coded_calls::renew_all::<Entries, Entry, MapHandle>(alloc, handles, numbers)
 }
 
-/// Releases a handle, without a report: `vbr_map_drop` of vbr.h, which has the rest.
+/// `vbr_map_drop` of vbr.h.
 #[unsafe(no_mangle)]
 pub extern "C" fn vbr_map_drop(alloc: Global, handle: &mut MapHandle)
     ensures empty { handle.new.owned.member ≡ None }
@@ -455,7 +447,7 @@ pub extern "C" fn vbr_map_drop(alloc: Global, handle: &mut MapHandle)
     vbr_handles::abandon(alloc, handle.owned.owner_mut());
 }
 
-/// Releases these handles, without a report: `vbr_map_end_all` of vbr.h, which has the rest.
+/// `vbr_map_end_all` of vbr.h.
 #[unsafe(no_mangle)]
 pub extern "C" fn vbr_map_end_all(alloc: Global, handles: &mut [MapHandle])
     ensures empty { AreEmpty (λ (handle : MapHandle). handle.owned.member) handles.new }
@@ -465,8 +457,7 @@ pub extern "C" fn vbr_map_end_all(alloc: Global, handles: &mut [MapHandle])
     vbr_handles::abandon_all::<Entries, MapHandle>(alloc, handles);
 }
 
-/// Gives the next key of a walk, with its value: `vbr_map_next_within` of vbr.h, which has its
-/// answers and budgets.
+/// `vbr_map_next_within` of vbr.h.
 #[unsafe(no_mangle)]
 pub extern "C" fn vbr_map_next_within(
     handle: &mut MapHandle,

@@ -7,8 +7,7 @@ ghost use Rattle.vbr_handles.specs.Reserving.{TellsReserve};
 use vbr_handles::coded_calls::{forsaking, giving_slots_back, reserving};
 use vbr_handles::{Handle, MapHandle};
 
-/// Gives the slots that the handle keeps to itself back to the shared pool. vbr.h gives it the name of
-/// what it does, and has the rest.
+/// `vbr_spare` of vbr.h.
 #[unsafe(no_mangle)]
 pub extern "C" fn vbr_spare(handle: &mut Handle) -> u32
     ensures given { TellsGivenBack handle.old.owned.member handle.new.owned.member result }
@@ -18,8 +17,7 @@ pub extern "C" fn vbr_spare(handle: &mut Handle) -> u32
     giving_slots_back::give_slots_back(handle.owned.owner_mut())
 }
 
-/// Gives the slots that the handle of a map keeps to itself back to the shared pool. vbr.h gives it the
-/// name of what it does, and has the rest.
+/// `vbr_map_spare` of vbr.h.
 #[unsafe(no_mangle)]
 pub extern "C" fn vbr_map_spare(handle: &mut MapHandle) -> u32
     ensures given { TellsGivenBack handle.old.owned.member handle.new.owned.member result }
@@ -29,8 +27,7 @@ pub extern "C" fn vbr_map_spare(handle: &mut MapHandle) -> u32
     giving_slots_back::give_slots_back(handle.owned.owner_mut())
 }
 
-/// Takes slots from the shared pool until the handle keeps `wanted`: `vbr_reserve` of vbr.h,
-/// which has the rest.
+/// `vbr_reserve` of vbr.h.
 #[unsafe(no_mangle)]
 pub extern "C" fn vbr_reserve(handle: &mut Handle, wanted: u32) -> u32
     ensures took { TellsReserve handle.old.owned.member handle.new.owned.member wanted result }
@@ -40,8 +37,7 @@ pub extern "C" fn vbr_reserve(handle: &mut Handle, wanted: u32) -> u32
     reserving::reserve(handle.owned.owner_mut(), wanted)
 }
 
-/// Takes slots from the shared pool until the handle keeps `wanted`: `vbr_map_reserve` of vbr.h,
-/// which has the rest.
+/// `vbr_map_reserve` of vbr.h.
 #[unsafe(no_mangle)]
 pub extern "C" fn vbr_map_reserve(handle: &mut MapHandle, wanted: u32) -> u32
     ensures took { TellsReserve handle.old.owned.member handle.new.owned.member wanted result }
@@ -52,8 +48,8 @@ pub extern "C" fn vbr_map_reserve(handle: &mut MapHandle, wanted: u32) -> u32
 }
 
 /// Gives up the slots that the handle keeps to itself, and the one that it holds, for good: nobody
-/// has them until its set is closed or renewed. It makes no step. `bindings/shared.c` calls it, for a
-/// handle whose process ended in the middle of a call.
+/// has them until its set is closed or renewed. It makes no step. `bindings/src/shared.c` calls it,
+/// for a handle whose process ended in the middle of a call.
 #[unsafe(no_mangle)]
 pub extern "C" fn vbr_forsake(handle: &mut Handle)
     ensures forsaken { HasForsaken handle.old.owned.member handle.new.owned.member }

@@ -8,8 +8,7 @@ ghost use Rattle.vbr_handles.specs.Incarnations.{TellsGetNamed, TellsHasNamed, T
 use vbr_handles::coded_calls::{entry_records, records};
 use vbr_handles::{Handle, HandleCursor, Incarnation, MapHandle};
 
-/// Takes a slot, which the handle then holds: `vbr_hold_within` of vbr.h, which has its answers
-/// and budgets.
+/// `vbr_hold_within` of vbr.h.
 #[unsafe(no_mangle)]
 pub extern "C" fn vbr_hold_within(handle: &mut Handle, slot: &mut u32, budget: u32) -> i32
     ensures holds { TellsHold handle.old.owned.member handle.new.owned.member budget
@@ -20,8 +19,7 @@ pub extern "C" fn vbr_hold_within(handle: &mut Handle, slot: &mut u32, budget: u
     records::hold(handle.owned.owner_mut(), slot, budget)
 }
 
-/// Takes a slot, which the handle then holds: `vbr_map_hold_within` of vbr.h, which has its
-/// answers and budgets.
+/// `vbr_map_hold_within` of vbr.h.
 #[unsafe(no_mangle)]
 pub extern "C" fn vbr_map_hold_within(handle: &mut MapHandle, slot: &mut u32, budget: u32) -> i32
     ensures holds { TellsHold handle.old.owned.member handle.new.owned.member budget
@@ -32,7 +30,7 @@ pub extern "C" fn vbr_map_hold_within(handle: &mut MapHandle, slot: &mut u32, bu
     records::hold(handle.owned.owner_mut(), slot, budget)
 }
 
-/// Lets go of the slot that the handle holds: `vbr_let_go` of vbr.h, which has its answers.
+/// `vbr_let_go` of vbr.h.
 #[unsafe(no_mangle)]
 pub extern "C" fn vbr_let_go(handle: &mut Handle) -> i32
     ensures lets_go { TellsLetGo handle.old.owned.member handle.new.owned.member result }
@@ -42,7 +40,7 @@ pub extern "C" fn vbr_let_go(handle: &mut Handle) -> i32
     records::let_go(handle.owned.owner_mut())
 }
 
-/// Lets go of the slot that the handle holds: `vbr_map_let_go` of vbr.h, which has its answers.
+/// `vbr_map_let_go` of vbr.h.
 #[unsafe(no_mangle)]
 pub extern "C" fn vbr_map_let_go(handle: &mut MapHandle) -> i32
     ensures lets_go { TellsLetGo handle.old.owned.member handle.new.owned.member result }
@@ -52,8 +50,7 @@ pub extern "C" fn vbr_map_let_go(handle: &mut MapHandle) -> i32
     records::let_go(handle.owned.owner_mut())
 }
 
-/// Adds a key by the slot that the handle holds: `vbr_insert_held_within` of vbr.h, which has its
-/// answers and budgets.
+/// `vbr_insert_held_within` of vbr.h.
 #[unsafe(no_mangle)]
 pub extern "C" fn vbr_insert_held_within(handle: &mut Handle, key: u64, budget: u32) -> i32
     ensures called { TellsInsertHeld handle.old.owned.member handle.new.owned.member
@@ -64,8 +61,7 @@ pub extern "C" fn vbr_insert_held_within(handle: &mut Handle, key: u64, budget: 
     records::insert_held(handle.owned.owner_mut(), key, budget)
 }
 
-/// Adds a key with its value by the slot that the handle holds: `vbr_map_insert_held_within` of
-/// vbr.h, which has its answers and budgets.
+/// `vbr_map_insert_held_within` of vbr.h.
 #[unsafe(no_mangle)]
 pub extern "C" fn vbr_map_insert_held_within(
     handle: &mut MapHandle,
@@ -81,8 +77,7 @@ pub extern "C" fn vbr_map_insert_held_within(
     entry_records::insert_held(handle.owned.owner_mut(), key, value, budget)
 }
 
-/// Gives a key a value by the slot that the handle holds: `vbr_map_put_held_within` of vbr.h,
-/// which has its answers and budgets.
+/// `vbr_map_put_held_within` of vbr.h.
 #[unsafe(no_mangle)]
 pub extern "C" fn vbr_map_put_held_within(
     handle: &mut MapHandle,
@@ -99,8 +94,7 @@ pub extern "C" fn vbr_map_put_held_within(
     entry_records::put_held(handle.owned.owner_mut(), key, value, there, budget)
 }
 
-/// Puts the slot that the handle holds in the place of this entry's node:
-/// `vbr_map_replace_held_within` of vbr.h, which has its answers and budgets.
+/// `vbr_map_replace_held_within` of vbr.h.
 #[unsafe(no_mangle)]
 pub extern "C" fn vbr_map_replace_held_within(
     handle: &mut MapHandle,
@@ -117,8 +111,7 @@ pub extern "C" fn vbr_map_replace_held_within(
     entry_records::replace_held(handle.owned.owner_mut(), key, at, value, budget)
 }
 
-/// Looks a key up, and writes where it stands: `vbr_get_entry_within` of vbr.h, which has its answers
-/// and budgets.
+/// `vbr_get_entry_within` of vbr.h.
 #[unsafe(no_mangle)]
 pub extern "C" fn vbr_get_entry_within(
     handle: &mut Handle,
@@ -134,8 +127,7 @@ pub extern "C" fn vbr_get_entry_within(
     records::get_entry(handle.owned.owner_mut(), key, at, budget)
 }
 
-/// Writes the value of a key, and where the key stands: `vbr_map_get_entry_within` of vbr.h, which has
-/// its answers and budgets.
+/// `vbr_map_get_entry_within` of vbr.h.
 #[unsafe(no_mangle)]
 pub extern "C" fn vbr_map_get_entry_within(
     handle: &mut MapHandle,
@@ -151,8 +143,7 @@ pub extern "C" fn vbr_map_get_entry_within(
     entry_records::get_entry(handle.owned.owner_mut(), key, at, budget)
 }
 
-/// Takes a key out if its node is still the one of this entry: `vbr_remove_entry_within` of
-/// vbr.h, which has its answers and budgets.
+/// `vbr_remove_entry_within` of vbr.h.
 #[unsafe(no_mangle)]
 pub extern "C" fn vbr_remove_entry_within(
     handle: &mut Handle,
@@ -168,8 +159,7 @@ pub extern "C" fn vbr_remove_entry_within(
     records::remove_entry(handle.owned.owner_mut(), key, at, budget)
 }
 
-/// Takes a key out if its node is still the one of this entry: `vbr_map_remove_entry_within` of
-/// vbr.h, which has its answers and budgets.
+/// `vbr_map_remove_entry_within` of vbr.h.
 #[unsafe(no_mangle)]
 pub extern "C" fn vbr_map_remove_entry_within(
     handle: &mut MapHandle,
@@ -185,8 +175,7 @@ pub extern "C" fn vbr_map_remove_entry_within(
     entry_records::remove_entry(handle.owned.owner_mut(), key, at, budget)
 }
 
-/// Writes the next key of a walk, and where it stands: `vbr_next_at_within` of vbr.h, which has its
-/// answers and budgets.
+/// `vbr_next_at_within` of vbr.h.
 #[unsafe(no_mangle)]
 pub extern "C" fn vbr_next_at_within(
     handle: &mut Handle,
@@ -205,8 +194,7 @@ pub extern "C" fn vbr_next_at_within(
     records::next_at(handle.owned.owner_mut(), opening, cursor, key, at, budget)
 }
 
-/// Writes the next key of a walk with its value, and where it stands: `vbr_map_next_at_within` of
-/// vbr.h, which has its answers and budgets.
+/// `vbr_map_next_at_within` of vbr.h.
 #[unsafe(no_mangle)]
 pub extern "C" fn vbr_map_next_at_within(
     handle: &mut MapHandle,
@@ -225,8 +213,7 @@ pub extern "C" fn vbr_map_next_at_within(
     entry_records::next_at(handle.owned.owner_mut(), opening, cursor, key, at, budget)
 }
 
-/// Asks whether the slot of an entry still shows the birth of its node: `vbr_is_still` of vbr.h,
-/// which has its answers.
+/// `vbr_is_still` of vbr.h.
 #[unsafe(no_mangle)]
 pub extern "C" fn vbr_is_still(handle: &mut Handle, at: &Incarnation) -> i32
     ensures asked { TellsIfStill handle.old.owned.member handle.new.owned.member
@@ -237,8 +224,7 @@ pub extern "C" fn vbr_is_still(handle: &mut Handle, at: &Incarnation) -> i32
     records::is_still(handle.owned.owner_mut(), at)
 }
 
-/// Asks whether the slot of an entry still shows the birth of its node: `vbr_map_is_still` of
-/// vbr.h, which has its answers.
+/// `vbr_map_is_still` of vbr.h.
 #[unsafe(no_mangle)]
 pub extern "C" fn vbr_map_is_still(handle: &mut MapHandle, at: &Incarnation) -> i32
     ensures asked { TellsIfStill handle.old.owned.member handle.new.owned.member

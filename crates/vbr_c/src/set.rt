@@ -18,8 +18,7 @@ use vbr_handles::coded_calls::{batches, giving_slots_back, iterating};
 use vbr_handles::{Handle, HandleCursor, ReportNumbers, ShapeNumbers, accessors, coded_calls};
 use vbr_words::Keys;
 
-/// Opens a set of these keys, spread over the buckets by the seed: `vbr_open_seeded` of vbr.h,
-/// which has its answers.
+/// `vbr_open_seeded` of vbr.h.
 #[unsafe(no_mangle)]
 pub extern "C" fn vbr_open_seeded(
     alloc: Global,
@@ -44,8 +43,7 @@ pub extern "C" fn vbr_open_seeded(
     coded_calls::open_with::<Keys, u64, Handle>(alloc, handles, numbers, keys)
 }
 
-/// Opens a set of these keys for up to 65,536 handles, spread by the seed: `vbr_open_many_seeded`
-/// of vbr.h, which has its answers.
+/// `vbr_open_many_seeded` of vbr.h.
 #[unsafe(no_mangle)]
 pub extern "C" fn vbr_open_many_seeded(
     alloc: Global,
@@ -71,7 +69,7 @@ pub extern "C" fn vbr_open_many_seeded(
     coded_calls::open_many::<Keys, u64, Handle>(alloc, handles, numbers, keys)
 }
 
-/// Adds a key: `vbr_insert_within` of vbr.h, which has its answers and budgets.
+/// `vbr_insert_within` of vbr.h.
 #[unsafe(no_mangle)]
 pub extern "C" fn vbr_insert_within(handle: &mut Handle, key: u64, budget: u32) -> i32
     ensures called { TellsInsert handle.old.owned.member handle.new.owned.member
@@ -82,7 +80,7 @@ pub extern "C" fn vbr_insert_within(handle: &mut Handle, key: u64, budget: u32) 
     coded_calls::insert(handle.owned.owner_mut(), key, budget)
 }
 
-/// Takes a key out: `vbr_remove_within` of vbr.h, which has its answers and budgets.
+/// `vbr_remove_within` of vbr.h.
 #[unsafe(no_mangle)]
 pub extern "C" fn vbr_remove_within(handle: &mut Handle, key: u64, budget: u32) -> i32
     ensures called { TellsCall Remove handle.old.owned.member handle.new.owned.member
@@ -93,7 +91,7 @@ pub extern "C" fn vbr_remove_within(handle: &mut Handle, key: u64, budget: u32) 
     coded_calls::remove(handle.owned.owner_mut(), key, budget)
 }
 
-/// Looks a key up: `vbr_has_within` of vbr.h, which has its answers and budgets.
+/// `vbr_has_within` of vbr.h.
 #[unsafe(no_mangle)]
 pub extern "C" fn vbr_has_within(handle: &mut Handle, key: u64, budget: u32) -> i32
     ensures called { TellsCall Has handle.old.owned.member handle.new.owned.member
@@ -104,9 +102,7 @@ pub extern "C" fn vbr_has_within(handle: &mut Handle, key: u64, budget: u32) -> 
     coded_calls::has(handle.owned.owner_mut(), key, budget)
 }
 
-/// Looks keys up, in their order: `vbr_has_all_within` of vbr.h, which has its answers and
-/// budgets. C calls its form in `bindings/null_pointers.c`, which is given the number of items
-/// once.
+/// `vbr_has_all_within` of vbr.h.
 #[unsafe(no_mangle)]
 pub extern "C" fn vbr_has_all_within(
     handle: &mut Handle,
@@ -123,7 +119,7 @@ pub extern "C" fn vbr_has_all_within(
     batches::has_all(handle.owned.owner_mut(), keys, answers, budget);
 }
 
-/// Returns the last epoch that the handle read: `vbr_epoch` of vbr.h, which has the rest.
+/// `vbr_epoch` of vbr.h.
 #[unsafe(no_mangle)]
 pub extern "C" fn vbr_epoch(handle: &mut Handle) -> u64
     ensures same { handle.new.owned.member ≡ handle.old.owned.member }
@@ -134,8 +130,7 @@ pub extern "C" fn vbr_epoch(handle: &mut Handle) -> u64
     accessors::epoch(handle.owned.owner_mut())
 }
 
-/// Returns the last epoch that the set was opened with: `vbr_last_epoch` of vbr.h, which has the
-/// rest.
+/// `vbr_last_epoch` of vbr.h.
 #[unsafe(no_mangle)]
 pub extern "C" fn vbr_last_epoch(handle: &mut Handle) -> u64
     ensures same { handle.new.owned.member ≡ handle.old.owned.member }
@@ -146,8 +141,7 @@ pub extern "C" fn vbr_last_epoch(handle: &mut Handle) -> u64
     accessors::last_epoch(handle.owned.owner_mut())
 }
 
-/// Returns the number of slots that the set was opened with: `vbr_slots` of vbr.h, which has the
-/// rest.
+/// `vbr_slots` of vbr.h.
 #[unsafe(no_mangle)]
 pub extern "C" fn vbr_slots(handle: &mut Handle) -> u32
     ensures same { handle.new.owned.member ≡ handle.old.owned.member }
@@ -158,8 +152,7 @@ pub extern "C" fn vbr_slots(handle: &mut Handle) -> u32
     accessors::slots(handle.owned.owner_mut())
 }
 
-/// Returns the number of buckets that the set was opened with: `vbr_buckets` of vbr.h, which has
-/// the rest.
+/// `vbr_buckets` of vbr.h.
 #[unsafe(no_mangle)]
 pub extern "C" fn vbr_buckets(handle: &mut Handle) -> u32
     ensures same { handle.new.owned.member ≡ handle.old.owned.member }
@@ -170,8 +163,7 @@ pub extern "C" fn vbr_buckets(handle: &mut Handle) -> u32
     accessors::buckets(handle.owned.owner_mut())
 }
 
-/// Returns a seed that spreads keys over the buckets as the set does: `vbr_seed` of vbr.h, which
-/// has the rest.
+/// `vbr_seed` of vbr.h.
 #[unsafe(no_mangle)]
 pub extern "C" fn vbr_seed(handle: &mut Handle) -> u64
     ensures same { handle.new.owned.member ≡ handle.old.owned.member }
@@ -182,8 +174,7 @@ pub extern "C" fn vbr_seed(handle: &mut Handle) -> u64
     accessors::seed(handle.owned.owner_mut())
 }
 
-/// Returns how many keys the handle added, less those that it took out: `vbr_balance` of vbr.h,
-/// which has the rest.
+/// `vbr_balance` of vbr.h.
 #[unsafe(no_mangle)]
 pub extern "C" fn vbr_balance(handle: &mut Handle) -> i64
     ensures same { handle.new.owned.member ≡ handle.old.owned.member }
@@ -194,8 +185,7 @@ pub extern "C" fn vbr_balance(handle: &mut Handle) -> i64
     accessors::balance(handle.owned.owner_mut())
 }
 
-/// Closes a handle; the last one of its set gets the report: `vbr_close` of vbr.h, which has its
-/// answers.
+/// `vbr_close` of vbr.h.
 #[unsafe(no_mangle)]
 pub extern "C" fn vbr_close(
     alloc: Global,
@@ -211,8 +201,7 @@ pub extern "C" fn vbr_close(
     giving_slots_back::close::<Keys, u64>(alloc, handle.owned.owner_mut(), keys, report)
 }
 
-/// Closes a set by all its handles at once, with a report: `vbr_close_all` of vbr.h, which has
-/// its answers.
+/// `vbr_close_all` of vbr.h.
 #[unsafe(no_mangle)]
 pub extern "C" fn vbr_close_all(
     alloc: Global,
@@ -229,8 +218,7 @@ pub extern "C" fn vbr_close_all(
     coded_calls::close_all::<Keys, u64, Handle>(alloc, handles, keys, report)
 }
 
-/// Reports what is in a set by all its handles at once: `vbr_report_all` of vbr.h, which has its
-/// answers.
+/// `vbr_report_all` of vbr.h.
 #[unsafe(no_mangle)]
 pub extern "C" fn vbr_report_all(
     alloc: Global,
@@ -247,9 +235,7 @@ pub extern "C" fn vbr_report_all(
     coded_calls::report_all::<Keys, u64, Handle>(alloc, handles, keys, report)
 }
 
-/// Reports what is in a set, with the slot of each key: `vbr_report_slots` of vbr.h, which has
-/// its answers. C calls its form in `bindings/null_pointers.c`, which is given the number of items
-/// once.
+/// `vbr_report_slots` of vbr.h.
 #[unsafe(no_mangle)]
 pub extern "C" fn vbr_report_slots(
     alloc: Global,
@@ -268,8 +254,7 @@ pub extern "C" fn vbr_report_slots(
     coded_calls::report_all_with_slots::<Keys, u64, Handle>(alloc, handles, keys, slots, report)
 }
 
-/// Moves all handles of a set to a fresh one with the same keys, spread by the seed:
-/// `vbr_renew_all_seeded` of vbr.h, which has its answers.
+/// `vbr_renew_all_seeded` of vbr.h.
 #[unsafe(no_mangle)]
 pub extern "C" fn vbr_renew_all_seeded(
     alloc: Global,
@@ -293,7 +278,7 @@ pub extern "C" fn vbr_renew_all_seeded(
     coded_calls::renew_all::<Keys, u64, Handle>(alloc, handles, numbers)
 }
 
-/// Releases a handle, without a report: `vbr_drop` of vbr.h, which has the rest.
+/// `vbr_drop` of vbr.h.
 #[unsafe(no_mangle)]
 pub extern "C" fn vbr_drop(alloc: Global, handle: &mut Handle)
     ensures empty { handle.new.owned.member ≡ None }
@@ -303,7 +288,7 @@ pub extern "C" fn vbr_drop(alloc: Global, handle: &mut Handle)
     vbr_handles::abandon(alloc, handle.owned.owner_mut());
 }
 
-/// Releases these handles, without a report: `vbr_end_all` of vbr.h, which has the rest.
+/// `vbr_end_all` of vbr.h.
 #[unsafe(no_mangle)]
 pub extern "C" fn vbr_end_all(alloc: Global, handles: &mut [Handle])
     ensures empty { AreEmpty (λ (handle : Handle). handle.owned.member) handles.new }
@@ -313,7 +298,7 @@ pub extern "C" fn vbr_end_all(alloc: Global, handles: &mut [Handle])
     vbr_handles::abandon_all::<Keys, Handle>(alloc, handles);
 }
 
-/// Gives the next key of a walk: `vbr_next_within` of vbr.h, which has its answers and budgets.
+/// `vbr_next_within` of vbr.h.
 #[unsafe(no_mangle)]
 pub extern "C" fn vbr_next_within(
     handle: &mut Handle,

@@ -34,7 +34,7 @@ impl Worker {
     }
 }
 
-// Claims pages by a member of the set, and tells how many of them.
+// Claims pages by a member of the set, and returns how many of them.
 fn claim_each(member: &mut Member, pages: &[u64]) -> Result<u32, Refusal> {
     let mut claimed = 0u32;
     for page in pages {

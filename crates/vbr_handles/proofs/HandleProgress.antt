@@ -44,5 +44,6 @@ call_amply =
       inserted = λ m n key budget answer. goes_on _ _ budget m n answer;
       inserted_entry = λ m n key value budget answer. goes_on _ _ budget m n answer;
       put = λ m n key value budget answer. goes_on _ _ budget m n answer;
+      added = λ m n key delta budget answer. goes_on _ _ budget m n answer;
       got_or_inserted = λ m n key value budget answer. goes_on _ _ budget m n answer;
     }

@@ -2,7 +2,7 @@
 use Rattle.std.specs.Prelude.{◌≡◌, ℕ, ℤ, Option, None, Some, Result, Ok, Err}
 use Rattle.vbr_list.specs.calls.Told.{is_yes}
 use Rattle.vbr_at_table.specs.declared.refusal.Refusal.{Refusal}
-use Rattle.vbr_set.specs.calls.MapCalls.{ExchangesEntry, GetsEntry, GetsOrInsertsEntry, PutsEntry, RemovesEntry, RemovesIf, ReplacesEntry}
+use Rattle.vbr_set.specs.calls.MapCalls.{AddsEntry, ExchangesEntry, GetsEntry, GetsOrInsertsEntry, PutsEntry, RemovesEntry, RemovesIf, ReplacesEntry}
 use Rattle.vbr_set.specs.calls.Members.{MemberView as Member}
 use Rattle.vbr_handles.specs.AmpleBudgets.{budget_of}
 use Rattle.vbr_handles.specs.Codes.{call_code, empty_code, exchange_code}
@@ -60,9 +60,12 @@ StoresBy Calls m n old new code = GivesUnlessHeld Calls (λ answer. call_code (i
 abbrev pub TellsReplace : Option Member → Option Member → ℕ → ℕ → ℕ → ℕ → ℕ → ℤ → Type 0
 TellsReplace m n key value steps old new code = StoresBy (λ m n answer. ReplacesEntry m n key value (budget_of m steps) answer) m n old new code
 
--- the same for a put and for a get that inserts, after which a full handle tops its reserve up
+-- the same for a put, for a fetch-and-add and for a get that inserts, after which a full handle tops its reserve up
 abbrev pub TellsPut : Option Member → Option Member → ℕ → ℕ → ℕ → ℕ → ℕ → ℤ → Type 0
 TellsPut m n key value steps old new code = StoresBy (CallsBySteps (λ budget m n answer. PutsEntry m n key value budget answer) has_stored_new steps) m n old new code
+
+abbrev pub TellsFetchAdd : Option Member → Option Member → ℕ → ℕ → ℕ → ℕ → ℕ → ℤ → Type 0
+TellsFetchAdd m n key delta steps old new code = StoresBy (CallsBySteps (λ budget m n answer. AddsEntry m n key delta budget answer) has_stored_new steps) m n old new code
 
 abbrev pub TellsGetOrInsert : Option Member → Option Member → ℕ → ℕ → ℕ → ℕ → ℕ → ℤ → Type 0
 TellsGetOrInsert m n key value steps old new code = StoresBy (CallsBySteps (λ budget m n answer. GetsOrInsertsEntry m n key value budget answer) has_stored_new steps) m n old new code

@@ -7,7 +7,7 @@ use crate::owner::Owner;
 use vbr_set::member::Member;
 use vbr_words::Nodes;
 
-/// The last epoch that the pass of a handle read; 1 before its first call.
+/// The epoch of a handle: `vbr_epoch` of vbr.h.
 pub fn epoch<N: Nodes>(owner: &mut Owner<Member<N>>) -> u64
     ensures same { owner.new.member ≡ owner.old.member }
     ensures epoch { result ≡ epoch_of_handle owner.old.member }
@@ -18,7 +18,7 @@ pub fn epoch<N: Nodes>(owner: &mut Owner<Member<N>>) -> u64
     owner.member_mut().pass().epoch()
 }
 
-/// The last epoch of the set of a handle.
+/// The last epoch of the set of a handle: `vbr_last_epoch` of vbr.h.
 pub fn last_epoch<N: Nodes>(owner: &mut Owner<Member<N>>) -> u64
     ensures same { owner.new.member ≡ owner.old.member }
     ensures last { result ≡ last_epoch_of owner.old.member }
@@ -29,7 +29,7 @@ pub fn last_epoch<N: Nodes>(owner: &mut Owner<Member<N>>) -> u64
     owner.member_mut().shape().last_epoch()
 }
 
-/// How many slots the set of a handle has.
+/// How many slots the set of a handle has: `vbr_slots` of vbr.h.
 pub fn slots<N: Nodes>(owner: &mut Owner<Member<N>>) -> u32
     ensures same { owner.new.member ≡ owner.old.member }
     ensures slots { result ≡ slots_of owner.old.member }
@@ -40,7 +40,7 @@ pub fn slots<N: Nodes>(owner: &mut Owner<Member<N>>) -> u32
     owner.member_mut().shape().slots()
 }
 
-/// How many buckets the set of a handle has.
+/// How many buckets the set of a handle has: `vbr_buckets` of vbr.h.
 pub fn buckets<N: Nodes>(owner: &mut Owner<Member<N>>) -> u32
     ensures same { owner.new.member ≡ owner.old.member }
     ensures buckets { result ≡ buckets_of owner.old.member }
@@ -51,7 +51,7 @@ pub fn buckets<N: Nodes>(owner: &mut Owner<Member<N>>) -> u32
     owner.member_mut().shape().buckets()
 }
 
-/// A seed below 2^63 that spreads keys as the set of a handle spreads its keys.
+/// The seed of the set of a handle: `vbr_seed` of vbr.h.
 pub fn seed<N: Nodes>(owner: &mut Owner<Member<N>>) -> u64
     ensures same { owner.new.member ≡ owner.old.member }
     ensures seed { IsSeedOf owner.old.member result }
@@ -62,8 +62,7 @@ pub fn seed<N: Nodes>(owner: &mut Owner<Member<N>>) -> u64
     owner.member_mut().shape().seed().unwrap_or(0)
 }
 
-/// The number of keys that the calls through a handle have added, less the number that they took out,
-/// as in [`Member::balance`].
+/// The balance of a handle, as in [`Member::balance`]: `vbr_balance` of vbr.h.
 pub fn balance<N: Nodes>(owner: &mut Owner<Member<N>>) -> i64
     ensures same { owner.new.member ≡ owner.old.member }
     ensures balance { result ≡ balance_shown owner.old.member }

@@ -22,11 +22,10 @@ use vbr_words::Nodes;
 pub enum AskRefusal {
     /// One of the handles is empty.
     Empty,
-    /// For a report, there are fewer handles than were opened with their set; for a renewal, there are
-    /// more or fewer. Or there are none, or two of one set have the same pass.
+    /// As [`crate::CloseAllRefusal::Missing`], or for a renewal as [`crate::RenewAllRefusal::Missing`].
     Missing,
-    /// Two of the handles are of different sets in memory ([`Member::is_beside`]). It is a probe: a
-    /// contract says only that the others are tested before it.
+    /// Two of the handles are of different sets in memory ([`Member::is_beside`]): a probe, before
+    /// which the others are tested.
     Mixed,
     /// There is no memory to put the members side by side; for a renewal, there are also no more keys
     /// than slots.

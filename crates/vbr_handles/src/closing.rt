@@ -25,11 +25,8 @@ pub enum CloseRefusal<R = Report> {
     Room(R),
 }
 
-/// Closes a handle: gives its pass back and leaves it empty. While other handles of its set are full
-/// the answer is None. The last one gets what is in the set, if there is room for so many keys, and the
-/// set ends. Likewise for a map, whose report has entries.
-///
-/// Like [`Member::report_last`] it gives no slots back:
+/// Closes a handle, and gets the report if it is the last of its set or map, and there is room for so
+/// many keys: `vbr_close` of vbr.h. But like [`Member::report_last`] it gives no slots back:
 /// [`crate::coded_calls::giving_slots_back::close`] does so first.
 pub fn close<N: Kind, I: Listed<N>>(
     alloc: Global,
@@ -66,9 +63,7 @@ pub fn close<N: Kind, I: Listed<N>>(
     }
 }
 
-/// Releases a handle; it is empty afterwards. Its pass is given back, as by a close, so the last handle
-/// of its set that is closed still gets a report. If the last one is dropped, the set ends without a
-/// report. It needs no memory.
+/// Releases a handle, without a report: `vbr_drop` of vbr.h.
 pub fn abandon<N: Nodes>(alloc: Global, owner: &mut Owner<Member<N>>)
     ensures { owner.new.member ≡ None }
 {

@@ -34,9 +34,8 @@ pub enum CloseAllRefusal<R = Report> {
     Room(R),
 }
 
-/// Reports what is in a set by all its handles at once, in any order, if there is room for so many
-/// keys. All must be of one set. They stay as they are, and go on. Likewise for a map, whose report has
-/// entries.
+/// Reports what is in a set or a map by all its handles, if there is room for so many keys:
+/// `vbr_report_all` of vbr.h. All must be of one set.
 pub fn report_all<N: Kind, I: Listed<N>, H: HandleOf<N>>(
     alloc: Global,
     handles: &mut [H],
@@ -63,8 +62,8 @@ pub fn report_all<N: Kind, I: Listed<N>, H: HandleOf<N>>(
     Ok(report)
 }
 
-/// Reports what is in a set as [`report_all`] does, with the slot of each key, if there is room for so
-/// many keys: slot number i belongs to item number i of the report. Likewise for a map.
+/// Reports what is in a set or a map as [`report_all`] does, with the slot of each key:
+/// `vbr_report_slots` of vbr.h. Slot number i belongs to item number i of the report.
 pub fn report_all_with_slots<N: Kind, I: Listed<N>, H: HandleOf<N>>(
     alloc: Global,
     handles: &mut [H],
@@ -91,9 +90,8 @@ pub fn report_all_with_slots<N: Kind, I: Listed<N>, H: HandleOf<N>>(
     Ok(told)
 }
 
-/// Closes a set by all its handles at once, in any order, and leaves them empty. Returns what is in the
-/// set, if there is room for so many keys. All must be of one set. Likewise for a map, whose report has
-/// entries.
+/// Closes a set or a map by all its handles, if there is room for so many keys: `vbr_close_all` of
+/// vbr.h. All must be of one set.
 pub fn close_all<N: Kind, I: Listed<N>, H: HandleOf<N>>(
     alloc: Global,
     handles: &mut [H],
@@ -110,8 +108,7 @@ pub fn close_all<N: Kind, I: Listed<N>, H: HandleOf<N>>(
     Ok(report)
 }
 
-/// Releases handles, of one set or of several, and leaves them empty. Their passes are given back, as
-/// by [`crate::abandon`]; with the last handle of a set its memory is freed. It needs no memory.
+/// Releases handles, without a report: `vbr_end_all` of vbr.h.
 pub fn abandon_all<N: Nodes, H: HandleOf<N>>(alloc: Global, handles: &mut [H])
     ensures empty { AreEmpty H.member handles.new }
     ensures steps { map H.steps handles.new ≡ map H.steps handles.old }

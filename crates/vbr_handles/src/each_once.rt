@@ -27,7 +27,7 @@ pub(crate) fn has_twice<N: Nodes, H: HandleOf<N>>(handles: &mut [H]) -> bool
     false
 }
 
-// The greatest number of a pass of the handles, which are full; 0 where there is none.
+// The greatest number of a pass of the handles, which are full; 0 if there is none.
 fn greatest_number<N: Nodes, H: HandleOf<N>>(handles: &mut [H]) -> u32
     requires { AreFull H.member handles.old }
     ensures same { handles.new ≡ handles.old }

@@ -11,6 +11,7 @@ use vbr_set::member::Member;
 use vbr_words::Nodes;
 
 impl<M> Owner<M> {
+    /// Whether it owns no member.
     pub fn is_empty(&mut self) -> bool
         ensures { (result ≡ false → IsSome self.old.member)
             × (result ≡ true → self.old.member ≡ None) × (self.new ≡ self.old) }

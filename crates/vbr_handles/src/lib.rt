@@ -33,6 +33,7 @@ pub mod progress;
 pub mod renewing_all;
 pub mod report_numbers;
 pub mod reserves;
+pub mod tallies;
 
 pub use ample::AMPLE_STEPS;
 pub use asking_all::AskRefusal;

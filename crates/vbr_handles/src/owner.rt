@@ -23,6 +23,7 @@ impl<M> Model for Owner<M> {
 }
 
 impl<M> Owner<M> {
+    /// One that owns no member.
     pub fn empty(alloc: Global) -> Owner<M>
         ensures { result.member ≡ None }
     {
@@ -32,6 +33,7 @@ impl<M> Owner<M> {
         }
     }
 
+    /// The owner of a member.
     pub fn of(member: Box<M, Global>) -> Owner<M>
     where
         M: Drop,

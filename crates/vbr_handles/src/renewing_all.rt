@@ -35,9 +35,8 @@ pub enum RenewAllRefusal {
     Memory,
 }
 
-/// Moves all handles of a set, in any order, to a fresh one of these numbers with the keys that were in
-/// it, each with the fresh pass of its place. All must be of one set. Likewise for a map, whose keys
-/// keep their values.
+/// Moves all handles of a set or a map to a fresh one of these numbers, each with the fresh pass of its
+/// place: `vbr_renew_all_seeded` of vbr.h. All must be of one set.
 pub fn renew_all<N: Kind, I: Listed<N>, H: HandleOf<N>>(
     alloc: Global,
     handles: &mut [H],

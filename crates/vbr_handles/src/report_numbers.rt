@@ -1,17 +1,13 @@
 //! The numbers of a report, as they cross to C.
 ghost use Rattle.std.specs.Prelude.{◌≡◌};
 
-/// What a closed set or map held.
+/// What a closed set or map held: the report of vbr.h, which says what each number is.
 #[repr(C)]
 #[derive(Clone, Copy)]
 pub struct ReportNumbers {
-    /// The epoch.
     pub epoch: u64,
-    /// How many keys were in it.
     pub live: u32,
-    /// How many removed nodes were still in a list.
     pub marked: u32,
-    /// How many slots had no node in a list.
     pub free: u32,
 }
 

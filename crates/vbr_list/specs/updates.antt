@@ -1,6 +1,7 @@
 -- Calls that change the list: inserts, removes and stores.
 pub mod Wanted
 pub mod Outcomes
+pub mod NewValues
 pub mod Expecting
 pub mod Inserting
 pub mod Preparing

@@ -1,21 +1,15 @@
 //! Entries that outlast the call that found them.
-ghost use Rattle.std.specs.Prelude.{◌≡◌, ◌≤◌, ◌<◌, ◌+◌, false, true, None, IfOk, IfErr, Some};
+ghost use Rattle.std.specs.Prelude.{◌≡◌, ◌<◌, true, false, None, Some};
 ghost use Rattle.vbr_at_table.specs.reads.Held.{IsSlot};
 ghost use Rattle.vbr_at_table.specs.reads.Reading.{ReadsIn};
-ghost use Rattle.vbr_list.specs.named_entries.Entries.{EntryAnswers, FindsNamedEntry, GetsNamedEntry, TellsStill, entry_of, steps_to_ask, HasNamedEntry, without_value};
-ghost use Rattle.vbr_list.specs.look_ups.LookUpPieces.{IsSightFor, LookUpRollsBack, IsAskedOf, steps_to_answer};
+ghost use Rattle.vbr_list.specs.named_entries.Entries.{GetsNamedEntry, TellsStill, entry_of, steps_to_ask, HasNamedEntry, value_given, without_value};
 ghost use Rattle.vbr_list.specs.named_entries.OtherEntries.{IsNodeOf};
-ghost use Rattle.vbr_list.specs.calls.Pieces.{HasRoomForPiece, Settles, trace_in};
-ghost use Rattle.vbr_slots.specs.steps.Calls.{OnlyLoads, Took};
 ghost use Rattle.vbr_slots.specs.views.Views.{IsOf};
-ghost use Rattle.vbr_list.specs.calls.Words.{wide_sight};
 
-use crate::call::{PendingCall, begin};
 use crate::found::Found;
-use crate::looking::Sight;
-use vbr_at_table::budget::affords;
-use vbr_at_table::{Held, Refusal, Rollback, birth_shown};
-use vbr_slots::{AtTable, Pass, Slots, Stepper};
+use crate::looking_up::look_up;
+use vbr_at_table::{Held, Refusal, birth_shown};
+use vbr_slots::{AtTable, Pass, Slots};
 use vbr_words::{At, Entries, Nodes};
 
 /// An entry as a call found it: the slot of its node, the birth of that node, and the value stored
@@ -58,7 +52,7 @@ pub(crate) fn named(node: &Held, value: u64) -> Entry
 
 // The entry of a node that is held, if it is a node with a value.
 #[inline(always)]
-fn entry_of(node: &Held, value: Option<u64>) -> Option<Entry>
+pub(crate) fn entry_of(node: &Held, value: Option<u64>) -> Option<Entry>
     ensures { result ≡ entry_of node.now value }
 {
     match (node.at, value) {
@@ -68,6 +62,18 @@ fn entry_of(node: &Held, value: Option<u64>) -> Option<Entry>
             value,
         }),
         _ => None,
+    }
+}
+
+// The value of the entry that an answer gives.
+#[inline(always)]
+pub(crate) fn value_given(answer: Result<Option<Entry>, Refusal>) -> Result<Option<u64>, Refusal>
+    ensures { result ≡ value_given answer }
+{
+    match answer {
+        Ok(Some(entry)) => Ok(Some(entry.value)),
+        Ok(None) => Ok(None),
+        Err(refusal) => Err(refusal),
     }
 }
 
@@ -83,35 +89,8 @@ pub(crate) fn is_node_of(found: &Found, entry: &Entry) -> bool
     }
 }
 
-impl<N: Nodes> PendingCall<'_, N> {
-    // Answers a look-up, or a get, by what it came to, and returns the entry.
-    #[inline(always)]
-    fn settle_entry(&mut self, gives: bool, sight: Sight) -> Result<Option<Entry>, Rollback>
-        requires sight { IsSightFor self.old (wide_sight self.old sight) }
-        requires asked { IsAskedOf self.old gives }
-        requires room { HasRoomForPiece self.old }
-        ensures settles { Settles self.old self.new }
-        ensures few { self.new.used ≤ self.old.used + steps_to_answer gives }
-        ensures only_loads { OnlyLoads (trace_in self.old) (trace_in self.new) }
-        ensures answers { IfOk result (EntryAnswers gives self.old self.new) }
-        ensures rolls { IfErr result (LookUpRollsBack self.old self.new
-            (wide_sight self.old sight)) }
-    {
-        match sight {
-            Sight::Present(node) => match self.give_node(gives, &node) {
-                Ok(value) => Ok(entry_of(&node, value)),
-                Err(rollback) => Err(rollback),
-            },
-            Sight::Absent(pred) => match self.give_none(gives, &pred) {
-                Ok(_) => Ok(None),
-                Err(rollback) => Err(rollback),
-            },
-        }
-    }
-}
-
 /// Like [`crate::get`], but returns the entry of a key, if the key is there, with its value. Its node
-/// was in the map at the step that answers the call.
+/// was in the map, with this value, at the step that answers the call.
 ///
 /// It makes the same steps as a get, all of them loads, with the same refusal and budgets.
 pub fn get_entry(
@@ -131,7 +110,7 @@ pub fn get_entry(
             requires own { IsOf stepper.old.trace slots.now }
             requires empty_hand { stepper.old.hand ≡ None }
             requires values { slots.now.start.shape.values ≡ true }
-        { get_entry_by(slots, stepper, key, true, budget) },
+        { look_up(slots, stepper, key, true, budget) },
     )
 }
 
@@ -154,38 +133,8 @@ pub fn has_entry(
         |stepper|
             requires own { IsOf stepper.old.trace slots.now }
             requires empty_hand { stepper.old.hand ≡ None }
-        { get_entry_by(slots, stepper, key, false, budget) },
+        { look_up(slots, stepper, key, false, budget) },
     )
-}
-
-// The look-up or the get of a key, which returns its entry, and the number of steps made.
-#[inline(always)]
-fn get_entry_by<N: Nodes>(
-    slots: &Slots<N>,
-    stepper: &mut Stepper,
-    key: u64,
-    gives: bool,
-    budget: u32,
-) -> (Result<Option<Entry>, Refusal>, u32)
-    requires own { IsOf stepper.old.trace slots.now }
-    requires empty_hand { stepper.old.hand ≡ None }
-    requires asked { gives ≡ true → slots.now.start.shape.values ≡ true }
-    ensures took { Took stepper.old.trace stepper.new.trace result.1 }
-    ensures finds { FindsNamedEntry gives stepper.old stepper.new key budget result.0 }
-{
-    let mut call = begin!(slots, stepper, key, budget, 0);
-    call.at.law();
-    loop {
-        let Some(sight) = call.search_past() else {
-            return (Err(Refusal::OutOfSteps { used: call.used }), call.used);
-        };
-        if !affords(call.budget, call.used) {
-            return (Err(Refusal::OutOfSteps { used: call.used }), call.used);
-        }
-        if let Ok(answer) = call.settle_entry(gives, sight) {
-            return (Ok(answer), call.used);
-        }
-    }
 }
 
 /// Whether the slot of an entry still shows its birth, in one step, a load. If it does, the slot was

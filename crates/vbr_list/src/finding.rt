@@ -29,7 +29,7 @@ impl<N: Nodes> PendingCall<'_, N> {
         loop {
             match self.traverse() {
                 Ok(found) => return Some(found),
-                Err(Stop::Again) => {}
+                Err(Stop::Again) => self.at.count_restart(),
                 Err(Stop::Tired) => return None,
             }
         }

@@ -64,6 +64,7 @@ pub(crate) fn help<N: Nodes>(
     match outcome {
         Err(rollback) => (Err(rollback), used),
         Ok(place) => {
+            at.count_help();
             let now = at.epoch();
             if now != place.epoch {
                 return (Err(Rollback::EpochMoved { now }), used);

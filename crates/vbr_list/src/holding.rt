@@ -13,6 +13,7 @@ ghost use Rattle.vbr_slots.specs.views.Views.{IsOf};
 
 use crate::call::{PendingCall, begin};
 use crate::entries::{Entry, is_node_of};
+use crate::new_value::NewValue;
 use crate::storing::Unstored;
 use crate::wanted::Wanted;
 use vbr_at_table::{Hand, Refusal, take};
@@ -259,7 +260,7 @@ fn put_held_by<N: Nodes>(
 {
     let mut call = begin!(slots, stepper, key, budget, 0);
     call.at.law();
-    match call.store_held(value, Wanted::Anything, true, hand) {
+    match call.store_held(NewValue::Exactly(value), Wanted::Anything, true, hand) {
         Ok(there) => (Ok(there), call.used),
         Err((back, why)) => match why {
             Unstored::OutOfSteps { used } => (Err((back, used)), call.used),
@@ -307,7 +308,7 @@ fn insert_held_by<N: Nodes>(
 {
     let mut call = begin!(slots, stepper, key, budget, 0);
     call.at.law();
-    match call.store_held(value, Wanted::Absent, false, hand) {
+    match call.store_held(NewValue::Exactly(value), Wanted::Absent, false, hand) {
         Ok(_) => (Ok(()), call.used),
         Err((back, why)) => (Err((back, why.of_insert())), call.used),
     }

@@ -13,25 +13,10 @@ use vbr_at_table::Refusal;
 use vbr_slots::{AtTable, Pass, Slots};
 use vbr_words::{Entries, Keys, Nodes};
 
-/// The next key at a cursor, in at most `budget` steps; none after the last one. The cursor is then
-/// right after that key, or before the next bucket if its node was the last of its list. Buckets come
-/// in their order, and the keys of a bucket ascend.
-///
-/// The key was there at a moment of the call, and each other key that the cursor passed was absent at a
-/// moment of the call. So call after call, whatever other threads do meanwhile, and whatever other
-/// calls the pass makes in between, each key that is there all the while is given exactly once, and no
-/// key twice.
-///
-/// It makes no call, and all its steps are loads, three for each bucket that it enters.
-///
-/// Its only refusal is OutOfSteps. The cursor keeps how far it has come: the budget was used up by the
-/// buckets that it has gone over and the one where it stands. While the other passes stand still, a
-/// budget of 5n + 11, with n nodes in the cursor's bucket, is enough to give a key or to come at least
-/// to the next bucket. Giving a key takes at most 5n + 3 steps for each bucket that it went through, or
-/// 5n + 5 with values. If others disturb the pass m times at a bucket during the call, a budget of
-/// (m + 1)(5(n + m) + 11) is enough there, and it takes at most (m + 1)(5(n + m) + 3) for the bucket,
-/// or (m + 1)(5(n + m) + 5) with values. An advance of the epoch sends it back in only one of its
-/// buckets.
+/// The next key at a cursor, in at most `budget` steps; none after the last one. It makes no call, and
+/// all its steps are loads, three for each bucket that it enters. Other calls of the pass may come
+/// between two of a walk. An advance of the epoch sends it back in only one of its buckets. The rest is
+/// as `AtSet::next_key` of `vbr_set` says.
 pub fn next_key_at<N: Nodes>(
     slots: &Slots<N>,
     pass: &mut Pass,

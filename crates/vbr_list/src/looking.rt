@@ -90,7 +90,7 @@ impl<N: Nodes> PendingCall<'_, N> {
         loop {
             match self.traverse_past() {
                 Ok(sight) => return Some(sight),
-                Err(Stop::Again) => {}
+                Err(Stop::Again) => self.at.count_restart(),
                 Err(Stop::Tired) => return None,
             }
         }

@@ -3,16 +3,17 @@ ghost use Rattle.std.specs.Prelude.{◌≡◌, ◌+◌, ◌≤◌, true, false, 
 ghost use Rattle.vbr_machine.specs.declared.history.Op.TheVariants.{Has};
 ghost use Rattle.vbr_slots.specs.steps.Calls.{OnlyLoads, Took};
 ghost use Rattle.vbr_slots.specs.views.Views.{IsOf};
-ghost use Rattle.vbr_list.specs.calls.CallBounds.{Calls, CallsAs, CallsGet, BoundsOfLookUp};
-ghost use Rattle.vbr_list.specs.calls.Budgets.{steps_where};
+ghost use Rattle.vbr_list.specs.calls.CallBounds.{Calls, CallsGet};
 ghost use Rattle.vbr_list.specs.declared.looking.Sight.TheVariants.{Present, Absent};
 ghost use Rattle.vbr_list.specs.look_ups.LookUpPieces.{GivesNone, GivesValueOf};
-ghost use Rattle.vbr_list.specs.look_ups.LookUpPieces.{IsAskedOf, IsSightFor, LookUpAnswers, LookUpRollsBack, steps_to_answer};
+ghost use Rattle.vbr_list.specs.look_ups.LookUpPieces.{IsAskedOf, IsSightFor, LookUpRollsBack, steps_to_answer};
 ghost use Rattle.vbr_list.specs.calls.Pieces.{HasRoomForPiece, Settles, trace_in};
-ghost use Rattle.vbr_list.specs.calls.Told.{given_in, look_up_op};
+ghost use Rattle.vbr_list.specs.calls.Told.{look_up_op};
 ghost use Rattle.vbr_list.specs.calls.Words.{wide_held, wide_sight};
+ghost use Rattle.vbr_list.specs.named_entries.Entries.{EntryAnswers, FindsNamedEntry};
 
 use crate::call::{PendingCall, begin};
+use crate::entries::{Entry, entry_of, value_given};
 use crate::looking::Sight;
 use crate::valuing::{is_yes, steps_to_value_of, value_if_any};
 use vbr_at_table::budget::affords;
@@ -113,22 +114,28 @@ impl<N: Nodes> PendingCall<'_, N> {
         }
     }
 
-    // Answers a look-up, or a get, by what it came to.
+    // Answers a look-up, or a get, by what it came to, and returns the entry.
     #[inline(always)]
-    fn settle_look_up(&mut self, gives: bool, sight: Sight) -> Result<Option<u64>, Rollback>
+    fn settle_look_up(&mut self, gives: bool, sight: Sight) -> Result<Option<Entry>, Rollback>
         requires sight { IsSightFor self.old (wide_sight self.old sight) }
         requires asked { IsAskedOf self.old gives }
         requires room { HasRoomForPiece self.old }
         ensures settles { Settles self.old self.new }
         ensures few { self.new.used ≤ self.old.used + steps_to_answer gives }
         ensures only_loads { OnlyLoads (trace_in self.old) (trace_in self.new) }
-        ensures answers { IfOk result (LookUpAnswers gives self.old self.new) }
+        ensures answers { IfOk result (EntryAnswers gives self.old self.new) }
         ensures rolls { IfErr result (LookUpRollsBack self.old self.new
             (wide_sight self.old sight)) }
     {
         match sight {
-            Sight::Present(node) => self.give_node(gives, &node),
-            Sight::Absent(pred) => self.give_none(gives, &pred),
+            Sight::Present(node) => match self.give_node(gives, &node) {
+                Ok(value) => Ok(entry_of(&node, value)),
+                Err(rollback) => Err(rollback),
+            },
+            Sight::Absent(pred) => match self.give_none(gives, &pred) {
+                Ok(_) => Ok(None),
+                Err(rollback) => Err(rollback),
+            },
         }
     }
 }
@@ -141,16 +148,10 @@ fn look_up_op(gives: bool) -> Op
     if gives { Op::Get } else { Op::Has }
 }
 
-/// Returns whether a key is in the set, in at most `budget` steps. The call takes effect at one load,
-/// which finds the link of the node, or of the last unmarked place before the key, as it was read. Each
-/// slot that the pass could take is then in its own pool.
-///
-/// All its steps are loads, so it writes nothing that another thread can see. It makes three steps to
-/// start, three for a marked node, which it passes by its link alone and leaves in its list, five for
-/// another, and one for the answer.
-///
-/// Its only refusal is OutOfSteps. While the other passes stand still, a budget of 5n + 11 is enough,
-/// with n nodes in the key's bucket, and an answered call took at most 5n + 4 steps.
+/// Returns whether a key is in the set, in at most `budget` steps. Each slot that the pass could take
+/// is then in its own pool. It makes three steps to start, three for a marked node, which it passes by
+/// its link alone, five for another, and one for the answer. The rest is as `AtSet::has` of `vbr_set`
+/// says.
 pub fn has<N: Nodes>(
     slots: &Slots<N>,
     pass: &mut Pass,
@@ -167,15 +168,12 @@ pub fn has<N: Nodes>(
             requires empty_hand { stepper.old.hand ≡ None }
         { look_up(slots, stepper, key, false, budget) },
     );
-    is_yes(answer)
+    is_yes(value_given(answer))
 }
 
 /// Like [`has`], at a table whose nodes have values: returns the value that is stored with a key, if
-/// the key is there, in two steps more. The call takes effect at the same load, after the value was
-/// read in an epoch that stood.
-///
-/// Its only refusal is OutOfSteps. While the other passes stand still, a budget of 5n + 11 is enough,
-/// with n nodes in the key's bucket, and an answered call took at most 5n + 6 steps.
+/// the key is there. The call takes effect at the same load, after the value was read in an epoch that
+/// stood. The rest is as `AtSet::get` of `vbr_set` says.
 pub fn get(
     slots: &Slots<Entries>,
     pass: &mut Pass,
@@ -188,32 +186,30 @@ pub fn get(
 {
     pass.law();
     slots.kind();
-    pass.during(
+    let answer = pass.during(
         |stepper|
             requires own { IsOf stepper.old.trace slots.now }
             requires empty_hand { stepper.old.hand ≡ None }
             requires values { slots.now.start.shape.values ≡ true }
         { look_up(slots, stepper, key, true, budget) },
-    )
+    );
+    value_given(answer)
 }
 
-// The look-up of a key, which returns its value if asked to, and the number of steps made.
+// The look-up or the get of a key, which returns its entry, and the number of steps made.
 #[inline(always)]
-fn look_up<N: Nodes>(
+pub(crate) fn look_up<N: Nodes>(
     slots: &Slots<N>,
     stepper: &mut Stepper,
     key: u64,
     gives: bool,
     budget: u32,
-) -> (Result<Option<u64>, Refusal>, u32)
+) -> (Result<Option<Entry>, Refusal>, u32)
     requires own { IsOf stepper.old.trace slots.now }
     requires empty_hand { stepper.old.hand ≡ None }
     requires asked { gives ≡ true → slots.now.start.shape.values ≡ true }
     ensures took { Took stepper.old.trace stepper.new.trace result.1 }
-    ensures calls { CallsAs (given_in stepper.old.trace (look_up_op gives) key)
-        (BoundsOfLookUp (given_in stepper.old.trace (look_up_op gives) key)
-        (steps_where gives) stepper.old stepper.new key budget)
-        stepper.old stepper.new budget result.0 }
+    ensures finds { FindsNamedEntry gives stepper.old stepper.new key budget result.0 }
 {
     let mut call = begin!(slots, stepper, key, budget, 0);
     call.at.law();

@@ -14,18 +14,12 @@ use vbr_words::{Entries, Nodes};
 
 /// The least key of a bucket that is no less than a number, in at most `budget` steps. It was there at
 /// a moment of the call, and each key of the bucket between the two was absent at a moment of the call.
-/// If there is none, each key of the bucket from the number on was absent at a moment of the call. So
-/// one call after another, each from behind the last key, gives each key of the bucket that is there
-/// all the while exactly once.
+/// If there is none, each key of the bucket from the number on was absent at a moment of the call.
 ///
 /// It makes no call, and all its steps are loads, so it writes nothing that another thread can see. It
 /// makes three steps to start, three for a marked node, which it leaves in its list, five for another,
-/// and two more for the last one if nodes have values. It confirms nothing.
-///
-/// Its only refusal is OutOfSteps. While the other passes stand still, a budget of 5n + 11 is enough,
-/// with n nodes in the bucket, and what it returns took at most 5n + 3 steps, or 5n + 5 with values. A
-/// call that others disturb m times there makes at most m traversals more, each among at most n + m
-/// nodes.
+/// and two more for the last one if nodes have values. It confirms nothing. Its refusal, its budgets
+/// and its costs are those of `AtSet::next_key` of `vbr_set` in one bucket.
 pub fn next_key<N: Nodes>(
     slots: &Slots<N>,
     pass: &mut Pass,

@@ -164,17 +164,12 @@ fn takes_out(expected: Option<u64>, value: u64) -> bool
     }
 }
 
-/// Takes a key out of the set, in at most `budget` steps, and returns whether it was there. The call
-/// takes effect at one step: the mark of the node, or a load that finds the link of the last place
-/// before the key as it was read. Nothing rolls the answer back. The node that it marked has left its
-/// list at the end: if another pass interferes, the call goes on as [`crate::find`] does until the node
-/// is out, unless less than a piece is left of the budget. What the call unlinked is retired when it
-/// ends, answered or not, into the own pool while that has room. Each slot that the pass could take is
-/// then in its own pool.
-///
-/// Its only refusal is OutOfSteps. While the other passes stand still, a budget of 9n + 11 is enough,
-/// with n nodes in the key's bucket, and an answered call took at most 9n + 10 steps. With 9n + 12, a
-/// yes leaves fewer nodes there.
+/// Takes a key out of the set, in at most `budget` steps, and returns whether it was there. Nothing
+/// rolls the answer back. The node that it marked has left its list at the end: if another pass
+/// interferes, the call goes on as [`crate::find`] does until the node is out, unless less than a piece
+/// is left of the budget. What the call unlinked is retired when it ends, answered or not, into the own
+/// pool while that has room. Each slot that the pass could take is then in its own pool. The rest is as
+/// `AtSet::remove` of `vbr_set` says.
 pub fn remove(slots: &Slots, pass: &mut Pass, key: u64, budget: u32) -> Result<bool, Refusal>
     requires own { IsOf pass.old.trace slots.now }
     requires empty_hand { pass.old.hand ≡ None }
@@ -191,10 +186,9 @@ pub fn remove(slots: &Slots, pass: &mut Pass, key: u64, budget: u32) -> Result<b
 }
 
 /// Like [`remove`], at a table whose nodes have values: returns the value that was stored with the key,
-/// if the key was there. It is read before the node is marked, in two steps more than a remove makes.
-/// It was fixed when the node was published, so it is the value of the entry which the mark removes.
-/// Refusal and budget are as for [`remove`]; an answered call took at most 9n + 12 steps, and a yes
-/// with 9n + 14 leaves fewer nodes in the key's bucket.
+/// if the key was there. It is read before the node is marked. It was fixed when the node was
+/// published, so it is the value of the entry which the mark removes. The rest is as the remove of a
+/// map by `AtSet` of `vbr_set`.
 pub fn remove_entry(
     slots: &Slots<Entries>,
     pass: &mut Pass,
@@ -216,10 +210,9 @@ pub fn remove_entry(
     there_in(answer)
 }
 
-/// Like [`remove_entry`], but takes the key out only if it has the expected value. Returns whether it did,
-/// and what was there. If that is another value or none, the call is a get of it: it takes effect at one
-/// load, after the value was read in an epoch that stood. Refusal, budget and steps of an answer are as
-/// for [`remove_entry`].
+/// Like [`remove_entry`], but takes the key out only if it has the expected value, as
+/// `AtSet::remove_if` of `vbr_set` says. If another value or none is there, the call is a get of it: it
+/// takes effect at one load, after the value was read in an epoch that stood.
 pub fn remove_if(
     slots: &Slots<Entries>,
     pass: &mut Pass,
@@ -246,8 +239,6 @@ pub fn remove_if(
 /// Like [`remove`], but takes the key out only if its node has this entry's slot and birth, and returns
 /// whether it did. Otherwise it makes no call: at some moment meanwhile the key was absent, or its node
 /// was another. The entry's value isn't looked at.
-///
-/// Refusal, budgets and steps of an answer are as for [`remove`].
 pub fn remove_key_exactly(
     slots: &Slots,
     pass: &mut Pass,
@@ -271,8 +262,6 @@ pub fn remove_key_exactly(
 
 /// Like [`remove_key_exactly`], at a table whose nodes have values: returns the value that was stored
 /// with the key, or none.
-///
-/// Refusal, budgets and steps of an answer are as for [`remove_entry`].
 pub fn remove_exactly(
     slots: &Slots<Entries>,
     pass: &mut Pass,

@@ -101,7 +101,7 @@ pub(crate) fn seek_in<N: Nodes>(
     loop {
         match traverse_in(at, bucket, from, budget, &mut since) {
             Ok(next) => return (Some(next), since),
-            Err(Stop::Again) => {}
+            Err(Stop::Again) => at.count_restart(),
             Err(Stop::Tired) => return (None, since),
         }
     }

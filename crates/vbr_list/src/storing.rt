@@ -6,6 +6,7 @@ ghost use Rattle.vbr_slots.specs.views.Views.{IsOf};
 ghost use Rattle.vbr_at_table.specs.hands.KeptSlots.{TakesNoSlot};
 ghost use Rattle.vbr_list.specs.updates.HeldStores.{KeepsUnstored, StoresWanted, answer_unstored};
 ghost use Rattle.vbr_list.specs.updates.Inserting.{CountsWithin, HasHandAndRoom};
+ghost use Rattle.vbr_list.specs.updates.NewValues.{sum_in, value_after, value_by};
 ghost use Rattle.vbr_list.specs.calls.Pieces.{IsSameCall, pass_in, trace_in};
 ghost use Rattle.vbr_list.specs.updates.Preparing.{GivesOrInserts};
 ghost use Rattle.vbr_list.specs.updates.Replacing.{HasUnused};
@@ -20,6 +21,7 @@ ghost use Rattle.vbr_list.specs.calls.Words.{wide_found};
 
 use crate::call::{PendingCall, begin};
 use crate::found::Found;
+use crate::new_value::NewValue;
 use crate::outcome::{Outcome, there_in};
 use crate::preparing::{Prepared, Unmet};
 use crate::valuing::steps_to_update;
@@ -81,14 +83,14 @@ impl<N: Nodes> PendingCall<'_, N> {
         }
     }
 
-    /// Stores the value by the slot in hand, if the key's state is then the wanted one, and returns
-    /// what was there. Otherwise, or if the budget has no room for one more piece, the hand comes back.
-    /// An insert is the store that wants its key absent and gives nothing: if the key is there, it is
-    /// answered no.
+    /// Stores a value by the slot in hand, if the key's state is then the wanted one, and returns what
+    /// was there, from which the value follows. Otherwise, or if the budget has no room for one more
+    /// piece, the hand comes back. An insert is the store that wants its key absent and gives nothing:
+    /// if the key is there, it is answered no.
     #[inline(always)]
     pub(crate) fn store_held(
         &mut self,
-        value: u64,
+        value: NewValue,
         wanted: Wanted,
         gives: bool,
         mut hand: Hand,
@@ -100,8 +102,9 @@ impl<N: Nodes> PendingCall<'_, N> {
             self.old.used self.new.used self.old.budget }
         ensures takes_no_slot { TakesNoSlot (pass_in self.old) (pass_in self.new) }
         ensures had { HasUnused (pass_in self.old) (pass_in self.new) result }
-        ensures stored { IfOk result (StoresWanted gives value wanted self.old self.new hand) }
-        ensures kept { IfErr result (KeepsUnstored gives value wanted self.old self.new hand) }
+        ensures stored { IfOk result (λ there.
+            StoresWanted gives (value_after value there) wanted self.old self.new hand there) }
+        ensures kept { IfErr result (KeepsUnstored gives wanted self.old self.new hand) }
     {
         self.at.law();
         loop {
@@ -116,12 +119,13 @@ impl<N: Nodes> PendingCall<'_, N> {
                     Unmet::Changed => continue,
                 },
             };
+            let stored = value.after(there);
             match there {
-                None => match self.link_found(&found, value, hand) {
+                None => match self.link_found(&found, stored, hand) {
                     Ok(()) => return Ok(None),
                     Err(back) => hand = back,
                 },
-                Some(_) => match self.replace_and_unlink(&found, value, hand) {
+                Some(_) => match self.replace_and_unlink(&found, stored, hand) {
                     Ok(()) => return Ok(there),
                     Err(back) => hand = back,
                 },
@@ -131,23 +135,11 @@ impl<N: Nodes> PendingCall<'_, N> {
 }
 
 /// Conditional store: gives a key a value if the key's state matches `wanted`, in at most `budget`
-/// steps. Returns what was there: the value that the key had, or none if it was absent. So the value is
-/// stored exactly when [`Wanted::wants`] what is returned, in one step. That is an insert in the
-/// history or, if the key was there, two calls next to each other: it is removed with the value that it
-/// had, and inserted with the new one, and no call of another pass finds it absent between. If the
-/// state doesn't match, nothing changes, and the call is answered as a get. A store takes a slot once
-/// it has found the key in the wanted state, or at once if anything is wanted, and traverses anew with
-/// it. A slot that is left over goes back to the own pool. A node that it replaced has left its list at
-/// the end: if another pass interferes, the call goes on as [`crate::find`] does until the node is out,
-/// unless less than a piece is left of the budget.
-///
-/// Its refusals are OutOfSteps and, if the key's state matched, NoSlot and EpochSpent: then no call was
-/// made, and what is there stays. Budgets are as for [`crate::insert`], with two steps more for
-/// [`Wanted::Value`]: while the other passes stand still, 18n + 82, or 18n + w + 20 if that is more,
-/// with n nodes in the key's bucket and w = slots / 64, rounded up; and 18n + 82 with a slot in the
-/// pass's own pool, unless the epoch is spent. An answered call took at most six steps more, and with
-/// eight more a node that it replaced has left its list. It advances the epoch at most once, and only
-/// if no slot that it could take is stamped below the epoch that it read.
+/// steps, and returns what was there. A store takes a slot once it has found the key in the wanted
+/// state, or at once if anything is wanted, and traverses anew with it. A slot that is left over goes
+/// back to the own pool. A node that it replaced has left its list at the end: if another pass
+/// interferes, the call goes on as [`crate::find`] does until the node is out, unless less than a piece
+/// is left of the budget. The rest is as `AtSet::store` of `vbr_set` says.
 #[inline]
 pub fn store(
     slots: &Slots<Entries>,
@@ -184,6 +176,7 @@ pub fn replace(
     requires empty_hand { pass.old.hand ≡ None }
     ensures { CallsStore pass.old pass.new key value Present budget result }
 {
+    let value = NewValue::Exactly(value);
     let answer = pass.during(
         |stepper|
             requires own { IsOf stepper.old.trace slots.now }
@@ -206,6 +199,31 @@ pub fn put(
     requires empty_hand { pass.old.hand ≡ None }
     ensures { CallsStore pass.old pass.new key value Anything budget result }
 {
+    let value = NewValue::Exactly(value);
+    let answer = pass.during(
+        |stepper|
+            requires own { IsOf stepper.old.trace slots.now }
+            requires empty_hand { stepper.old.hand ≡ None }
+        { store_by(slots, stepper, key, value, Wanted::Anything, true, budget) },
+    );
+    there_in(answer)
+}
+
+/// Fetch-and-add: a [`put`] of the value that follows from what was there, as `AtSet::fetch_add` of
+/// `vbr_set` says.
+#[inline]
+pub fn fetch_add(
+    slots: &Slots<Entries>,
+    pass: &mut Pass,
+    key: u64,
+    delta: u64,
+    budget: u32,
+) -> Result<Option<u64>, Refusal>
+    requires own { IsOf pass.old.trace slots.now }
+    requires empty_hand { pass.old.hand ≡ None }
+    ensures { CallsStore pass.old pass.new key (sum_in delta result) Anything budget result }
+{
+    let value = NewValue::Sum(delta);
     let answer = pass.during(
         |stepper|
             requires own { IsOf stepper.old.trace slots.now }
@@ -228,6 +246,7 @@ pub fn get_or_insert(
     requires empty_hand { pass.old.hand ≡ None }
     ensures { CallsStore pass.old pass.new key value Absent budget result }
 {
+    let value = NewValue::Exactly(value);
     let answer = pass.during(
         |stepper|
             requires own { IsOf stepper.old.trace slots.now }
@@ -253,6 +272,7 @@ pub fn compare_exchange(
         (there_in result) }
     ensures changed { ChangedIfExpected expected result }
 {
+    let value = NewValue::Exactly(value);
     pass.during(
         |stepper|
             requires own { IsOf stepper.old.trace slots.now }
@@ -279,7 +299,7 @@ pub(crate) fn store_by<N: Nodes>(
     slots: &Slots<N>,
     stepper: &mut Stepper,
     key: u64,
-    value: u64,
+    value: NewValue,
     wanted: Wanted,
     gives: bool,
     budget: u32,
@@ -288,7 +308,8 @@ pub(crate) fn store_by<N: Nodes>(
     requires empty_hand { stepper.old.hand ≡ None }
     requires asked { MayUpdate gives N.VALUES wanted }
     ensures took { Took stepper.old.trace stepper.new.trace result.1 }
-    ensures calls { CallsUpdate gives stepper.old stepper.new key value wanted budget result.0 }
+    ensures calls { CallsUpdate gives stepper.old stepper.new key
+        (value_by value (there_in result.0)) wanted budget result.0 }
     ensures changed { IfOk result.0 (ChangedAsWanted (wants wanted)) }
 {
     slots.kind();

@@ -1,9 +1,9 @@
--- A set of keys is the test that tells which keys are in it.
+-- A set of keys is the test that says which keys are in it.
 use Rattle.std.specs.Prelude.{◌≡◌, ℕ, Bool, List, nat_eq}
 use Rattle.std.specs.List.{list_any}
 use Rattle.std.specs.List.Sorted.{IsStrictlyIncreasing}
 
--- a set of keys, as the test that tells which are in it
+-- a set of keys, as the test that says which are in it
 abbrev pub Keys : Type 0
 Keys = ℕ → Bool
 

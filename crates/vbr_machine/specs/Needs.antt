@@ -1,4 +1,4 @@
--- Where a pass needs the epoch to advance: it has a slot in which it can't give birth before.
+-- When a pass needs the epoch to advance: it has a slot in which it can't give birth before.
 use Rattle.std.specs.Prelude.{◌≡◌, ℕ, ◌≤◌, List, ◌∷◌, ◌++◌}
 use Rattle.vbr_machine.specs.Start.{Start}
 use Rattle.vbr_machine.specs.Acceptance.{MayBear, stamp_in}

@@ -1,4 +1,4 @@
--- The keys that a set opens with, and their values where nodes have them: the first stands in the first slot, the next in the next, and each is linked in the list of its bucket.
+-- The keys that a set opens with, and their values if nodes have them: the first stands in the first slot, the next in the next, and each is linked in the list of its bucket.
 use Rattle.std.specs.Prelude.{ℕ, zero, suc, ◌-◌, ◌==◌, nat_lt, Bool, List, [], ◌∷◌, length, Option, Some, None, slice_index_or, if◌then◌else◌}
 use Rattle.vbr_machine.specs.Start.{Start}
 use Rattle.vbr_words.specs.declared.link.Link.{Link}

@@ -1,4 +1,4 @@
--- What a set starts with: its shape, and the keys that it opens with, with their values where nodes have them.
+-- What a set starts with: its shape, and the keys that it opens with, with their values if nodes have them.
 use Rattle.std.specs.Prelude.{◌≡◌, ℕ, ◌≤◌, false, List, [], length, if◌then◌else◌}
 use Rattle.std.specs.List.Sorted.{IsStrictlyIncreasing}
 use Rattle.vbr_words.specs.Dimensions.{Dimensions, IsShape}

@@ -16,8 +16,8 @@ pub struct Event {
 /// A step of the machine: one atomic operation on one word.
 #[derive(Clone, Copy, Debug, PartialEq, Eq)]
 pub enum Step {
-    /// Loads the epoch. Where it is the one that the pass read last, its pending reads are checked;
-    /// where it has moved, the pass knows nothing any more.
+    /// Loads the epoch. If it is the one that the pass read last, its pending reads are checked;
+    /// if it has moved, the pass knows nothing any more.
     ReadEpoch,
     /// Advances the epoch by one, if it is `from`.
     Advance {

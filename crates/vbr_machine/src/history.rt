@@ -1,9 +1,9 @@
 /// What a call asks of a set, or of a map.
 #[derive(Clone, Copy, Debug, PartialEq, Eq, Hash)]
 pub enum Op {
-    /// Adds the key: yes where it was absent.
+    /// Adds the key: yes if it was absent.
     Insert,
-    /// Takes the key out: yes where it was present.
+    /// Takes the key out: yes if it was present.
     Remove,
     /// Looks the key up: yes where it is present.
     Has,

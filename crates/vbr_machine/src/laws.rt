@@ -46,7 +46,7 @@ ghost use Rattle.vbr_machine.specs.declared.history.Op.{Op};
 ghost use Rattle.vbr_machine.specs.declared.history.Op.TheVariants.{Insert, Remove};
 ghost use Rattle.vbr_machine.specs.declared.knowledge.Read.TheVariants.{LinkAt, KeyOf, ValueOf};
 
-/// A law: a lawful chronicle is sound, where the opening keys ascend.
+/// A law: a lawful chronicle is sound, if the opening keys ascend.
 pub fn lawful_is_sound()
     ensures { (start : Start) (entries : List Entry) →
         IsStrictlyIncreasing start.keys →
@@ -54,7 +54,7 @@ pub fn lawful_is_sound()
         Sound start (incarnations_from start (at_opening start) entries) }
 {}
 
-/// A law: the calls of a lawful chronicle are legal from the opening keys, where these ascend, and
+/// A law: the calls of a lawful chronicle are legal from the opening keys, if these ascend, and
 /// the set after them has just the keys of the linked incarnations.
 pub fn lawful_is_legal()
     ensures { (start : Start) (entries : List Entry) →
@@ -119,14 +119,14 @@ pub fn entries_open_as_their_map()
         opening_entries (map_start shape entries) key ≡ entries_in entries key }
 {}
 
-/// A law: where nodes have values, the calls of a run that store or give one have it, and where
+/// A law: if nodes have values, the calls of a run that store or give one have it, and if
 /// they have none, no call has.
 pub fn calls_have_values()
     ensures { (start : Start) (passes : ℕ) (run : List Event) →
         IsRun start passes run → HaveValues start.shape.values (world_after start run).calls }
 {}
 
-/// A law: where no value is stored or returned, a legal history of a map is one of the set of its keys,
+/// A law: if no value is stored or returned, a legal history of a map is one of the set of its keys,
 /// and the other way round.
 pub fn a_map_without_values_is_a_set()
     ensures { (entries : Entries) (calls : List Call) →
@@ -292,7 +292,7 @@ pub fn removed_has_left()
         MarkedLeft start before run pass call.key }
 {}
 
-/// A law: where a confirming load finds the word that it expects, the set at that moment has each
+/// A law: if a confirming load finds the word that it expects, the set at that moment has each
 /// key that its pass knows of the slot, or hasn't the key that was asked for.
 pub fn confirmed_at_load()
     ensures { (start : Start) (passes : ℕ) (run : List Event) (pass : ℕ) (op : Op)
@@ -335,7 +335,7 @@ pub fn absent_at_a_moment()
         WasAbsent start moment run key }
 {}
 
-/// A law: where a key stands between a place and the very node that its link names, if it names
+/// A law: if a key stands between a place and the very node that its link names, if it names
 /// one, a confirming load for the key is accepted there, by an operation of the shape. No marked
 /// node need be passed.
 pub fn between_is_accepted()
@@ -409,7 +409,7 @@ pub fn disturbances_are_paid()
         + 2 * updates (incarnations_after start run).calls }
 {}
 
-/// A law: let each pass advance the epoch only where it needs that, from one moment of a run to another.
+/// A law: let each pass advance the epoch only if it needs that, from one moment of a run to another.
 /// Then the epoch advances at most once, and once for each node that was removed and not retired at
 /// first, or is removed since; less one for each that is so at the end.
 pub fn advances_are_paid()
@@ -424,7 +424,7 @@ pub fn advances_are_paid()
 
 /// A law: so a pass is disturbed at a bucket at most once, once for each node that was marked at first,
 /// once for each that was removed and not retired, and three times for each insert or remove that is
-/// answered yes. Where none is answered yes, the first three numbers are known at first.
+/// answered yes. If none is answered yes, the first three numbers are known at first.
 pub fn disturbances_are_answered()
     ensures { (start : Start) (passes : ℕ) (first run : List Event) (who bucket : ℕ) →
         IsStart start → IsRun start passes run → Begins first run →
@@ -434,7 +434,7 @@ pub fn disturbances_are_answered()
         + unretired_after start first + 3 * updates (incarnations_after start run).calls }
 {}
 
-/// A law: let each pass advance the epoch only where it needs that, from the opening on. Then the epoch is
+/// A law: let each pass advance the epoch only if it needs that, from the opening on. Then the epoch is
 /// at most one more than the removes that were answered yes, less those whose nodes aren't retired.
 pub fn the_epoch_is_paid()
     ensures { (start : Start) (passes : ℕ) (run : List Event) →

@@ -36,7 +36,7 @@ impl PlainMap {
 
     /// Answers one call: its reply, and the value that an insert answered yes has stored or that a
     /// remove or a get answered yes gives. Only an insert uses `value`, and only one of an absent
-    /// key takes memory; where that is refused the map stays as it was.
+    /// key takes memory; if that is refused the map stays as it was.
     pub fn apply(&mut self, op: Op, key: u64, value: u64) -> Result<(bool, Option<u64>), AllocError>
         ensures answers { IfOk result (MapAnswers self.old self.new op key value) }
         ensures refused { OnErr result (MapRefuses self.old self.new op key) }
@@ -62,7 +62,7 @@ impl PlainMap {
     }
 
     /// Answers calls in order, and writes each reply and each value into its call. An insert stores
-    /// the value that stands in its call, or 0 where there is none. The answers make a legal
+    /// the value that stands in its call, or 0 if there is none. The answers make a legal
     /// history that leads to the entries that the map then has. Memory is refused only at an insert
     /// of a key that is absent then: the calls before it are answered so, and the others stay as
     /// they were.

@@ -33,7 +33,7 @@ impl PlainSet {
         }
     }
 
-    /// Answers one call. Only an insert of an absent key takes memory; where that is refused the
+    /// Answers one call. Only an insert of an absent key takes memory; if that is refused the
     /// set stays as it was.
     pub fn apply(&mut self, op: Op, key: u64) -> Result<bool, AllocError>
         ensures answers { IfOk result (SetAnswers self.old self.new op key) }

@@ -118,7 +118,7 @@ pub fn a_record_in_hand_is_private()
         NoneBears pass s (events_of acts) → OnlyWrites pass s acts }
 {}
 
-/// A law: where a pass publishes a slot that it has in hand, or puts it in the place of another node,
+/// A law: if a pass publishes a slot that it has in hand, or puts it in the place of another node,
 /// the slot is an entry then, with the birth and the key that the pass knows of it.
 pub fn what_is_published_is_an_entry()
     ensures published { (start : Start) (passes : ℕ) (run : List Event) (pass : ℕ) (pred : At)

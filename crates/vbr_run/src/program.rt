@@ -25,16 +25,16 @@ use vbr_transcript::{RunError, WriteFault, write_pieces, write_whole};
 /// The exit status of a run that was done.
 pub const DONE: u8 = 0;
 
-/// The exit status where the options are at fault, or give no shape.
+/// The exit status if the options are at fault, or give no shape.
 pub const USAGE: u8 = 2;
 
-/// The exit status where the script is at fault.
+/// The exit status if the script is at fault.
 pub const SCRIPT_FAULT: u8 = 3;
 
-/// The exit status where the script couldn't be read or the output couldn't be written.
+/// The exit status if the script couldn't be read or the output couldn't be written.
 pub const DEVICE_FAULT: u8 = 4;
 
-/// The exit status where there was no memory, or no thread for a worker.
+/// The exit status if there was no memory, or no thread for a worker.
 pub const NO_RESOURCES: u8 = 5;
 
 // The end of the line on a name that isn't known.

@@ -14,7 +14,7 @@ pub mod reporting_slots;
 pub mod reserving;
 pub mod tokens;
 
-ghost use Rattle.std.specs.Prelude.{◌≡◌};
+ghost use Rattle.std.specs.Prelude.{◌≡◌, ◌≤◌};
 
 use std::marker::Model;
 use vbr_slots::Slots;
@@ -47,6 +47,13 @@ impl<N: Nodes> VbrSet<N> {
         ensures { result ≡ self.now.start.shape }
     {
         self.slots.shape()
+    }
+
+    /// How many slots lie in the shared pool, as [`Slots::free_about`] counts them.
+    pub fn free_about(&self) -> u32
+        ensures { result ≤ self.now.start.shape.slots }
+    {
+        self.slots.free_about()
     }
 
     // Brings into the cache what look-ups of these keys begin with, like [`Slots::warm`].

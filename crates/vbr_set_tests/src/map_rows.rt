@@ -51,7 +51,7 @@ fn expect_answer(rt: &impl Abort, caller: &mut VbrMapRef, budget: u32, made: Mad
     }
 }
 
-// Makes a call, compares what it is answered, and tells how many steps it made.
+// Makes a call, compares what it is answered, and returns how many steps it made.
 fn call(rt: &impl Abort, caller: &mut VbrMapRef, budget: u32, made: Made) -> u64
     ensures { caller.new.set ≡ caller.old.set }
 {

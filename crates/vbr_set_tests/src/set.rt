@@ -86,7 +86,7 @@ fn answer_of(caller: &mut VbrSetRef, made: (Op, u64, u32)) -> Result<bool, Refus
     }
 }
 
-// Makes a call, compares what it is answered, and tells how many steps it made.
+// Makes a call, compares what it is answered, and returns how many steps it made.
 fn call(
     rt: &impl Abort,
     caller: &mut VbrSetRef,

@@ -22,7 +22,7 @@ fn store_where_absent(rt: &impl Abort, caller: &mut VbrMapRef)
     assert_eq!(rt; caller.get(5, 200), Ok(Some(70)));
 }
 
-// A key that is there gets another value, but of who inserts only where it is absent.
+// A key that is there gets another value, but of who inserts only if it is absent.
 fn store_where_present(rt: &impl Abort, caller: &mut VbrMapRef)
     ensures { caller.new.set ≡ caller.old.set }
 {
@@ -58,6 +58,19 @@ fn remove_by_value(rt: &impl Abort, caller: &mut VbrMapRef)
     assert_eq!(rt; caller.get(5, 200), Ok(Some(75)));
 }
 
+// A sum begins with what is added to an absent key, and comes round at 2^64.
+fn add_to_value(rt: &impl Abort, caller: &mut VbrMapRef)
+    ensures { caller.new.set ≡ caller.old.set }
+{
+    assert_eq!(rt; caller.fetch_add(6, 3, 200), Ok(None));
+    assert_eq!(rt;
+        caller.fetch_add(6, 18_446_744_073_709_551_615, 200),
+        Ok(Some(3))
+    );
+    assert_eq!(rt; caller.fetch_add(6, 40, 200), Ok(Some(2)));
+    assert_eq!(rt; caller.remove(6, 200), Ok(Some(42)));
+}
+
 /// One caller makes each call with each outcome, and the close tells the entry that is left.
 #[test]
 fn a_value_is_changed(rt: HostRuntime) -> Result<(), Fail> {
@@ -67,6 +80,7 @@ fn a_value_is_changed(rt: HostRuntime) -> Result<(), Fail> {
     store_where_present(&rt, &mut caller);
     change_by_value(&rt, &mut caller);
     remove_by_value(&rt, &mut caller);
+    add_to_value(&rt, &mut caller);
     let pass = caller.into_pass();
     expect_left(&rt, rt.alloc(), map, pass, &[(5, 75)], (1, 0, 3))
 }
@@ -78,6 +92,7 @@ fn store_without_a_slot(rt: &impl Abort, caller: &mut VbrMapRef)
     assert_eq!(rt; caller.insert(5, 70, 200), Ok(true));
     assert_eq!(rt; caller.replace(5, 71, 200), Err(Refusal::NoSlot));
     assert_eq!(rt; caller.put(6, 71, 200), Err(Refusal::NoSlot));
+    assert_eq!(rt; caller.fetch_add(5, 1, 200), Err(Refusal::NoSlot));
     assert_eq!(rt;
         caller.compare_exchange(5, 70, 71, 200),
         Err(Refusal::NoSlot)

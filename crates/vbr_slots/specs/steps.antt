@@ -1,4 +1,4 @@
--- Steps: what each asks and tells, and what several in a row add.
+-- Steps: what each asks and shows, and what several in a row add.
 pub mod Calls
 pub mod Asked
 pub mod Expected

@@ -9,6 +9,7 @@ pub mod loading;
 pub mod owning;
 pub mod pass;
 pub mod reading;
+pub mod tally;
 
 ghost use Rattle.vbr_slots.specs.views.Views.{IsOf};
 

@@ -47,6 +47,7 @@ impl<N: Nodes> Slots<N> {
                 pool: _,
                 hand: _,
                 tried: _,
+                tally: _,
             } = stepper;
             let Runner {
                 seat: other,

@@ -14,6 +14,7 @@ use crate::rule::{First, Opening, OpeningWithEntries};
 use crate::runner::Runner;
 use crate::slots::Slots;
 use crate::stepper::Stepper;
+use crate::tally::Tally;
 use atomic_table::Table;
 use std::alloc::{AllocError, Global};
 use std::error::Error;
@@ -287,6 +288,7 @@ impl<N: Nodes> Slots<N> {
                 pool: Pool::new(),
                 hand: None,
                 tried: first_tried(opening, who),
+                tally: Tally::new(),
             };
             let Ok(()) = passes.push(Pass { stepper, steps: 0 }) else {
                 return Err(OpenManyError::Memory);

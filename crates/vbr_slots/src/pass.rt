@@ -10,6 +10,7 @@ ghost use Rattle.vbr_slots.specs.pools.Pools.{OwnPool, hand_without};
 ghost use Rattle.vbr_slots.specs.views.Views.{counted_steps, knows, steps_of};
 
 use crate::stepper::{Stepper, put};
+use crate::tally::Tally;
 use std::marker::Model;
 
 /// How many slots the own pool of a pass has room for.
@@ -71,6 +72,12 @@ impl Pass {
         ensures { result ≡ counted_steps (steps_of self.now.trace) }
     {
         self.steps
+    }
+
+    /// What it counted for those who operate a program, since the opening.
+    #[inline]
+    pub fn tally(&self) -> Tally {
+        self.stepper.tally()
     }
 
     /// The last epoch that it read; 1 at the opening.

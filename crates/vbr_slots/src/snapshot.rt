@@ -11,6 +11,7 @@ use crate::rule::{Both, First, Naming, Nobody, Opening, Surveys, Witness};
 use crate::runner::Runner;
 use crate::slots::Slots;
 use crate::stepper::Stepper;
+use crate::tally::Tally;
 use atomic_table::Seat;
 use std::alloc::{AllocError, Global};
 use std::collections::LinkedList;
@@ -28,6 +29,7 @@ pub(crate) struct Halted {
     pool: Pool,
     hand: Option<u32>,
     tried: u32,
+    tally: Tally,
     steps: u64,
 }
 
@@ -62,6 +64,7 @@ impl<N: Nodes> Slots<N> {
                 pool: kept.pool,
                 hand: kept.hand,
                 tried: kept.tried,
+                tally: kept.tally,
             };
             let steps = kept.steps;
             let Ok(()) = passes.push(Pass { stepper, steps }) else {
@@ -92,6 +95,7 @@ impl<N: Nodes> Slots<N> {
                 pool,
                 hand,
                 tried,
+                tally,
             } = stepper;
             let Runner {
                 mut seat,
@@ -108,6 +112,7 @@ impl<N: Nodes> Slots<N> {
                 pool,
                 hand,
                 tried,
+                tally,
                 steps,
             };
             let Ok(()) = halted.push(kept) else {

@@ -8,6 +8,7 @@ ghost use Rattle.vbr_slots.specs.pools.Pools.{hand_without, without};
 use crate::pass::POOL;
 use crate::pool::Pool;
 use crate::runner::Runner;
+use crate::tally::Tally;
 use std::marker::Model;
 
 /// What makes the steps of a pass, and counts none. It has the pass's own pool and its hand. The pass
@@ -19,6 +20,7 @@ pub struct Stepper {
     pub(crate) pool: Pool,
     pub(crate) hand: Option<u32>,
     pub(crate) tried: u32,
+    pub(crate) tally: Tally,
 }
 
 impl Model for Stepper {
@@ -41,6 +43,20 @@ impl Stepper {
     {
         let _who = self.runner.who;
         self.pool.law();
+    }
+
+    /// What it counted since the opening.
+    #[inline]
+    pub fn tally(&self) -> Tally {
+        self.tally
+    }
+
+    /// Counts an advance of the epoch, if it won that. It is no step.
+    #[inline]
+    pub fn count_advance(&mut self, is_won: bool)
+        ensures { self.new ≡ self.old }
+    {
+        self.tally.advances = self.tally.advances.wrapping_add(u64::from(is_won));
     }
 
     // Gives up the slots of its own pool and its hand.

@@ -16,7 +16,7 @@ impl<N: Nodes> Slots<N> {
     /// each key's bucket, then the node that it names, and then the one that this names. None of these loads
     /// waits for that of another key, so the memory serves them side by side. In a small table it does nothing.
     ///
-    /// It tells how many loads it made: none in a table of fewer than 16,384 slots, and else one for each of these
+    /// It returns how many loads it made: none in a table of fewer than 16,384 slots, and else one for each of these
     /// keys, and up to four more. They are loads without a seat, so they are no steps, no pass learns of them, and
     /// what they find is used for nothing else: a link says which slot is loaded next, where it is one of the table.
     pub fn warm(&self, keys: &[u64]) -> u32

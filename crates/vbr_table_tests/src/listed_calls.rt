@@ -235,7 +235,7 @@ fn names_link(step: &Step) -> bool
     }
 }
 
-// The first of the words, and the others; 0 where there is none.
+// The first of the words, and the others; 0 if there is none.
 fn first_and_others(words: &[u64]) -> (u64, &[u64])
     ensures first { result.0 ≡ first_of words.now }
     ensures others { result.1.now ≡ others_of words.now }

@@ -47,7 +47,7 @@ pub fn expect_answer(
     assert_eq!(rt; told, answer, "{made} {key}");
 }
 
-// Makes a call, and tells how many steps it made.
+// Makes a call, and returns how many steps it made.
 fn make<R: Abort, C: Call>(
     rt: &R,
     slots: &Slots<C::Nodes>,

@@ -35,7 +35,7 @@ pub(crate) fn word_at(world: &World, shape: Shape, place: Place) -> Option<u128>
 // A place, and the words that stand there after so many rows each.
 pub(crate) type Look = (Place, &'static [(usize, u128)]);
 
-// Compares the words that are looked at after so many rows, and tells how many these are.
+// Compares the words that are looked at after so many rows, and returns how many these are.
 pub(crate) fn look(
     rt: &impl Abort,
     world: &World,

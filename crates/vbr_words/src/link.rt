@@ -277,7 +277,7 @@ pub fn words_are_links()
     ensures is_word { (link : Link) → IsLink link → word_of link < 2 ^ 95 }
 {}
 
-/// A law: where so many bits name a slot, link words that have room are kept in a `u64` each, and no two in the same.
+/// A law: if so many bits name a slot, link words that have room are kept in a `u64` each, and no two in the same.
 pub fn packed_words_are_apart()
     ensures kept { (bits word : ℕ) → bits ≤ SLOT_BITS → IsPackable bits word →
         (packed bits word < 2 ^ 64) × (unpacked bits (packed bits word) ≡ word) }

@@ -1,4 +1,4 @@
--- What an opening of a kept world tells.
+-- What an opening of a kept world returns.
 use Rattle.std.specs.Prelude.{◌≡◌, ℕ, length}
 use Rattle.vbr_machine.specs.Start.{Start}
 use Rattle.vbr_machine.specs.Machine.{knows_nothing, opening}

@@ -1,4 +1,4 @@
--- What a step of a kept world tells: one record for each outcome.
+-- What a step of a kept world returns: one record for each outcome.
 use Rattle.std.specs.Prelude.{◌≡◌, ℕ, length}
 use Rattle.vbr_machine.specs.Learning.{effect_of}
 use Rattle.vbr_machine.specs.Machine as machine

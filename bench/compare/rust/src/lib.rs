@@ -1,8 +1,10 @@
-//! The peers in Rust, for the comparison: sets and maps behind functions for C.
+//! The peers in Rust, for the comparison: sets, maps and caches behind functions for C.
 mod dash;
+mod dash_cache;
 mod epoch;
 
 use dash::{DashEntries, DashKeys};
+use dash_cache::DashCache;
 use epoch::{EpochMap, EpochSet};
 use std::ffi::c_void;
 
@@ -110,6 +112,27 @@ export_map!(
     dash_map_remove,
     dash_map_replace
 );
+
+/// The value of a cache's entry.
+pub type Value = [u32; 25];
+
+#[no_mangle]
+pub extern "C" fn dash_cache_open(entries: usize) -> Box<DashCache> {
+    Box::new(DashCache::open(entries))
+}
+
+#[no_mangle]
+pub extern "C" fn dash_cache_close(_of: Box<DashCache>) {}
+
+#[no_mangle]
+pub extern "C" fn dash_cache_get(cache: &DashCache, key: u64, value: &mut Value) -> bool {
+    cache.get(key, value)
+}
+
+#[no_mangle]
+pub extern "C" fn dash_cache_insert(cache: &DashCache, key: u64, value: &Value) {
+    cache.insert(key, *value);
+}
 
 /// Calls a function with each key, and with what it is to have besides.
 #[no_mangle]

@@ -1,15 +1,17 @@
 -- What a pass publishes is an entry then; so is what it answers by, or marks.
-use Rattle.std.proofs.Common.{◌≡◌, ℕ, ◌≤◌, false, List, [], ◌∷◌, ◌++◌, Some, refl, arith, sym, ap, ◌∙◌, subst}
+use Rattle.std.proofs.Common.{◌≡◌, ℕ, ◌≤◌, true, false, List, [], ◌∷◌, ◌++◌, Some, refl, arith, sym, ap, ◌∙◌, subst}
 use Rattle.vbr_machine.specs.Start.{Start, IsStart}
 use Rattle.vbr_words.specs.Words.{link_of}
 use Rattle.vbr_words.specs.declared.link.Link.{Link}
 use Rattle.vbr_words.specs.declared.place.At.{At}
 use Rattle.vbr_words.specs.declared.place.At.TheVariants.{Slot}
+use Rattle.vbr_machine.specs.History.{set_after, values_after}
 use Rattle.vbr_machine.specs.Knowledge.{Know}
 use Rattle.vbr_machine.specs.Learning.{present_reply}
 use Rattle.vbr_machine.specs.Machine.{found, link_at}
 use Rattle.vbr_machine.specs.Membership.{BirthAt, KeyAt}
 use Rattle.vbr_machine.specs.Moments.{WasShown}
+use Rattle.vbr_machine.specs.Opened.{opening_keys, opening_payloads}
 use Rattle.vbr_machine.specs.Records.{IsEntry}
 use Rattle.vbr_machine.specs.Runs.{IsRun, know_after, world_after}
 use Rattle.vbr_machine.specs.declared.event.Event.{Event}
@@ -18,12 +20,14 @@ use Rattle.vbr_machine.specs.declared.event.Step.TheVariants.{ConfirmPresent, Lo
 use Rattle.vbr_machine.specs.declared.history.Op.{Op}
 use Rattle.vbr_machine.specs.declared.knowledge.Holding.TheVariants.{InHand}
 use Rattle.vbr_machine.proofs.Lemmas.{begins_refl, begins_trans, entry_shown, link_held, link_loaded}
-use Rattle.vbr_machine.proofs.Lemmas.{others_leave_know, published_entry, replacing_entry, run_agrees}
+use Rattle.vbr_machine.proofs.Lemmas.{others_leave_know, present_at_load, published_entry, replacing_entry, run_agrees}
+use Rattle.vbr_machine.proofs.Lemmas.{value_at_load}
 use Rattle.vbr_slots.specs.steps.Calls.{Quiet}
 use Rattle.vbr_slots.specs.views.Views.{Did, Trace, event_of, knows}
 use Rattle.vbr_slots.proofs.Lemmas.{did_moment}
 use Rattle.vbr_at_table.specs.reads.Held.{IsFilled, IsHeld}
-use Rattle.vbr_at_table.specs.answers.Records.{MarksHeld, PublishesSlot, ShowsEntry}
+use Rattle.vbr_at_table.specs.answers.Records.{MarksHeld, PublishesSlot, ShowsEntry, WasHeldEntry}
+use Rattle.vbr_at_table.specs.answers.Values.{ValueAt}
 use Rattle.vbr_at_table.specs.declared.held.Held.{Held}
 use Rattle.vbr_at_table.proofs.reads.Moments.{answers_same, run_before, won}
 
@@ -161,21 +165,47 @@ module _ {step : Step} {p q : Trace} {r : ℕ} (node : Held) (slot : ℕ) (is : 
       (entry_shown p.start p.passes moment moment p.who slot (link_of node.word) node.birth key is ok shown
       (subst B (λ i. (at_slot i, sym same_know i)) held.birth) (subst K (λ i. (at_slot i, sym same_know i)) k))
 
+  key_then : (key : ℕ) → KeyAt (knows p) node.at key → KeyAt (know_after p.start moment p.who) (Slot slot) key
+  key_then key k = let K : At × Know → Type 0 = λ x. KeyAt x.1 x.0 key in subst K (λ i. (at_slot i, sym same_know i)) k
+
+  present_then : (key : ℕ) → KeyAt (knows p) node.at key →
+      set_after (opening_keys p.start) (world_after p.start moment).calls key ≡ true
+  present_then key k =
+      present_at_load p.start p.passes moment moment is ok p.who (Slot slot) (link_of node.word) shown key
+      (key_then key k)
+
+  stored_then : (key value : ℕ) → p.start.shape.values ≡ true → KeyAt (knows p) node.at key →
+      ValueAt (knows p) node.at value →
+      values_after (opening_payloads p.start) (world_after p.start moment).calls key ≡ Some value
+  stored_then key value values k v =
+      let V : At × Know → Type 0 = λ x. ValueAt x.1 x.0 value in
+      value_at_load p.start p.passes moment moment is ok p.who (Slot slot) (link_of node.word) shown slot key value refl
+      (key_then key k) (subst V (λ i. (at_slot i, sym same_know i)) v)
+      ∙ (rw values refl)
+
 -- where a confirming load finds the link of a node that is held, the node was an entry then
 pub confirmed_entry : {p q : Trace} {op : Op} (node : Held) (slot : ℕ) → IsStart p.start → node.at ≡ Slot slot →
     IsHeld (knows p) node → (link_of node.word).mark ≡ false →
     Did (ConfirmPresent op slot node.word) p q node.word → ShowsEntry p q node
 confirmed_entry {p} {q} {op} node slot is at_slot held unmarked d =
     let reads = answers_same (present_reply op) node.word _ d.shows.answers in
+    let there : (s key : ℕ) → node.at ≡ Slot s → KeyAt (knows p) node.at key → WasHeldEntry p q node s key =
+    λ s key same k.
+    let entry = entry_then node slot is at_slot held unmarked d reads s key same k in
     record {
-      shows = λ s key same k.
-          let there = entry_then node slot is at_slot held unmarked d reads s key same k in
+      moment = p.seen ++ d.rest;
+      within = did_moment d;
+      node = entry.0;
+      entry = entry.1;
+      epoch = low node slot is at_slot held unmarked d reads;
+    } in
+    record {
+      shows = there;
+      stores = λ values s key value same k v.
           record {
-            moment = p.seen ++ d.rest;
-            within = did_moment d;
-            node = there.0;
-            entry = there.1;
-            epoch = low node slot is at_slot held unmarked d reads;
+            was = there s key same k;
+            present = present_then node slot is at_slot held unmarked d reads key k;
+            stored = stored_then node slot is at_slot held unmarked d reads key value values k v;
           };
     }
 

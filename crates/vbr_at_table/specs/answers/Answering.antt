@@ -1,4 +1,4 @@
--- What the calls that answer an operation tell.
+-- What the calls that answer an operation promise.
 use Rattle.std.specs.Prelude.{◌≡◌, ◌≢◌, ℕ, Bool, false}
 use Rattle.vbr_machine.specs.Start.{Start}
 use Rattle.vbr_words.specs.Words.{link_of}

@@ -1,4 +1,4 @@
--- What the calls that exchange a link word tell: linking a new node, unlinking, and a mark that is lost.
+-- What the calls that exchange a link word promise: linking a new node, unlinking, and a mark that is lost.
 use Rattle.std.specs.Prelude.{◌≡◌, ℕ, false, true, None}
 use Rattle.vbr_words.specs.Words.{link_of}
 use Rattle.vbr_machine.specs.Acceptance.{IsUnlinked}

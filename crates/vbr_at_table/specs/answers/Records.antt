@@ -1,7 +1,9 @@
--- What the calls that publish a slot, mark a node, or answer by one, tell of records that a program keeps beside the slots.
-use Rattle.std.specs.Prelude.{◌≡◌, ℕ, ◌≤◌, List, [], ◌∷◌, ◌++◌, Some}
+-- What the calls that publish a slot, mark a node, or answer by one, promise of records that a program keeps beside the slots.
+use Rattle.std.specs.Prelude.{◌≡◌, ℕ, ◌≤◌, true, List, [], ◌∷◌, ◌++◌, Some}
 use Rattle.vbr_words.specs.declared.place.At.TheVariants.{Slot}
+use Rattle.vbr_machine.specs.History.{set_after, values_after}
 use Rattle.vbr_machine.specs.Membership.{KeyAt}
+use Rattle.vbr_machine.specs.Opened.{opening_keys, opening_payloads}
 use Rattle.vbr_machine.specs.Records.{IsEntry}
 use Rattle.vbr_machine.specs.Runs.{Begins, know_after, world_after}
 use Rattle.vbr_machine.specs.declared.event.Event.{Event}
@@ -10,6 +12,7 @@ use Rattle.vbr_machine.specs.declared.knowledge.Holding.TheVariants.{InHand}
 use Rattle.vbr_machine.specs.declared.knowledge.Unpublished.{Unpublished}
 use Rattle.vbr_slots.specs.steps.Calls.{Moment}
 use Rattle.vbr_slots.specs.views.Views.{Trace, event_of, knows}
+use Rattle.vbr_at_table.specs.answers.Values.{ValueAt}
 use Rattle.vbr_at_table.specs.declared.held.Held.{Held}
 
 -- the pass published a slot by the last event that it has seen: right before it had the slot in hand, born at this epoch; and right after the slot is an entry, with this birth and this key
@@ -47,6 +50,13 @@ pub record WasHeldEntry (p q : Trace) (held : Held) (s key : ℕ) : Type 0 where
   pub entry : IsEntry p.start moment s held.birth key node
   pub epoch : held.epoch ≤ (world_after p.start moment).epoch
 
--- so it is of each slot and key that it may have
+-- and at that moment the key was in the map, with this value
+pub record WasHeldValue (p q : Trace) (held : Held) (s key value : ℕ) : Type 0 where
+  pub was : WasHeldEntry p q held s key
+  pub present : set_after (opening_keys p.start) (world_after p.start was.moment).calls key ≡ true
+  pub stored : values_after (opening_payloads p.start) (world_after p.start was.moment).calls key ≡ Some value
+
+-- so it is of each slot and key that it may have, and of each value, if nodes have values
 pub record ShowsEntry (p q : Trace) (held : Held) : Type 0 where
   pub shows : (s key : ℕ) → held.at ≡ Slot s → KeyAt (knows p) held.at key → WasHeldEntry p q held s key
+  pub stores : p.start.shape.values ≡ true → (s key value : ℕ) → held.at ≡ Slot s → KeyAt (knows p) held.at key → ValueAt (knows p) held.at value → WasHeldValue p q held s key value

@@ -1,4 +1,4 @@
--- What a replacement tells: two calls, next to each other.
+-- What a replacement promises: two calls, next to each other.
 use Rattle.std.specs.Prelude.{◌≡◌, ℕ, true, None, List, [], ◌∷◌, ◌++◌}
 use Rattle.vbr_words.specs.Words.{link_of}
 use Rattle.vbr_machine.specs.Membership.{BirthNamed, KeyAt}

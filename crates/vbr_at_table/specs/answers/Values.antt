@@ -1,4 +1,4 @@
--- What is known of the values of nodes, and what calls tell of a key and of an entry, which has a value where nodes have values.
+-- What is known of the values of nodes, and what calls show of a key and of an entry, which has a value if nodes have values.
 use Rattle.std.specs.Prelude.{◌≡◌, ◌≢◌, ℕ, ◌+◌, Bool, true, false, Option, Some}
 use Rattle.vbr_machine.specs.Start.{Start}
 use Rattle.vbr_words.specs.Words.{link_of}

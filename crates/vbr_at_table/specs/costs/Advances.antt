@@ -1,4 +1,4 @@
--- Where a pass advances the epoch: only where no slot that it could take is stamped below it.
+-- When a pass advances the epoch: only if no slot that it could take is stamped below it.
 use Rattle.std.specs.Prelude.{◌≡◌, ℕ, ◌+◌, ◌≤◌, List, [], ◌∷◌, ◌++◌, ◌⊎◌}
 use Rattle.vbr_machine.specs.Acceptance.{stamp_in}
 use Rattle.vbr_machine.specs.Needs.{AdvancesInNeed, NeedsAdvance}
@@ -21,10 +21,10 @@ pub record AdvancesOnce (p q : PassView) : Type 0 where
   pub stamps : (slot : ℕ) → CouldTake p (know_after p.trace.start moment p.trace.who) slot → epoch ≤ stamp_in ((know_after p.trace.start moment p.trace.who).own slot)
   pub needed : NeedsAdvance (know_after p.trace.start moment p.trace.who) epoch
 
--- the pass made no such step, or made one where it had to
+-- the pass made no such step, or it had to make it
 abbrev pub AdvancesWhereNeeded : PassView → PassView → Type 0
 AdvancesWhereNeeded p q = (advances q.trace ≡ advances p.trace) ⊎ AdvancesOnce p q
 
--- in all that it has seen the pass made each step that would advance the epoch where it needed that
+-- in all that it has seen, the pass needed each step that it made and that would advance the epoch
 abbrev pub AdvancedInNeed : Trace → Type 0
 AdvancedInNeed p = AdvancesInNeed p.start [] p.seen p.who

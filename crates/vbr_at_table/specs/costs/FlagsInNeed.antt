@@ -1,4 +1,4 @@
--- Where a pass needs a flag: only where it has no slot. How many flags it has won, and how often it went beyond that need.
+-- When a pass needs a flag: only if it has no slot. How many flags it has won, and how often it went beyond that need.
 use Rattle.std.specs.Prelude.{◌≡◌, ℕ, ◌+◌, ◌==◌, ◌&&◌, nat_lt, Bool, false, List, [], ◌∷◌}
 use Rattle.vbr_words.specs.Flags.{has_flag}
 use Rattle.vbr_machine.specs.Disturbances.{one_if}

@@ -1,4 +1,4 @@
--- What each piece of a call that takes a slot tells. Only contracts of private functions cite this.
+-- What each piece of a call that takes a slot promises. Only contracts of private functions cite this.
 use Rattle.std.specs.Prelude.{◌≡◌, ◌≢◌, ℕ, ◌+◌, ◌<◌, ◌≤◌, ◌⊎◌, [], ◌∷◌, length, get_or, All, Option, Some, None, Result, Ok, Err}
 use Rattle.vbr_machine.specs.Acceptance.{stamp_in}
 use Rattle.vbr_slots.specs.declared.pass.TheConstants.{POOL}
@@ -27,7 +27,7 @@ pub record Uses (p q : PassView) (budget before since most : ℕ) : Type 0 where
   pub within : since ≤ budget
   pub at_most : since ≤ before + most
 
--- how many steps an outcome tells
+-- how many steps an outcome says were made
 abbrev pub told_steps : {A E : Type 0} → Result (A × ℕ) (E × ℕ) → ℕ
 told_steps (Ok told) = told.1
 told_steps (Err told) = told.1

@@ -1,4 +1,4 @@
--- What a call that takes a slot tells.
+-- What a call that takes a slot promises.
 use Rattle.std.specs.Prelude.{◌≡◌, ℕ, ◌+◌, ◌<◌, ◌≤◌, List, [], length, get_or, ◌⊎◌}
 use Rattle.vbr_machine.specs.Acceptance.{stamp_in}
 use Rattle.vbr_machine.specs.Knowledge.{Know}

@@ -1,4 +1,4 @@
--- What the calls that read tell.
+-- What the calls that read promise.
 use Rattle.std.specs.Prelude.{◌≡◌, ℕ, false, Option, Some, None, IsSome}
 use Rattle.vbr_words.specs.Words.{link_of}
 use Rattle.vbr_words.specs.declared.place.At.{At}

@@ -5,7 +5,7 @@ ghost use Rattle.vbr_list.specs.calls.Told.{is_yes};
 ghost use Rattle.vbr_list.specs.updates.Outcomes.{ChangedIfExpected, there_in};
 ghost use Rattle.vbr_handles.specs.Calls.{TellsInsertEntry};
 ghost use Rattle.vbr_handles.specs.Codes.{call_code, exchange_code};
-ghost use Rattle.vbr_handles.specs.ValueCalls.{TellsExchange, TellsGetEntry, TellsGetOrInsert, TellsPut, TellsRemoveEntry, TellsRemoveIf, TellsReplace, WritesGiven};
+ghost use Rattle.vbr_handles.specs.ValueCalls.{TellsExchange, TellsFetchAdd, TellsGetEntry, TellsGetOrInsert, TellsPut, TellsRemoveEntry, TellsRemoveIf, TellsReplace, WritesGiven};
 
 use crate::ample::budget_of;
 use crate::coded_calls::topping_up::{has_added, has_stored_new, top_up_after};
@@ -92,6 +92,33 @@ pub fn put(owner: &mut Owner<MapMember>, key: u64, value: u64, there: &mut u64, 
     let budget = budget_of(member, steps);
     let before = member.pass().steps();
     let answer = member.put(key, value, budget);
+    top_up_after(member, has_stored_new(&answer), budget, before);
+    give(answer, there)
+}
+
+/// Adds a number modulo 2^64 to the value of a key by the member of a handle, or inserts the key with it
+/// if it is absent, and writes the value that it had. If it added the key, it then tops the reserve of
+/// the handle up.
+pub fn fetch_add(
+    owner: &mut Owner<MapMember>,
+    key: u64,
+    delta: u64,
+    there: &mut u64,
+    steps: u32,
+) -> i32
+    ensures { TellsFetchAdd owner.old.member owner.new.member key delta steps there.old there.new
+        result }
+{
+    if owner.is_empty() {
+        return EMPTY;
+    }
+    let member = owner.member_mut();
+    if holds_slot(member) {
+        return HELD;
+    }
+    let budget = budget_of(member, steps);
+    let before = member.pass().steps();
+    let answer = member.fetch_add(key, delta, budget);
     top_up_after(member, has_stored_new(&answer), budget, before);
     give(answer, there)
 }

@@ -11,8 +11,8 @@ use vbr_set::Kind;
 use vbr_set::member::Member;
 use vbr_words::Nodes;
 
-/// Puts the slots that the pass of a handle keeps to itself into the shared pool, as
-/// [`Member::give_slots_back`] does, and returns how many; 0 if the handle is empty.
+/// Gives slots back, as [`Member::give_slots_back`] does; 0 if the handle is empty:
+/// `vbr_spare` of vbr.h.
 pub fn give_slots_back<N: Nodes>(owner: &mut Owner<Member<N>>) -> u32
     ensures { TellsGivenBack owner.old.member owner.new.member result }
 {

@@ -64,8 +64,8 @@ module _ {N : Type 0} {kind : Ghosts N} {b c d : PendingCall N kind} {hand : Han
       }
 
 -- the slot wasn't published, and is in hand as before
-pub kept_held : {N : Type 0} {kind : Ghosts N} {value : ℕ} {wanted : Wanted} {c d : PendingCall N kind}
-    {hand : HandView} (back : HandView) (why : Unstored) → KeepsUnstored false value wanted c d hand (back, why) →
+pub kept_held : {N : Type 0} {kind : Ghosts N} (value : ℕ) {wanted : Wanted} {c d : PendingCall N kind}
+    {hand : HandView} (back : HandView) (why : Unstored) → KeepsUnstored false wanted c d hand (back, why) →
     HoldsOn (pass_in c) (pass_in d) c.key value c.used d.used c.budget hand (back, still_in_hand why)
-kept_held back (Otherwise there) x = record { same = x.same; has = x.has; says = x.says }
-kept_held back (OutOfSteps used) x = record { same = x.same; has = x.has; says = x.says }
+kept_held value back (Otherwise there) x = record { same = x.same; has = x.has; says = x.says value }
+kept_held value back (OutOfSteps used) x = record { same = x.same; has = x.has; says = x.says }

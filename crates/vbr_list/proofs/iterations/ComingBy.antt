@@ -266,7 +266,7 @@ module _ {p q : PassView} (r : PassView) (law : PassLaw p) (c d : Cursor) (used 
           λ values. entry_since to_here (tells.1 (valued values)),
         ),
         (
-          there_since r.trace next.key x.goes.quiet (Some next.entry) y.next.tells.2.0,
+          there_since false r.trace next.key x.goes.quiet (Some next.entry) y.next.tells.2.0,
           λ values. full_since x.goes.quiet (y.next.tells.2.1 (valued values)),
         ),
       ) tt

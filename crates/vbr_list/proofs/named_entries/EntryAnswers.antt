@@ -1,33 +1,37 @@
 -- An entry by which a get is answered, and what the birth that its slot shows says of it.
-use Rattle.std.proofs.Common.{◌≡◌, ℕ, ◌≤◌, ◌==◌, Bool, true, false, eq-eqb, eqb-true, Option, Some, None, refl, sym}
-use Rattle.std.proofs.Common.{subst, ap, ◌∙◌}
+use Rattle.std.proofs.Common.{◌≡◌, ℕ, ◌≤◌, ◌<◌, ◌==◌, Bool, true, false, eq-eqb, eqb-true, Option, Some, None}
+use Rattle.std.proofs.Common.{refl, sym, subst, ap, ◌∙◌}
 use Rattle.std.specs.Prelude.{is_some}
 use Rattle.vbr_words.specs.declared.nodes.Nodes.{Ghosts}
 use Rattle.vbr_words.specs.declared.place.At.{At}
 use Rattle.vbr_words.specs.declared.place.At.TheVariants.{Head, Slot}
 use Rattle.vbr_machine.specs.Start.{Start}
+use Rattle.vbr_machine.specs.History.{set_after, values_after}
 use Rattle.vbr_machine.specs.Knowledge.{Know}
 use Rattle.vbr_machine.specs.Membership.{KeyAt}
+use Rattle.vbr_machine.specs.Opened.{opening_keys, opening_payloads}
 use Rattle.vbr_machine.specs.Records.{IsEntry}
 use Rattle.vbr_machine.specs.Runs.{world_after}
 use Rattle.vbr_slots.specs.steps.Calls.{Quiet}
 use Rattle.vbr_slots.specs.views.Views.{PassView, Trace}
 use Rattle.vbr_slots.proofs.Lemmas.{moment_after}
 use Rattle.vbr_at_table.specs.reads.Moments.{ShowsBirth}
-use Rattle.vbr_at_table.specs.answers.Records.{WasHeldEntry}
+use Rattle.vbr_at_table.specs.answers.Records.{WasHeldEntry, WasHeldValue}
 use Rattle.vbr_at_table.specs.declared.held.Held.{Held}
 use Rattle.vbr_list.specs.named_entries.Entries.{EntryAnswers, FindsNamedEntry, TellsStill, WasThereIf, entry_at}
 use Rattle.vbr_list.specs.named_entries.Entries.{entry_of}
-use Rattle.vbr_list.specs.named_entries.Entries.{value_of_entry, HasNoValue, entry_in}
+use Rattle.vbr_list.specs.named_entries.Entries.{value_of_entry, value_given, HasNoValue, entry_in}
 use Rattle.vbr_list.specs.calls.Budgets.{steps_where}
 use Rattle.vbr_list.specs.calls.CallBounds.{BoundsOfLookUp, CallsAs}
-use Rattle.std.specs.Prelude.{Err}
+use Rattle.std.specs.Prelude.{Result, Ok, Err}
+use Rattle.vbr_list.specs.calls.Told.{given_in, look_up_op}
 use Rattle.vbr_at_table.specs.declared.refusal.Refusal.{Refusal}
 use Rattle.vbr_list.specs.look_ups.LookUpPieces.{GivesValueOf, LookUpAnswers}
 use Rattle.vbr_list.specs.calls.Pieces.{trace_in}
 use Rattle.vbr_list.specs.declared.call.PendingCall.{PendingCall}
 use Rattle.vbr_list.specs.declared.entries.Entry.{Entry}
-use Rattle.vbr_list.proofs.named_entries.SeenEntries.{named_same}
+use Rattle.vbr_list.proofs.named_entries.SeenEntries.{full_since, named_same}
+use Rattle.vbr_list.proofs.pieces.Told.{calls_read, calls_refused, look_up_read, look_up_refused}
 
 -- an entry in a part of what the pass did was one in the whole
 pub held_entry_since : {p q r : Trace} {held : Held} {s key : ℕ} → Quiet p q → WasHeldEntry q r held s key →
@@ -42,24 +46,49 @@ held_entry_since {p} {q} {r} {held} {s} {key} quiet x = record {
       let P : Start → Type 0 = λ d. held.epoch ≤ (world_after d x.moment).epoch in subst P quiet.same.start x.epoch;
 }
 
-pub there_since : {p q : Trace} (r : Trace) (key : ℕ) → Quiet p q → (entry : Option Entry) → WasThereIf q r key entry →
-    WasThereIf p r key entry
-there_since r key quiet None x = tt
-there_since {p} {q} r key quiet (Some entry) x = record {
+-- and so was one with its value
+pub held_value_since : {p q r : Trace} {held : Held} {s key value : ℕ} → Quiet p q →
+    WasHeldValue q r held s key value → WasHeldValue p r held s key value
+unfolding held_entry_since
+held_value_since {p} {q} {r} {held} {s} {key} quiet x = record {
+  was = held_entry_since quiet x.was;
+  present = ap (λ (d : Start). set_after (opening_keys d) (world_after d x.was.moment).calls key) (sym quiet.same.start)
+      ∙ x.present;
+  stored = ap (λ (d : Start). values_after (opening_payloads d) (world_after d x.was.moment).calls key)
+      (sym quiet.same.start)
+      ∙ x.stored;
+}
+
+pub there_since : {p q : Trace} (gives : Bool) (r : Trace) (key : ℕ) → Quiet p q → (entry : Option Entry) →
+    WasThereIf gives q r key entry → WasThereIf gives p r key entry
+there_since gives r key quiet None x = tt
+there_since true r key quiet (Some entry) x = full_since quiet x
+there_since {p} {q} false r key quiet (Some entry) x = record {
   moment = x.moment;
   within = moment_after quiet.seen x.within;
   named = named_same quiet.same.start x.named;
 }
 
--- the entry of a node with a value has that value, and was there if the node was one
-pub entry_there : (p q : Trace) (key value : ℕ) (node : Held) →
-    ((s : ℕ) → node.at ≡ Slot s → WasHeldEntry p q node s key) → WasThereIf p q key (entry_of node (Some value))
-entry_there p q key value node shows = go node.at refl
+-- the entry of a node was there if the node was one, and with its value if the call gives it
+pub entry_there : (gives : Bool) (p q : Trace) (key value : ℕ) (node : Held) →
+    ((s : ℕ) → node.at ≡ Slot s → WasHeldEntry p q node s key) →
+    (gives ≡ true → (s : ℕ) → node.at ≡ Slot s → WasHeldValue p q node s key value) →
+    WasThereIf gives p q key (entry_of node (Some value))
+entry_there gives p q key value node shows stores = go gives refl node.at refl
   where
-    go : (place : At) → node.at ≡ place →
-        WasThereIf p q key (entry_at place node.birth value)
-    go (Head b) is = tt
-    go (Slot s) is =
+    go : (full : Bool) → gives ≡ full → (place : At) → node.at ≡ place →
+        WasThereIf full p q key (entry_at place node.birth value)
+    go full same (Head b) is = tt
+    go true same (Slot s) is =
+        let x = stores same s is in
+        record {
+          moment = x.was.moment;
+          within = x.was.within;
+          was = x.present;
+          stored = x.stored;
+          named = record { node = x.was.node; is = x.was.entry };
+        }
+    go false same (Slot s) is =
         let x = shows s is in
         record { moment = x.moment; within = x.within; named = record { node = x.node; is = x.entry } }
 
@@ -89,17 +118,18 @@ entry_answers {N} {kind} {c} {d} node answer gives know key keyed given =
     let E : Option ℕ → Type 0 = λ a. EntryAnswers gives c d (entry_of node a) in
     let with_value : EntryAnswers gives c d (entry_of node (Some given.value)) = record {
       answers = subst L (given.is ∙ sym (entry_value node at_slot.0 given.value at_slot.1)) given.answers;
-      there = entry_there (trace_in c) (trace_in d) c.key given.value node given.shows;
+      there = entry_there gives (trace_in c) (trace_in d) c.key given.value node given.shows given.stores;
       zero = λ bare. zero_value node.at node.birth given.value (given.zero bare);
     } in
     subst E (sym given.is) with_value
 
 -- the birth that a slot showed tells whether it is the entry's still
-pub birth_tells : (p q : PassView) (entry : Entry) (birth : ℕ) → ShowsBirth p.trace q.trace entry.slot birth →
+pub birth_tells : (p q : PassView) (entry : Entry) (birth : ℕ) → entry.slot < p.trace.start.shape.slots →
+    ShowsBirth p.trace q.trace entry.slot birth →
     (answer : Bool) → (birth == entry.birth) ≡ answer → TellsStill p q entry answer
-birth_tells p q entry birth x true same =
-    record { moment = x.moment; within = x.within; shown = x.was ∙ eqb-true birth entry.birth same }
-birth_tells p q entry birth x false other = λ low.
+birth_tells p q entry birth low x true same =
+    record { moment = x.moment; within = x.within; shown = x.was ∙ eqb-true birth entry.birth same; low = low }
+birth_tells p q entry birth low x false other = λ inside.
     record {
       moment = x.moment;
       within = x.within;
@@ -112,6 +142,16 @@ pub tires_entry : {gives : Bool} {p q : PassView} {key budget : ℕ} {refusal : 
     (BoundsOfLookUp (entry_in p.trace gives key) (steps_where gives) p q key budget) p q budget (Err refusal) →
     FindsNamedEntry gives p q key budget (Err refusal)
 tires_entry x = record { calls = x; there = tt; zero = λ bare. tt }
+
+-- a call that gives an entry, as one that gives its value
+pub value_calls : {gives : Bool} {p q : PassView} {key budget : ℕ} (answer : Result (Option Entry) Refusal) →
+    FindsNamedEntry gives p q key budget answer →
+    CallsAs (given_in p.trace (look_up_op gives) key)
+    (BoundsOfLookUp (given_in p.trace (look_up_op gives) key) (steps_where gives) p q key budget) p q budget
+    (value_given answer)
+value_calls (Ok entry) x =
+    calls_read entry (value_of_entry entry) refl (look_up_read entry (value_of_entry entry) refl) x.calls
+value_calls (Err refusal) x = calls_refused look_up_refused x.calls
 
 -- whether there is an entry is whether there is a value
 pub some_entry : (entry : Option Entry) → is_some (value_of_entry entry) ≡ is_some entry

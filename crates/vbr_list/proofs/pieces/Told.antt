@@ -81,7 +81,7 @@ told_since quiet same made = told_as same (made_on quiet made)
 
 -- ---- another answer
 
-calls_read : {A B : Type 0} {f : A → Call} {g : B → Call} {S : Result A Refusal → Type 0}
+pub calls_read : {A B : Type 0} {f : A → Call} {g : B → Call} {S : Result A Refusal → Type 0}
     {T : Result B Refusal → Type 0} {p q : PassView} {budget : ℕ} (reply : A) (given : B) → f reply ≡ g given →
     (S (Ok reply) → T (Ok given)) → CallsAs f S p q budget (Ok reply) → CallsAs g T p q budget (Ok given)
 calls_read {p = p} reply given same bounds x = record {
@@ -94,7 +94,7 @@ calls_read {p = p} reply given same bounds x = record {
   bounds = bounds x.bounds;
 }
 
-calls_refused : {A B : Type 0} {f : A → Call} {g : B → Call} {S : Result A Refusal → Type 0}
+pub calls_refused : {A B : Type 0} {f : A → Call} {g : B → Call} {S : Result A Refusal → Type 0}
     {T : Result B Refusal → Type 0} {p q : PassView} {budget : ℕ} {refusal : Refusal} →
     (S (Err refusal) → T (Err refusal)) → CallsAs f S p q budget (Err refusal) → CallsAs g T p q budget (Err refusal)
 calls_refused bounds x =
@@ -146,8 +146,8 @@ calls_entry (Err refusal) law x = record { calls = x; gives = tt }
 -- ---- what a call promises besides
 
 -- of an answer, returned as another, and of a refusal
-look_up_read : {A B : Type 0} {f : A → Call} {g : B → Call} {reading : ℕ} {p q : PassView} {key budget : ℕ} (reply : A)
-    (given : B) → f reply ≡ g given → BoundsOfLookUp f reading p q key budget (Ok reply) →
+pub look_up_read : {A B : Type 0} {f : A → Call} {g : B → Call} {reading : ℕ} {p q : PassView} {key budget : ℕ}
+    (reply : A) (given : B) → f reply ≡ g given → BoundsOfLookUp f reading p q key budget (Ok reply) →
     BoundsOfLookUp g reading p q key budget (Ok given)
 look_up_read {p = p} {q = q} reply given same x = record {
   only_loads = x.only_loads;
@@ -161,7 +161,7 @@ look_up_read {p = p} {q = q} reply given same x = record {
   disturbed_costs = x.disturbed_costs;
 }
 
-look_up_refused : {A B : Type 0} {f : A → Call} {g : B → Call} {reading : ℕ} {p q : PassView} {key budget : ℕ}
+pub look_up_refused : {A B : Type 0} {f : A → Call} {g : B → Call} {reading : ℕ} {p q : PassView} {key budget : ℕ}
     {refusal : Refusal} → BoundsOfLookUp f reading p q key budget (Err refusal) →
     BoundsOfLookUp g reading p q key budget (Err refusal)
 look_up_refused x =

@@ -94,15 +94,15 @@ three_lost false = omega arith
 three_to_update : (start : Start) → 3 ≤ steps_to_update start
 three_to_update start = grind arith
 
-module _ {N : Type 0} {kind : Ghosts N} (value : ℕ) (wanted : Wanted) (b c d : PendingCall N kind)
+module _ {N : Type 0} {kind : Ghosts N} (wanted : Wanted) (b c d : PendingCall N kind)
     {hand : HandView} (law : PassLaw (pass_in b)) (went : GoesOn c d) where
   -- the slot in hand is published
-  pub stored_as : {first : HandView} (gives : Bool) → IsLinking (3 + each_lost gives) b c hand →
+  pub stored_as : {first : HandView} (value : ℕ) (gives : Bool) → IsLinking (3 + each_lost gives) b c hand →
       (found : Found) → SearchFinds c d found → hand ≡ first → (e : PendingCall N kind) →
       IsSameCall d e → (gives ≡ true → (trace_in b).start.shape.values ≡ true) →
       (there : Option ℕ) → wants wanted there ≡ true → (gives ≡ false → there ≡ None) →
       Changes PIECE value d e hand found there → StoresWanted gives value wanted b e first there
-  stored_as true so found finds is_first e call values None is none x =
+  stored_as value true so found finds is_first e call values None is none x =
       let start = (quiet_until so went).same.start in
       let V : Start → Type 0 = λ s. s.shape.values ≡ true in
       record {
@@ -110,29 +110,30 @@ module _ {N : Type 0} {kind : Ghosts N} (value : ℕ) (wanted : Wanted) (b c d :
         stores = held_stores b c d e law so went found finds call value None is_first
             (linked_stores {c = d} {d = e} value found (subst V (sym start) (values refl)) x);
       }
-  stored_as true so found finds is_first e call values (Some old) is none x =
+  stored_as value true so found finds is_first e call values (Some old) is none x =
       record { is = is; stores = held_stores b c d e law so went found finds call value (Some old) is_first x }
-  stored_as false so found finds is_first e call values None is none x =
+  stored_as value false so found finds is_first e call values None is none x =
       record { is = is; stores = held_linked law so went is_first e value found finds x }
-  stored_as false so found finds is_first e call values (Some old) is none x =
+  stored_as value false so found finds is_first e call values (Some old) is none x =
       absurd (let z : Some old ≡ None = none refl in cc)
 
   -- the call is answered with what is there
   pub told_other : (gives : Bool) → IsLinking (3 + each_lost gives) b c hand → (found : Found) →
       SearchFinds c d found → (e : PendingCall N kind) → Asks d e → (there : Option ℕ) →
       TellsOther gives wanted d e there →
-      SaysUnstored gives value (trace_in b) (trace_in e) b.key b.used e.used b.budget (Otherwise there)
+      SaysUnstored gives (trace_in b) (trace_in e) b.key b.used e.used b.budget (Otherwise there)
   told_other true so found finds e asks there tells = held_told law so went asks found finds there tells.told
   told_other false so found finds e asks there tells =
       let p = trace_in d in
       let few = asks.few in
       let some = three_to_update p.start in
+      λ value.
       held_answers law so went e value false found finds (omega (arith, few, some))
       (told_as (told_bare p.start p.who Insert d.key false) tells.told)
 
   -- there are no steps left
   pub tired_out : (gives : Bool) → IsLinking (3 + each_lost gives) b c hand → SearchTires c d →
-      SaysUnstored gives value (trace_in b) (trace_in d) b.key b.used d.used b.budget (OutOfSteps d.used)
+      SaysUnstored gives (trace_in b) (trace_in d) b.key b.used d.used b.budget (OutOfSteps d.used)
   tired_out true so tired =
       let x = searched_out law so went tired 12 (omega arith, omega arith) in
       record { quiet = quiet_until so went; tires = record { short = x.0; searches = x.1; lacks = x.2 } }

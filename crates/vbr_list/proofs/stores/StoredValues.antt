@@ -19,6 +19,7 @@ use Rattle.vbr_list.specs.updates.HeldStores.{SaysUnstored, StoresOrInserts, Sto
 use Rattle.vbr_list.specs.updates.Holding.{AnswersHeld, StoresHeld}
 use Rattle.vbr_list.specs.updates.Inserting.{CountsWithin, Prepares, RunsShort, SearchedFor, Searches, SearchesInVain}
 use Rattle.vbr_list.specs.updates.Inserting.{TakesNone, TriesFor}
+use Rattle.vbr_list.specs.updates.NewValues.{value_after, value_by}
 use Rattle.vbr_list.specs.updates.Outcomes.{ChangedAsWanted}
 use Rattle.vbr_list.specs.updates.Preparing.{HasPrepared, told_otherwise}
 use Rattle.vbr_list.specs.updates.Settling.{StoredIn, StoredSoon}
@@ -28,6 +29,8 @@ use Rattle.vbr_list.specs.updates.Updating.{CallsUpdate, MayUpdate}
 use Rattle.vbr_list.specs.updates.Wanted.{WasWanted, WasWantedFor, steps_to_compare, wants}
 use Rattle.vbr_at_table.specs.declared.refusal.Refusal.TheVariants.{OutOfSteps as Short}
 use Rattle.vbr_list.specs.declared.call.PendingCall.{PendingCall}
+use Rattle.vbr_list.specs.declared.new_value.NewValue.{NewValue}
+use Rattle.vbr_list.specs.declared.new_value.NewValue.TheVariants.{Exactly, Sum}
 use Rattle.vbr_list.specs.declared.outcome.Outcome.TheVariants.{Changed, Unchanged}
 use Rattle.vbr_list.specs.declared.storing.Unstored.{Unstored}
 use Rattle.vbr_list.specs.declared.storing.Unstored.TheVariants.{Otherwise, OutOfSteps}
@@ -285,6 +288,12 @@ module _ (value : ℕ) {wanted : Wanted} {p q : PassView} {key used budget : ℕ
 
 -- ---- with a slot in hand
 
+-- the value that follows from what was there follows from the answer
+pub value_told : (value : NewValue) (there : Option ℕ) →
+    value_after value there ≡ value_by {E = Refusal} value (Ok there)
+value_told (Exactly value) there = refl
+value_told (Sum delta) there = refl
+
 -- a slot that is published isn't in hand
 pub spent_by : {N : Type 0} {kind : Ghosts N} {gives : Bool} {value : ℕ} {wanted : Wanted} {c d : PendingCall N kind}
     {hand : HandView} {there : Option ℕ} → StoresWanted gives value wanted c d hand there → (pass_in d).hand ≡ None
@@ -452,22 +461,22 @@ module _ {N : Type 0} {kind : Ghosts N} {b d : PendingCall N kind} (r : PassView
   pub calls_unstored : (gives values : Bool) → MayUpdate gives values wanted → {e : Trace} → r.trace ≡ e →
       HasStill q r →
       (why : Unstored) → IfOk (answer_unstored why) (ChangedAsWanted (wants wanted)) →
-      SaysUnstored gives value q.trace e d.key d.used used d.budget why →
+      SaysUnstored gives q.trace e d.key d.used used d.budget why →
       CallsUpdate gives p r b.key value wanted b.budget (answer_unstored why)
   calls_unstored gives values asked back had why is_not says =
-      let S : Trace × ℕ × ℕ → Type 0 = λ x. SaysUnstored gives value q.trace x.0 x.1 d.used used x.2 why in
+      let S : Trace × ℕ × ℕ → Type 0 = λ x. SaysUnstored gives q.trace x.0 x.1 d.used used x.2 why in
       go gives values asked why is_not (subst S (λ i. (sym back i, prepares.call.key i, prepares.call.budget i)) says)
     where
       go : (gives values : Bool) → MayUpdate gives values wanted → (why : Unstored) →
           IfOk (answer_unstored why) (ChangedAsWanted (wants wanted)) →
-          SaysUnstored gives value q.trace r.trace b.key d.used used b.budget why →
+          SaysUnstored gives q.trace r.trace b.key d.used used b.budget why →
           CallsUpdate gives p r b.key value wanted b.budget (answer_unstored why)
       go true values asked (Otherwise there) is x =
           let told = told_since ready.quiet (ap (λ who. given_call who Get b.key there) ready.quiet.same.who) x.told in
           let made : HasMade p.trace r.trace = record { same = told.same; seen = told.seen; is_run = told.is_run } in
           store_told value law (ends_all x.told.seen (λ _. x.told.is_run)) spent (had_on p q r prepares.had had) there
           is told (costs_paid made x.told.seen false (λ yes. absurd (cc)) x.paid)
-      go false values asked (Otherwise there) is x = insert_held asked false (had_on p q r prepares.had had) x
+      go false values asked (Otherwise there) is x = insert_held asked false (had_on p q r prepares.had had) (x value)
       go true values asked (OutOfSteps now) is x =
           calls_tired true values asked had x.quiet x.tires.short x.tires.searches
       go false values asked (OutOfSteps now) is x = calls_tired false values asked had x.quiet x.short x.searches

@@ -6,7 +6,7 @@ use Rattle.vbr_slots.specs.steps.Alone.{IsFresh}
 use Rattle.vbr_slots.specs.steps.Calls.{AddsAnswer, AddsNone, Quiet}
 use Rattle.vbr_slots.specs.views.Views.{knows}
 use Rattle.vbr_at_table.specs.declared.budget.TheConstants.{PIECE}
-use Rattle.vbr_at_table.specs.answers.Records.{WasHeldEntry}
+use Rattle.vbr_at_table.specs.answers.Records.{WasHeldEntry, WasHeldValue}
 use Rattle.vbr_at_table.specs.declared.held.Held.{Held}
 use Rattle.vbr_at_table.specs.declared.rollback.Rollback.{Rollback}
 use Rattle.vbr_list.specs.calls.Budgets.{steps_where}
@@ -59,13 +59,14 @@ pub record LookUpAnswers {N : Type 0} {kind : Ghosts N} (gives : Bool) (c d : Pe
   pub made : MadeGiving (look_up_op gives) c d answer
   pub adds : AddsAnswer (given_in (trace_in c) (look_up_op gives) c.key answer) (trace_in c) (trace_in d)
 
--- the same, with the value of a node that was an entry of the key, or with 0
+-- the same, with the value of a node that was an entry of the key, and had this value then, or with 0
 pub record GivesValueOf {N : Type 0} {kind : Ghosts N} (gives : Bool) (c d : PendingCall N kind) (node : Held) (answer : Option ℕ) : Type 0 where
   pub answers : LookUpAnswers gives c d answer
   pub value : ℕ
   pub is : answer ≡ Some value
   pub zero : gives ≡ false → value ≡ 0
   pub shows : (s : ℕ) → node.at ≡ Slot s → WasHeldEntry (trace_in c) (trace_in d) node s c.key
+  pub stores : gives ≡ true → (s : ℕ) → node.at ≡ Slot s → WasHeldValue (trace_in c) (trace_in d) node s c.key value
 
 -- the same, with no
 pub record GivesNone {N : Type 0} {kind : Ghosts N} (gives : Bool) (c d : PendingCall N kind) (answer : Option ℕ) : Type 0 where

@@ -1,5 +1,5 @@
 -- What is known of an entry: that it was in the map when it was found, and that its slot is still its own.
-use Rattle.std.specs.Prelude.{◌≡◌, ◌≢◌, ℕ, ◌<◌, nat_lt, Bool, true, false, List, Option, Some, None, Result, IfOk, if◌then◌else◌, is_some}
+use Rattle.std.specs.Prelude.{◌≡◌, ◌≢◌, ℕ, ◌<◌, nat_lt, Bool, true, false, List, Option, Some, None, Result, Ok, Err, IfOk, if◌then◌else◌, is_some}
 use Rattle.vbr_words.specs.declared.nodes.Nodes.{Ghosts}
 use Rattle.vbr_words.specs.declared.place.At.{At}
 use Rattle.vbr_words.specs.declared.place.At.TheVariants.{Head, Slot}
@@ -38,6 +38,11 @@ abbrev pub value_of_entry : Option Entry → Option ℕ
 value_of_entry None = None
 value_of_entry (Some entry) = Some entry.value
 
+-- an answer that gives an entry, as one that gives its value
+abbrev pub value_given : {E : Type 0} → Result (Option Entry) E → Result (Option ℕ) E
+value_given (Ok entry) = Ok (value_of_entry entry)
+value_given (Err error) = Err error
+
 -- the entry with none, which is 0
 abbrev pub without_value : Entry → Entry
 without_value entry = record { slot = entry.slot; birth = entry.birth; value = 0 }
@@ -58,11 +63,6 @@ pub record WasThere (p q : Trace) (key : ℕ) (entry : Entry) : Type 0 where
   pub within : Moment p q moment
   pub named : IsNamed p moment key entry
 
--- the entry, if there is one, was there
-abbrev pub WasThereIf : Trace → Trace → ℕ → Option Entry → Type 0
-WasThereIf p q key None = Unit {0}
-WasThereIf p q key (Some entry) = WasThere p q key entry
-
 -- at a moment of what the pass did, the key was in the map with the value of the entry, which names its node
 pub record WasFullEntry (p q : Trace) (key : ℕ) (entry : Entry) : Type 0 where
   pub moment : List Event
@@ -71,12 +71,18 @@ pub record WasFullEntry (p q : Trace) (key : ℕ) (entry : Entry) : Type 0 where
   pub stored : values_after (opening_payloads p.start) (world_after p.start moment).calls key ≡ Some entry.value
   pub named : IsNamed p moment key entry
 
+-- the entry, if there is one, was there: with its value, if the call gives it
+abbrev pub WasThereIf : Bool → Trace → Trace → ℕ → Option Entry → Type 0
+WasThereIf gives p q key None = Unit {0}
+WasThereIf true p q key (Some entry) = WasFullEntry p q key entry
+WasThereIf false p q key (Some entry) = WasThere p q key entry
+
 -- ---- what calls tell
 
 -- the look-up, or the get, is answered with the value of the entry, which was there
 pub record EntryAnswers {N : Type 0} {kind : Ghosts N} (gives : Bool) (c d : PendingCall N kind) (answer : Option Entry) : Type 0 where
   pub answers : LookUpAnswers gives c d (value_of_entry answer)
-  pub there : WasThereIf (trace_in c) (trace_in d) c.key answer
+  pub there : WasThereIf gives (trace_in c) (trace_in d) c.key answer
   pub zero : gives ≡ false → HasNoValue answer
 
 -- the call that it is, as the table of a pass keeps it
@@ -86,25 +92,26 @@ entry_in p gives key entry = given_in p (look_up_op gives) key (value_of_entry e
 -- the same for a whole call. Only contracts of private functions cite this
 pub record FindsNamedEntry (gives : Bool) (p q : PassView) (key budget : ℕ) (answer : Result (Option Entry) Refusal) : Type 0 where
   pub calls : CallsAs (entry_in p.trace gives key) (BoundsOfLookUp (entry_in p.trace gives key) (steps_where gives) p q key budget) p q budget answer
-  pub there : IfOk answer (WasThereIf p.trace q.trace key)
+  pub there : IfOk answer (WasThereIf gives p.trace q.trace key)
   pub zero : gives ≡ false → IfOk answer HasNoValue
 
--- a get that gives the entry: it is the get of its value, and the entry was in the map at a moment of the call
+-- a get that gives the entry: it is the get of its value, and the entry was in the map with this value at a moment of the call
 pub record GetsNamedEntry (p q : PassView) (key budget : ℕ) (answer : Result (Option Entry) Refusal) : Type 0 where
   pub calls : CallsEntry (λ entry. given_call p.trace.who Get key (value_of_entry entry)) (BoundsOfLookUp (λ entry. given_call p.trace.who Get key (value_of_entry entry)) 2 p q key budget) p q budget answer
-  pub there : IfOk answer (WasThereIf p.trace q.trace key)
+  pub there : IfOk answer (WasThereIf true p.trace q.trace key)
 
 -- a look-up that gives the entry, with no value: it is the look-up of the key in a set, and the entry was there at a moment of the call
 pub record HasNamedEntry (p q : PassView) (key budget : ℕ) (answer : Result (Option Entry) Refusal) : Type 0 where
   pub calls : CallsAs (λ entry. set_call p.trace.who Has key (is_some entry)) (BoundsOfLookUp (λ entry. set_call p.trace.who Has key (is_some entry)) 0 p q key budget) p q budget answer
-  pub there : IfOk answer (WasThereIf p.trace q.trace key)
+  pub there : IfOk answer (WasThereIf false p.trace q.trace key)
   pub zero : IfOk answer HasNoValue
 
--- at a moment of what the pass did, the slot of an entry showed its birth
+-- at a moment of what the pass did, the slot of an entry showed its birth, and is one of the shape
 pub record IsStill (p q : PassView) (entry : Entry) : Type 0 where
   pub moment : List Event
   pub within : Moment p.trace q.trace moment
   pub shown : (world_after p.trace.start moment).birth entry.slot ≡ entry.birth
+  pub low : entry.slot < p.trace.start.shape.slots
 
 -- at such a moment it showed another one
 pub record IsGone (p q : PassView) (entry : Entry) : Type 0 where

@@ -1,4 +1,4 @@
--- Where a key stands in the list of its bucket: behind which place, and before which node.
+-- Where a key stands in the list of its bucket: after which place, and before which node.
 use Rattle.std.specs.Prelude.{◌≡◌, ℕ, ◌≤◌, ◌==◌, Bool, false, Option, Some, None}
 use Rattle.vbr_machine.specs.Start.{Start}
 use Rattle.vbr_words.specs.Words.{link_of}

@@ -53,16 +53,16 @@ pub record TiresHolding (p q : Trace) (key before used budget : ℕ) : Type 0 wh
   pub quiet : Quiet p q
   pub tires : TiresStoring p q key before used budget
 
--- why the value isn't stored, or inserted
-abbrev pub SaysUnstored : Bool → ℕ → Trace → Trace → ℕ → ℕ → ℕ → ℕ → Unstored → Type 0
-SaysUnstored true value p q key before since budget (Otherwise there) = AnswersOther p q key before since budget there
-SaysUnstored true value p q key before since budget (OutOfSteps used) = TiresHolding p q key before used budget
-SaysUnstored false value p q key before since budget (Otherwise there) = AnswersHeld p q key value before since false
-SaysUnstored false value p q key before since budget (OutOfSteps used) = TiresHeld p q key before used budget
+-- why no value is stored, or inserted; an insert that is answered no has none, whichever it was to insert
+abbrev pub SaysUnstored : Bool → Trace → Trace → ℕ → ℕ → ℕ → ℕ → Unstored → Type 0
+SaysUnstored true p q key before since budget (Otherwise there) = AnswersOther p q key before since budget there
+SaysUnstored true p q key before since budget (OutOfSteps used) = TiresHolding p q key before used budget
+SaysUnstored false p q key before since budget (Otherwise there) = (value : ℕ) → AnswersHeld p q key value before since false
+SaysUnstored false p q key before since budget (OutOfSteps used) = TiresHeld p q key before used budget
 
 -- the slot is in hand as before; a call that was answered found the key in another state than is wanted
-pub record KeepsUnstored {N : Type 0} {kind : Ghosts N} (gives : Bool) (value : ℕ) (wanted : Wanted) (c d : PendingCall N kind) (hand : HandView) (told : HandView × Unstored) : Type 0 where
+pub record KeepsUnstored {N : Type 0} {kind : Ghosts N} (gives : Bool) (wanted : Wanted) (c d : PendingCall N kind) (hand : HandView) (told : HandView × Unstored) : Type 0 where
   pub same : told.0 ≡ hand
   pub has : HasHandAndRoom (pass_in d) told.0
   pub is_not : IfOk (answer_unstored told.1) (ChangedAsWanted (wants wanted))
-  pub says : SaysUnstored gives value (trace_in c) (trace_in d) c.key c.used d.used c.budget told.1
+  pub says : SaysUnstored gives (trace_in c) (trace_in d) c.key c.used d.used c.budget told.1

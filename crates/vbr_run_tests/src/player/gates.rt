@@ -34,7 +34,7 @@ fn play_at<G, Told, F: FnOnce(Config, &mut &[u8], &mut Vec<u8>, &G) -> Result<To
 }
 
 /// A gate at which worker 0 waits before line 0 until worker 1 has its reply to line 1, and worker 1 waits
-/// before line 1 until worker 0 has come. Where one of them plays its line to the end before the other
+/// before line 1 until worker 0 has come. If one of them plays its line to the end before the other
 /// begins, the first of the two waits in vain, and gives up.
 #[derive(Drop)]
 struct Crossing {
@@ -52,7 +52,7 @@ impl Crossing {
         }
     }
 
-    // Waits until a flag is set. Where it isn't set for too long, that is noted.
+    // Waits until a flag is set. If it isn't set for too long, that is noted.
     fn wait_for(&self, flag: &AtomicBool) {
         for _ in 0..LOOKS {
             if flag.load(Ordering::SeqCst) {

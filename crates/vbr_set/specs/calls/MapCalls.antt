@@ -10,6 +10,7 @@ use Rattle.vbr_slots.specs.steps.Calls.{made_by}
 use Rattle.vbr_slots.specs.views.Views.{Trace}
 use Rattle.vbr_at_table.specs.hands.KeptSlots.{KeepsSlots}
 use Rattle.vbr_list.specs.updates.Expecting.{removal_call}
+use Rattle.vbr_list.specs.updates.NewValues.{sum_in}
 use Rattle.vbr_list.specs.calls.CallBounds.{BoundsOfInsert, BoundsOfLookUp}
 use Rattle.vbr_list.specs.updates.Storing.{BoundsOfStore, stored_calls}
 use Rattle.vbr_list.specs.traversals.Leaving.{BoundsOfRemove}
@@ -61,6 +62,10 @@ ReplacesEntry m n key value budget answer = StoresEntry m n key value Present bu
 -- a put stores in any case
 abbrev pub PutsEntry : MemberView → MemberView → ℕ → ℕ → ℕ → Result (Option ℕ) Refusal → Type 0
 PutsEntry m n key value budget answer = StoresEntry m n key value Anything budget answer
+
+-- a fetch-and-add stores in any case too: the sum with what was there, or what is added if none was
+abbrev pub AddsEntry : MemberView → MemberView → ℕ → ℕ → ℕ → Result (Option ℕ) Refusal → Type 0
+AddsEntry m n key delta budget answer = StoresEntry m n key (sum_in delta answer) Anything budget answer
 
 -- an exchange stores if the expected value is there
 abbrev pub ExchangesEntry : MemberView → MemberView → ℕ → ℕ → ℕ → ℕ → Result (Option ℕ) Refusal → Type 0

@@ -32,15 +32,15 @@ use Rattle.vbr_set.specs.declared.record_refusals.HoldRefusal.TheVariants as hol
 
 -- ---- entries
 
--- a get that gives the entry is answered like the get of its value, and the entry was in the map at a moment of the call
+-- a get that gives the entry is answered like the get of its value, and the entry was in the map with this value at a moment of the call
 pub record GetsNamed (c d : CallerView) (key budget : ℕ) (answer : Result (Option Entry) Refusal) : Type 0 where
   pub gets : CallsBy MapAnswersAll (one (λ entry. given_call c.pass.trace.who Get key (value_of_entry entry))) (BoundsOfLookUp (λ entry. given_call c.pass.trace.who Get key (value_of_entry entry)) 2 c.pass d.pass key budget) c d budget answer
-  pub there : IfOk answer (WasThereIf c.pass.trace d.pass.trace key)
+  pub there : IfOk answer (WasThereIf true c.pass.trace d.pass.trace key)
 
 -- a look-up of a set that gives the entry, with no value, is answered like a look-up, and the entry was in the set at a moment of the call
 pub record HasNamed (c d : CallerView) (key budget : ℕ) (answer : Result (Option Entry) Refusal) : Type 0 where
   pub looks : CallsBy AnswersAll (one (λ entry. set_call c.pass.trace.who Has key (is_some entry))) (BoundsOfLookUp (λ entry. set_call c.pass.trace.who Has key (is_some entry)) 0 c.pass d.pass key budget) c d budget answer
-  pub there : IfOk answer (WasThereIf c.pass.trace d.pass.trace key)
+  pub there : IfOk answer (WasThereIf false c.pass.trace d.pass.trace key)
   pub zero : IfOk answer HasNoValue
 
 -- the same for members

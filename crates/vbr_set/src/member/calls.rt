@@ -1,5 +1,5 @@
 //! The calls of a member.
-ghost use Rattle.std.specs.Prelude.{◌≡◌};
+ghost use Rattle.std.specs.Prelude.{◌≡◌, ◌≤◌};
 ghost use Rattle.vbr_machine.specs.declared.history.Op.TheVariants.{Insert, Remove, Has};
 ghost use Rattle.vbr_set.specs.calls.Members.{Called};
 ghost use Rattle.vbr_slots.specs.views.Views.{IsOf};
@@ -51,6 +51,13 @@ impl<N: Nodes> Member<N> {
         ensures { result ≡ self.now.set.start.shape }
     {
         self.share.set().shape()
+    }
+
+    /// How many slots lie in the shared pool of its set, as [`crate::VbrSet::free_about`] counts them.
+    pub fn free_about(&self) -> u32
+        ensures { result ≤ self.now.set.start.shape.slots }
+    {
+        self.share.set().free_about()
     }
 
     /// The number of passes that its set was opened with.

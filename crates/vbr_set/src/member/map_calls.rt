@@ -1,7 +1,7 @@
 //! The calls of a member of a map: inserts, removes, gets and stores.
 ghost use Rattle.std.specs.Prelude.{◌≡◌};
 ghost use Rattle.vbr_list.specs.updates.Outcomes.{ChangedIfExpected, there_in};
-ghost use Rattle.vbr_set.specs.calls.MapCalls.{ExchangesEntry, GetsEntry, GetsOrInsertsEntry, InsertsEntry, PutsEntry, RemovesEntry, RemovesIf, ReplacesEntry};
+ghost use Rattle.vbr_set.specs.calls.MapCalls.{AddsEntry, ExchangesEntry, GetsEntry, GetsOrInsertsEntry, InsertsEntry, PutsEntry, RemovesEntry, RemovesIf, ReplacesEntry};
 
 use crate::at_set::at_set;
 use crate::member::Member;
@@ -71,6 +71,19 @@ impl Member<Entries> {
         ensures aside { self.new.aside ≡ self.old.aside }
     {
         let answer = at_set!(self.share.set(), self.pass).put(key, value, budget);
+        self.balance = self
+            .balance
+            .wrapping_add(one_if_wanted(&answer, Wanted::Absent));
+        answer
+    }
+
+    /// [`AtSet::fetch_add`] by its pass.
+    #[inline]
+    pub fn fetch_add(&mut self, key: u64, delta: u64, budget: u32) -> Result<Option<u64>, Refusal>
+        ensures told { AddsEntry self.old self.new key delta budget result }
+        ensures aside { self.new.aside ≡ self.old.aside }
+    {
+        let answer = at_set!(self.share.set(), self.pass).fetch_add(key, delta, budget);
         self.balance = self
             .balance
             .wrapping_add(one_if_wanted(&answer, Wanted::Absent));

@@ -2,7 +2,7 @@
 ghost use Rattle.std.specs.Prelude.{◌≡◌, None};
 ghost use Rattle.vbr_slots.specs.views.Views.{IsOf};
 ghost use Rattle.vbr_list.specs.updates.Outcomes.{ChangedIfExpected, there_in};
-ghost use Rattle.vbr_set.specs.calls.MapCalls.{ExchangesEntry, GetsEntry, GetsOrInsertsEntry, InsertsEntry, PutsEntry, RemovesEntry, RemovesIf, ReplacesEntry, StoresEntry};
+ghost use Rattle.vbr_set.specs.calls.MapCalls.{AddsEntry, ExchangesEntry, GetsEntry, GetsOrInsertsEntry, InsertsEntry, PutsEntry, RemovesEntry, RemovesIf, ReplacesEntry, StoresEntry};
 ghost use Rattle.vbr_set.specs.calls.Members.{as_member};
 
 use crate::at_set::AtSet;
@@ -119,6 +119,23 @@ impl VbrSet<Entries> {
             key value budget result }
     {
         AtSet { set: self, pass }.put(key, value, budget)
+    }
+
+    /// [`AtSet::fetch_add`] by a pass.
+    #[inline]
+    pub fn fetch_add(
+        &self,
+        pass: &mut Pass,
+        key: u64,
+        delta: u64,
+        budget: u32,
+    ) -> Result<Option<u64>, Refusal>
+        requires own { IsOf pass.old.trace self.now }
+        requires empty_hand { pass.old.hand ≡ None }
+        ensures { AddsEntry (as_member self.now pass.old) (as_member self.now pass.new)
+            key delta budget result }
+    {
+        AtSet { set: self, pass }.fetch_add(key, delta, budget)
     }
 
     /// [`AtSet::get_or_insert`] by a pass.

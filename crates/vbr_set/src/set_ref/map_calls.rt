@@ -1,6 +1,6 @@
 //! The calls of a pass with a reference to its map: inserts, removes, gets and stores.
 ghost use Rattle.vbr_list.specs.updates.Outcomes.{ChangedIfExpected, there_in};
-ghost use Rattle.vbr_set.specs.calls.MapCalls.{ExchangesEntry, GetsEntry, GetsOrInsertsEntry, InsertsEntry, PutsEntry, RemovesEntry, RemovesIf, ReplacesEntry};
+ghost use Rattle.vbr_set.specs.calls.MapCalls.{AddsEntry, ExchangesEntry, GetsEntry, GetsOrInsertsEntry, InsertsEntry, PutsEntry, RemovesEntry, RemovesIf, ReplacesEntry};
 
 use crate::at_set::at_set;
 use crate::set_ref::VbrSetRef;
@@ -55,6 +55,14 @@ impl<'s> VbrSetRef<'s, Entries> {
         ensures { PutsEntry self.old self.new key value budget result }
     {
         at_set!(self.set, self.pass).put(key, value, budget)
+    }
+
+    /// [`AtSet::fetch_add`] by its pass.
+    #[inline]
+    pub fn fetch_add(&mut self, key: u64, delta: u64, budget: u32) -> Result<Option<u64>, Refusal>
+        ensures { AddsEntry self.old self.new key delta budget result }
+    {
+        at_set!(self.set, self.pass).fetch_add(key, delta, budget)
     }
 
     /// [`AtSet::compare_exchange`] by its pass.

@@ -36,7 +36,7 @@ pub record IsJoined (t : TableView) (seat : Seat (Unit {0}) (List Witness)) : Ty
 
 -- a stepper of this pass with what is kept
 abbrev pub stepper_with : Trace → Halted → StepperInside
-stepper_with trace kept = record { runner = trace; pool = kept.pool; hand = kept.hand; tried = kept.tried }
+stepper_with trace kept = record { runner = trace; pool = kept.pool; hand = kept.hand; tried = kept.tried; tally = kept.tally }
 
 -- what is kept is all of the pass but its seat: with a seat that has the witness of the pass alone it is that pass again
 pub record IsKeptOf (p : PassView) (kept : Halted) : Type 0 where

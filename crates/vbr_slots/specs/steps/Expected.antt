@@ -1,4 +1,4 @@
--- What the steps tell that expect a word: exchanges, and the loads that answer a call.
+-- What the steps show that expect a word: exchanges, and the loads that answer a call.
 use Rattle.std.specs.Prelude.{◌≡◌, ◌≢◌, ℕ, None}
 use Rattle.vbr_words.specs.declared.place.At.{At}
 use Rattle.vbr_machine.specs.declared.event.Step.{Step}

@@ -1,4 +1,4 @@
--- What the steps tell that take a slot out of the shared pool, and that bear in a slot of the pass.
+-- What the steps show that take a slot out of the shared pool, and that bear in a slot of the pass.
 use Rattle.std.specs.Prelude.{◌≡◌, ℕ, true, false, Contains, Option, Some}
 use Rattle.vbr_words.specs.Flags.{has_flag}
 use Rattle.vbr_machine.specs.Acceptance.{MayBear, stamp_in}

@@ -1,4 +1,4 @@
--- Loads in a row that end with a read of the epoch, which checks them where it stayed.
+-- Loads in a row that end with a read of the epoch, which checks them if it stayed.
 use Rattle.std.specs.Prelude.{ℕ}
 use Rattle.vbr_machine.specs.declared.event.Step.{Step}
 use Rattle.vbr_machine.specs.declared.event.Step.TheVariants.{ReadEpoch, LoadBirth, LoadLink}

@@ -11,8 +11,8 @@ use vbr_machine::Step;
 use vbr_words::{Nodes, Place};
 
 impl<N: Nodes> AtTable<'_, N> {
-    /// Reads the epoch, in one step. Where it is the one that the pass read last, its pending reads
-    /// are checked; where it has moved, the pass knows of no reads any more.
+    /// Reads the epoch, in one step. If it is the one that the pass read last, its pending reads
+    /// are checked; if it has moved, the pass knows of no reads any more.
     #[inline]
     pub fn read_epoch(&mut self) -> u64
         ensures table { IsSameTable self.old self.new }

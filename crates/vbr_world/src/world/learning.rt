@@ -17,7 +17,7 @@ use vbr_machine::{Call, Event};
 
 impl Lists {
     // The pass learns from an accepted step, and the calls of a step that succeeds are kept. All
-    // memory is taken before anything changes, and it lacks only where a list gets longer.
+    // memory is taken before anything changes, and it lacks only if a list gets longer.
     pub(super) fn learn(&mut self, event: &Event, found: u128) -> Result<(), AllocError>
         requires accepted { IsAcceptedIn self.old event.now }
         requires found { found ≡ found_in self.old event.now.step }

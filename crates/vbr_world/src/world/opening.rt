@@ -105,7 +105,7 @@ impl Lists {
     }
 }
 
-// The value with a number, or 0 where there is none.
+// The value with a number, or 0 if there is none.
 fn value_at(values: &[u64], number: usize) -> u64
     ensures { result ≡ slice_index_or values.now number 0 }
 {

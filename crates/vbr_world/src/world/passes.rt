@@ -422,7 +422,7 @@ impl PassState {
         WideWord::of(self.new_link(start, step))
     }
 
-    // The key of a slot in hand; 0 where there is none.
+    // The key of a slot in hand; 0 if there is none.
     pub fn key_in_hand(&self, slot: u32) -> u64
         requires { slot < length self.now.own }
         ensures { result ≡ key_in_hand ((know_of self.now).own slot) }

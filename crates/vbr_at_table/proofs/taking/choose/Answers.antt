@@ -3,6 +3,8 @@ use Rattle.std.proofs.lemmas.Result.{err_from_is_err_and}
 use Rattle.vbr_words.specs.Dimensions.{Dimensions}
 use Rattle.vbr_machine.specs.Start.{Start, IsStart}
 use Rattle.vbr_slots.proofs.Lemmas.{did_run}
+use Rattle.vbr_slots.specs.views.Views.{Did, KeepsPool, PassView}
+use Rattle.vbr_machine.specs.declared.event.Step.TheVariants.{ReadEpoch}
 use Rattle.vbr_at_table.specs.pools.Pieces.{Chooses, IsChosen}
 use Rattle.vbr_at_table.proofs.own_slots.Choosing.{chooses_refl, short_first, chooses_then, short_then, chosen_then}
 use Rattle.vbr_at_table.proofs.own_slots.Choosing.{full_then}
@@ -90,8 +92,8 @@ returns-then-epoch-last_epoch-clause-none g c =
 
 -- ---- the epoch is advanced, and read again
 
-pub advance-requires-clause-some : goal.advance-requires-clause-some
-advance-requires-clause-some g c =
+pub advance-is_won-requires-clause-some : goal.advance-is_won-requires-clause-some
+advance-is_won-requires-clause-some g c =
     let q = c.read_epoch-epoch.new.self.stepper.now.trace in
     let is : IsStart q.start =
     subst IsStart (sym c.scan.new.at.own.1 ∙ c.scan.ensures.scans.quiet.same.start) c.shape.ensures.is_start in
@@ -99,8 +101,8 @@ advance-requires-clause-some g c =
     let some = read_some q.start q.passes q.seen q.who is (did_run c.read_epoch-epoch.ensures.step) in
     omega arith
 
-pub advance-requires-clause-below_last : goal.advance-requires-clause-below_last
-advance-requires-clause-below_last g c =
+pub advance-is_won-requires-clause-below_last : goal.advance-is_won-requires-clause-below_last
+advance-is_won-requires-clause-below_last g c =
     let q = c.read_epoch-epoch.new.self.stepper.now.trace in
     let shapes : c.scan.new.at.slots.now.start ≡ q.start =
     sym c.scan.new.at.own.1 ∙ c.scan.ensures.scans.quiet.same.start in
@@ -121,14 +123,19 @@ raised : (g : Over) (c : After-pool g) →
     IsChosen c.args.at.now.stepper.now c.read_epoch.new.self.stepper.now c.args.budget c.args.used
     ((0, get_or c.pool.result.now 0 0), c.in_ok-found.used + 2)
 raised g c =
-    let raise = tried c.advance.result c.advance.ensures.step in
+    let raise = tried c.advance-is_won.result c.advance-is_won.ensures.step in
+    let counted = c.count_advance.ensures in
+    let last = c.read_epoch.new.self.stepper.now in
+    let read = subst (λ (p : PassView). Did ReadEpoch p.trace last.trace c.read_epoch.result) counted
+    c.read_epoch.ensures.step in
+    let pool = subst (λ (p : PassView). KeepsPool p last) counted c.read_epoch.ensures.pool in
     raised_then c.args.at.now.stepper.now c.read_epoch-epoch.new.self.stepper.now c.scan.new.at.stepper.now
     c.read_epoch-epoch.result c.args.budget c.args.used c.read_epoch-epoch.ensures.step
     (c.affords.ensures.0 c.if-not-affords.false) c.read_epoch-epoch.ensures.pool c.scan.ensures.scans
     c.in_ok-found.found c.in_ok-found.used c.in_ok-found.ensures.scanned
-    (none_left c.in_ok-found.found c.in_default.not-Some) c.law.ensures c.advance.new.self.stepper.now
-    c.read_epoch.new.self.stepper.now raise.0 c.read_epoch.result raise.1 c.read_epoch.ensures.step raise.2
-    c.read_epoch.ensures.pool c.requires.empty_hand c.pool.result.now c.pool.ensures.pool c.requires.some
+    (none_left c.in_ok-found.found c.in_default.not-Some) c.law.ensures c.advance-is_won.new.self.stepper.now
+    c.read_epoch.new.self.stepper.now raise.0 c.read_epoch.result raise.1 read raise.2
+    pool c.requires.empty_hand c.pool.result.now c.pool.ensures.pool c.requires.some
     (c.affords-2.ensures.0 c.if-not-affords-2.false)
 
 pub returns-clause-chooses : goal.returns-clause-chooses

@@ -9,4 +9,4 @@ returns-clause-tells g c =
     let q = c.during-shown.new.self in
     let birth = c.during-shown.result in
     let shown : ShowsBirth p.trace q.trace c.args.entry.now.slot birth = search rules in
-    birth_tells p q c.args.entry.now birth shown _ refl
+    birth_tells p q c.args.entry.now birth (search rules) shown _ refl

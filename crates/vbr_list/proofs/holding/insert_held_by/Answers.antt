@@ -39,5 +39,5 @@ returns-in-Err-clause-inserts g c =
       since = c.store_held.new.self.used;
       took = took_all x.counts.counts;
       published = tt;
-      kept = kept_held c.in-Err.back c.in-Err.why c.in-Err.ensures.kept;
+      kept = kept_held c.args.value c.in-Err.back c.in-Err.why c.in-Err.ensures.kept;
     })

@@ -15,6 +15,8 @@ use Rattle.vbr_list.proofs.look_ups.Sights.{few_to_answer}
 use Rattle.vbr_list.proofs.inserts.Sufficing.{took_alone}
 use Rattle.vbr_list.proofs.pieces.Tiring.{look_up_tires}
 use Rattle.vbr_list.proofs.pieces.Told.{answer_since, call_answered, given_same, told_since}
+use Rattle.vbr_list.specs.named_entries.Entries.{value_of_entry}
+use Rattle.vbr_list.proofs.named_entries.EntryAnswers.{there_since, tires_entry}
 use Rattle.vbr_list.specs.calls.Words.{wide_sight}
 use Rattle.vbr_list.proofs.looking_up.look_up.Goals as goal
 
@@ -88,22 +90,22 @@ returns-in-Ok-clause-took g c =
     (counts_on (goes_on c.loop-sight.invariant.3.tries.goes c.search_past.ensures.goes.goes).counts
     c.settle_look_up.ensures.settles.counts))
 
-pub returns-in_default-clause-calls : goal.returns-in_default-clause-calls
-returns-in_default-clause-calls g c =
+pub returns-in_default-clause-finds : goal.returns-in_default-clause-finds
+returns-in_default-clause-finds g c =
     let same : c.stepper-1.given.0 ≡ c.search_past.new.self.at.stepper.now = search rules in
     let tired = c.in_default.ensures.tired in
     let looks = rw (c.loop-sight.invariant.0.key ∙ c.loop-sight.invariant.1) at tired.looks in
     let within =
     rw c.loop-sight.invariant.2 at (within_call (call_on c.loop-sight.invariant.0 c.search_past.ensures.goes.call)) in
-    rw same (look_up_tires c.law.ensures c.args.key c.loop-sight.invariant.3.tries c.search_past.ensures.goes.goes
-    within
-    (rw (c.loop-sight.invariant.0.budget ∙ c.loop-sight.invariant.2) at tired.tired) (search rules)
+    rw same (tires_entry (look_up_tires c.law.ensures c.args.key c.loop-sight.invariant.3.tries
+    c.search_past.ensures.goes.goes
+    within (rw (c.loop-sight.invariant.0.budget ∙ c.loop-sight.invariant.2) at tired.tired) (search rules)
     (few_to_answer c.args.gives) c.loop-sight.invariant.3.observes c.search_past.ensures.observes
     c.loop-sight.invariant.4
-    looks)
+    looks))
 
-pub returns-then-not-affords-clause-calls : goal.returns-then-not-affords-clause-calls
-returns-then-not-affords-clause-calls g c =
+pub returns-then-not-affords-clause-finds : goal.returns-then-not-affords-clause-finds
+returns-then-not-affords-clause-finds g c =
     let same : c.stepper-then-not-affords-1.given.0 ≡ c.search_past.new.self.at.stepper.now = search rules in
     let looks = rw (c.loop-sight.invariant.0.key ∙ c.loop-sight.invariant.1) at c.in-Some.ensures.sight.looks in
     let budget = c.search_past.ensures.goes.call.budget ∙ c.loop-sight.invariant.0.budget ∙ c.loop-sight.invariant.2 in
@@ -111,14 +113,14 @@ returns-then-not-affords-clause-calls g c =
     c.affords.ensures.1 in
     let within =
     rw c.loop-sight.invariant.2 at (within_call (call_on c.loop-sight.invariant.0 c.search_past.ensures.goes.call)) in
-    rw same (look_up_tires c.law.ensures c.args.key c.loop-sight.invariant.3.tries c.search_past.ensures.goes.goes
-    within
-    (rw budget at short) (search rules) (few_to_answer c.args.gives) c.loop-sight.invariant.3.observes
+    rw same (tires_entry (look_up_tires c.law.ensures c.args.key c.loop-sight.invariant.3.tries
+    c.search_past.ensures.goes.goes
+    within (rw budget at short) (search rules) (few_to_answer c.args.gives) c.loop-sight.invariant.3.observes
     c.search_past.ensures.observes c.loop-sight.invariant.4
-    (looked_again c.law.ensures c.loop-sight.invariant.3.tries.goes.quiet c.search_past.ensures.goes.goes.quiet looks))
+    (looked_again c.law.ensures c.loop-sight.invariant.3.tries.goes.quiet c.search_past.ensures.goes.goes.quiet looks)))
 
-pub returns-in-Ok-clause-calls : goal.returns-in-Ok-clause-calls
-returns-in-Ok-clause-calls g c =
+pub returns-in-Ok-clause-finds : goal.returns-in-Ok-clause-finds
+returns-in-Ok-clause-finds g c =
     let same : c.stepper-in-Ok-1.given.0 ≡ c.settle_look_up.new.self.at.stepper.now = search rules in
     let p = c.args.stepper.now in
     let r = c.settle_look_up.new.self.at.stepper.now in
@@ -127,8 +129,8 @@ returns-in-Ok-clause-calls g c =
     let call = call_on (call_on c.loop-sight.invariant.0 c.search_past.ensures.goes.call)
     c.settle_look_up.ensures.settles.call in
     let key = c.search_past.ensures.goes.call.key ∙ c.loop-sight.invariant.0.key ∙ c.loop-sight.invariant.1 in
-    let answered = rw key at c.in-Ok.ensures.answers.made in
-    let made = told_since first (given_same first.same op c.args.key c.in-Ok.answer) answered in
+    let answered = rw key at c.in-Ok.ensures.answers.answers.made in
+    let made = told_since first (given_same first.same op c.args.key (value_of_entry c.in-Ok.answer)) answered in
     let before = observes_on c.loop-sight.invariant.3.observes c.search_past.ensures.observes in
     let counts =
     counts_on (goes_on c.loop-sight.invariant.3.tries.goes c.search_past.ensures.goes.goes).counts
@@ -146,19 +148,24 @@ returns-in-Ok-clause-calls g c =
     let paid : TookWithin p.trace r.trace
     (costs_among n (disturbed p.trace r.trace c.args.key) (steps_where c.args.gives)) =
     within_of c.settle_look_up.new.self.used _ (omega (arith, all)) counts in
-    rw same (call_answered c.in-Ok.answer c.law.ensures made (search rules) counts
-    (rw c.loop-sight.invariant.2 at (within_call call))
-    (record {
-      only_loads = loads_on before.only_loads c.settle_look_up.ensures.only_loads;
-      adds = answer_since first.same before.adds_none op c.args.key c.in-Ok.answer
-          (rw key at c.in-Ok.ensures.answers.adds);
-      adds_none = tt;
-      takes_no_slot =
-          none_on (goes_on c.loop-sight.invariant.3.tries.goes c.search_past.ensures.goes.goes).hand.takes_no_slot
-          c.settle_look_up.ensures.settles.hand.takes_no_slot;
-      refused = tt;
-      within = tt;
-      disturbed_within = tt;
-      costs = took_alone (λ t. costs_among n t (steps_where c.args.gives)) c.args.key paid (omega arith);
-      disturbed_costs = paid;
-    }))
+    rw same (record {
+      calls = call_answered c.in-Ok.answer c.law.ensures made (search rules) counts
+          (rw c.loop-sight.invariant.2 at (within_call call))
+          (record {
+            only_loads = loads_on before.only_loads c.settle_look_up.ensures.only_loads;
+            adds = answer_since first.same before.adds_none op c.args.key (value_of_entry c.in-Ok.answer)
+                (rw key at c.in-Ok.ensures.answers.answers.adds);
+            adds_none = tt;
+            takes_no_slot =
+                none_on (goes_on c.loop-sight.invariant.3.tries.goes c.search_past.ensures.goes.goes).hand.takes_no_slot
+                c.settle_look_up.ensures.settles.hand.takes_no_slot;
+            refused = tt;
+            within = tt;
+            disturbed_within = tt;
+            costs = took_alone (λ t. costs_among n t (steps_where c.args.gives)) c.args.key paid (omega arith);
+            disturbed_costs = paid;
+          });
+      there = there_since c.args.gives r.trace c.args.key first c.in-Ok.answer
+          (rw key at c.in-Ok.ensures.answers.there);
+      zero = c.in-Ok.ensures.answers.zero;
+    })

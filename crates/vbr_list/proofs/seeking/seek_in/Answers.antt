@@ -1,10 +1,11 @@
-use Rattle.vbr_list.proofs.Names.{◌+◌, refl, ap, arith}
+use Rattle.vbr_list.proofs.Names.{◌+◌, refl, ap, arith, PassView, sym, subst}
 use Rattle.vbr_list.specs.calls.Budgets.{steps_to_value_of}
 use Rattle.vbr_list.specs.look_ups.Seeking.{steps_besides}
+use Rattle.vbr_list.specs.calls.Pieces.{Peeks}
 use Rattle.vbr_list.proofs.pieces.Going.{table_on}
 use Rattle.vbr_list.proofs.look_ups.Passing.{peeks_on, peeks_refl}
 use Rattle.vbr_list.proofs.look_ups.Following.{tells_since}
-use Rattle.vbr_list.proofs.traversals.Searching.{last_search, lost_on, repeated_none_in}
+use Rattle.vbr_list.proofs.traversals.Searching.{last_search, lost_on, repeated_none_in, HasRepeatedIn}
 use Rattle.vbr_list.proofs.seeking.seek_in.Goals as goal
 
 pub loop-next-init : goal.loop-next-init
@@ -21,10 +22,16 @@ loop-next-preserved g c =
     let y = c.traverse_in.ensures.peeks in
     let stopped = rw c.in-Err-Again.field-0-is at c.in-Err-Again.ensures.stopped in
     let paid = stopped.1 in
-    let same = ap steps_to_value_of x.1.tries.goes.quiet.same.start in (
-      table_on x.0 c.traverse_in.ensures.table,
-      peeks_on x.1 y.tries.goes y.observes y.tries.within.0 y.tries.within.1,
-      lost_on c.law.ensures x.1.tries.goes.quiet y.tries.goes.quiet x.2 (omega (arith, paid, same)) stopped.2,
+    let same = ap steps_to_value_of x.1.tries.goes.quiet.same.start in
+    let counted = c.count_restart.ensures in
+    let before = c.args.at.now.stepper.now in
+    let since = c.traverse_in.new.used in (
+      table_on x.0 (table_on c.traverse_in.ensures.table counted.table),
+      subst (λ (p : PassView). Peeks before p c.args.used since c.args.budget) (sym counted.pass)
+          (peeks_on x.1 y.tries.goes y.observes y.tries.within.0 y.tries.within.1),
+      subst (λ (p : PassView). HasRepeatedIn 5 before.trace p.trace c.args.bucket (steps_besides before.trace)
+          c.args.used since) (sym counted.pass)
+          (lost_on c.law.ensures x.1.tries.goes.quiet y.tries.goes.quiet x.2 (omega (arith, paid, same)) stopped.2),
     )
 
 pub returns-in-Ok-clause-sought : goal.returns-in-Ok-clause-sought

@@ -1,9 +1,12 @@
-use Rattle.vbr_list.proofs.Names.{◌≡◌, rules, refl}
+use Rattle.vbr_list.proofs.Names.{◌≡◌, Err, Ok, rules, refl}
 use Rattle.vbr_list.proofs.Names.{counts_on, had_back, had_on, none_back, none_on, took_all}
+use Rattle.vbr_list.specs.updates.HeldStores.{answer_unstored}
+use Rattle.vbr_list.specs.updates.NewValues.{value_by}
+use Rattle.vbr_list.specs.updates.Outcomes.{there_in}
 use Rattle.vbr_list.specs.updates.Preparing.{HasAnswered, HasPrepared}
 use Rattle.vbr_list.proofs.inserts.Preparing.{within_same}
 use Rattle.vbr_list.proofs.stores.StoredValues.{calls_stored, calls_told, calls_unprepared, calls_unstored}
-use Rattle.vbr_list.proofs.stores.StoredValues.{ends_prepared, spent_by}
+use Rattle.vbr_list.proofs.stores.StoredValues.{ends_prepared, spent_by, value_told}
 use Rattle.vbr_list.proofs.storing.store_by.Goals as goal
 
 pub returns-in-Err-clause-calls : goal.returns-in-Err-clause-calls
@@ -11,7 +14,8 @@ returns-in-Err-clause-calls g c =
     let same : c.stepper-in-Err-1.given.0 ≡ c.prepare.new.self.at.stepper.now = search rules in
     let prepares = c.prepare.ensures.prepares in
     let none = c.in-Err.ensures.refused in
-    rw same (calls_unprepared c.args.value c.law.ensures (ends_prepared refl prepares c.prepare.ensures.tries) none.hand
+    rw same (calls_unprepared (value_by c.args.value (Err c.in-Err.refusal)) c.law.ensures
+    (ends_prepared refl prepares c.prepare.ensures.tries) none.hand
     c.args.gives _ c.requires.asked prepares.had none.quiet c.in-Err.refusal none.says none.so none.searches)
 
 pub returns-in-Ok-Answered-clause-calls : goal.returns-in-Ok-Answered-clause-calls
@@ -21,7 +25,8 @@ returns-in-Ok-Answered-clause-calls g c =
     let there = c.in-Ok-Answered.there in
     let x : HasAnswered c.args.gives c.args.wanted _ c.prepare.new.self there =
     rw c.in-Ok-Answered.field-0-is at c.in-Ok-Answered.ensures.prepared in
-    rw same (calls_told c.args.value c.law.ensures (ends_prepared refl prepares c.prepare.ensures.tries) x.spent
+    rw same (calls_told (value_by c.args.value (Ok there)) c.law.ensures
+    (ends_prepared refl prepares c.prepare.ensures.tries) x.spent
     c.args.gives _ c.requires.asked prepares.had there x.tells.is_not x.tells.told x.searched)
 
 -- ---- with a slot in hand
@@ -39,10 +44,12 @@ returns-in-Ok-clause-calls g c =
     let stored = c.in-Ok.ensures.stored in
     let ready : HasPrepared c.args.wanted _ c.prepare.new.self c.in-Ok-Ready.hand =
     rw c.in-Ok-Ready.field-0-is at c.in-Ok-Ready.ensures.prepared in
-    rw same (calls_stored {d = c.prepare.new.self} c.store_held.new.self.at.stepper.now c.args.value c.args.wanted
-    c.store_held.new.self.used c.law.ensures refl prepares c.prepare.ensures.tries ready
+    let there = c.in-Ok.there in
+    rw same (calls_stored {d = c.prepare.new.self} c.store_held.new.self.at.stepper.now
+    (value_by c.args.value (Ok there)) c.args.wanted c.store_held.new.self.used c.law.ensures refl prepares
+    c.prepare.ensures.tries ready
     (rw prepares.call.budget at x.counts) x.takes_no_slot (spent_by stored) c.args.gives _ c.requires.asked
-    c.in-Ok-Ready.hand c.in-Ok.there stored.is (rw c.in-Ok.is at x.had) stored.stores)
+    c.in-Ok-Ready.hand there stored.is (rw c.in-Ok.is at x.had) (rw (value_told c.args.value there) at stored.stores))
 
 pub returns-in-Ok-clause-changed : goal.returns-in-Ok-clause-changed
 returns-in-Ok-clause-changed g c = c.in-Ok.ensures.stored.is
@@ -70,7 +77,8 @@ returns-in-Err-store_held-clause-calls g c =
     rw c.in-Ok-Ready.field-0-is at c.in-Ok-Ready.ensures.prepared in
     let had = had_on d.at.stepper.now q r (rw c.in-Err-store_held.is at x.had)
     (had_back q r slot kept.has.is.slot back.pool) in
-    rw (same, c.answer.ensures) (calls_unstored {d = d} r c.args.value c.args.wanted e.used c.law.ensures refl prepares
+    rw (same, c.answer.ensures) (calls_unstored {d = d} r (value_by c.args.value (there_in (answer_unstored why)))
+    c.args.wanted e.used c.law.ensures refl prepares
     c.prepare.ensures.tries ready (rw prepares.call.budget at (within_same back.trace x.counts))
     (none_on x.takes_no_slot (none_back q r slot back.trace back.pool back.kept)) back.hand c.args.gives _
     c.requires.asked back.trace had why kept.is_not kept.says)

@@ -46,7 +46,7 @@ impl PassState {
         Ok(self.checked.extend_from_slice(reads)?)
     }
 
-    // The epoch hasn't moved: the pending reads are checked. Memory lacks only where there are any.
+    // The epoch hasn't moved: the pending reads are checked. Memory lacks only if there are any.
     fn confirm(&mut self) -> Result<(), AllocError>
         ensures learned { OnOk result (Learns self.old self.new with_all_checked) }
         ensures refused { OnErr result (self.new ≡ self.old) }

@@ -10,7 +10,7 @@ use Rattle.vbr_list.proofs.look_ups.Sights.{keyed_slot}
 use Rattle.vbr_list.proofs.inserts.Sufficing.{any_error}
 use Rattle.vbr_list.proofs.pieces.Told.{given_kept, told_since}
 use Rattle.vbr_list.proofs.look_ups.ValueReads.{few_read, settles_read, steps_read}
-use Rattle.vbr_list.proofs.named_entries.EntryAnswers.{held_entry_since}
+use Rattle.vbr_list.proofs.named_entries.EntryAnswers.{held_entry_since, held_value_since}
 use Rattle.vbr_at_table.specs.reads.Held.{said_rollback}
 use Rattle.vbr_list.specs.calls.Words.{wide_held}
 use Rattle.vbr_list.proofs.call.PendingCall.give_value.Goals as goal
@@ -116,6 +116,10 @@ returns-in-Ok-clause-answers g c =
       zero = λ bare. absurd (cc);
       shows = λ s at_slot. held_entry_since reads.quiet
           ((rw c.value_if_any-read.ensures.table.slots at c.in-Ok.ensures.there).shows s key at_slot keyed);
+      stores = λ gives s at_slot. held_value_since reads.quiet
+          ((rw c.value_if_any-read.ensures.table.slots at c.in-Ok.ensures.there).stores
+          (ap (λ (d : Start). d.shape.values) reads.quiet.same.start ∙ c.requires.values) s key value at_slot keyed
+          (c.in_ok-value.ensures.value.value c.requires.values));
     }
 
 pub returns-in-Err-clause-rolls : goal.returns-in-Err-clause-rolls

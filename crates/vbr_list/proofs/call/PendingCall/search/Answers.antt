@@ -1,11 +1,12 @@
-use Rattle.vbr_list.proofs.Names.{ap, ◌∙◌, arith}
+use Rattle.vbr_list.proofs.Names.{ap, ◌∙◌, arith, PassView, refl, subst, sym}
 use Rattle.vbr_list.proofs.Names.{bucket_of}
 use Rattle.vbr_list.specs.traversals.Disturbed.{disturbed_at}
 use Rattle.vbr_list.specs.calls.Words.{wide_found}
+use Rattle.vbr_list.specs.calls.Pieces.{Tries}
 use Rattle.vbr_list.proofs.pieces.Going.{call_on, goes_further, tries_on, within_call}
 use Rattle.vbr_list.proofs.traversals.LostTraversals.{searched_none}
 use Rattle.vbr_list.proofs.traversals.Moments.{found_since}
-use Rattle.vbr_list.proofs.traversals.Searching.{last_traversal, lost_on, traverses_again}
+use Rattle.vbr_list.proofs.traversals.Searching.{HasRepeatedIn, last_traversal, lost_on, traverses_again}
 use Rattle.vbr_list.proofs.call.PendingCall.search.Goals as goal
 
 pub loop-found-init : goal.loop-found-init
@@ -16,11 +17,16 @@ loop-found-preserved g c =
     let t = c.traverse.ensures.goes in
     let same = call_on c.loop-found.invariant.0 t.call in
     let stopped =
-    rw c.loop-found.invariant.0.bucket at (rw c.in-Err-Again.field-0-is at c.in-Err-Again.ensures.stopped) in (
-      same,
-      tries_on c.loop-found.invariant.1 t.goes t.more (within_call same),
-      lost_on c.law.ensures c.loop-found.invariant.1.goes.quiet t.goes.quiet c.loop-found.invariant.2 stopped.1
-          stopped.2,
+    rw c.loop-found.invariant.0.bucket at (rw c.in-Err-Again.field-0-is at c.in-Err-Again.ensures.stopped) in
+    let counted = c.count_restart.ensures in (
+      call_on same (record { at = counted.table; key = refl; bucket = refl; budget = refl }),
+      subst (λ (p : PassView). Tries c.args.self.now.at.stepper.now p c.args.self.now.used c.traverse.new.self.used
+          c.args.self.now.budget) (sym counted.pass)
+          (tries_on c.loop-found.invariant.1 t.goes t.more (within_call same)),
+      subst (λ (p : PassView). HasRepeatedIn 9 c.args.self.now.at.stepper.now.trace p.trace c.args.self.now.bucket 3
+          c.args.self.now.used c.traverse.new.self.used) (sym counted.pass)
+          (lost_on c.law.ensures c.loop-found.invariant.1.goes.quiet t.goes.quiet c.loop-found.invariant.2 stopped.1
+          stopped.2),
     )
 
 pub returns-in-Ok-clause-goes : goal.returns-in-Ok-clause-goes

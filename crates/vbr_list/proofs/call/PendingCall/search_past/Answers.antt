@@ -1,9 +1,11 @@
-use Rattle.vbr_list.proofs.Names.{ℕ, ◌+◌, ◌∙◌, subst}
+use Rattle.vbr_list.proofs.Names.{ℕ, ◌+◌, ◌∙◌, subst, PassView, refl, sym}
+use Rattle.vbr_list.specs.calls.Pieces.{Peeks}
 use Rattle.vbr_list.proofs.Names.{begins_run, disturbances_grow, since}
 use Rattle.vbr_list.specs.traversals.Disturbed.{disturbed_at}
 use Rattle.vbr_list.specs.traversals.Places.{sighted}
 use Rattle.vbr_list.specs.traversals.Searching.{RepeatsIn}
-use Rattle.vbr_list.proofs.traversals.Searching.{last_traversal, lost_on, repeated_none_in, stood_from, traverses_again}
+use Rattle.vbr_list.proofs.traversals.Searching.{HasRepeatedIn, last_traversal, lost_on, repeated_none_in, stood_from}
+use Rattle.vbr_list.proofs.traversals.Searching.{traverses_again}
 use Rattle.vbr_list.proofs.traversals.LostTraversals.{run_whole}
 use Rattle.vbr_list.proofs.pieces.Going.{call_on, call_refl, goes_further, within_call}
 use Rattle.vbr_list.proofs.pieces.Observing.{observes_on}
@@ -23,11 +25,17 @@ loop-sight-preserved g c =
     let v = c.traverse_past.ensures.goes in
     let same = call_on c.loop-sight.invariant.0 v.call in
     let stopped =
-    rw c.loop-sight.invariant.0.bucket at (rw c.in-Err-Again.field-0-is at c.in-Err-Again.ensures.stopped) in (
-      same,
-      peeks_on c.loop-sight.invariant.1 v.goes c.traverse_past.ensures.observes v.more (within_call same),
-      lost_on c.law.ensures c.loop-sight.invariant.1.tries.goes.quiet v.goes.quiet c.loop-sight.invariant.2 stopped.1
-          stopped.2,
+    rw c.loop-sight.invariant.0.bucket at (rw c.in-Err-Again.field-0-is at c.in-Err-Again.ensures.stopped) in
+    let counted = c.count_restart.ensures in
+    let before = c.args.self.now in
+    let since = c.traverse_past.new.self.used in (
+      call_on same (record { at = counted.table; key = refl; bucket = refl; budget = refl }),
+      subst (λ (p : PassView). Peeks before.at.stepper.now p before.used since before.budget) (sym counted.pass)
+          (peeks_on c.loop-sight.invariant.1 v.goes c.traverse_past.ensures.observes v.more (within_call same)),
+      subst (λ (p : PassView). HasRepeatedIn 5 before.at.stepper.now.trace p.trace before.bucket 3 before.used since)
+          (sym counted.pass)
+          (lost_on c.law.ensures c.loop-sight.invariant.1.tries.goes.quiet v.goes.quiet c.loop-sight.invariant.2
+          stopped.1 stopped.2),
     )
 
 pub returns-in-Ok-clause-goes : goal.returns-in-Ok-clause-goes

@@ -32,6 +32,7 @@ returns-in-Ok-clause-answers g c =
       is = refl;
       zero = λ bare. refl;
       shows = λ s at_slot. c.in-Ok.ensures.there.shows s key at_slot keyed;
+      stores = λ gives. absurd (cc);
     }
 
 pub returns-in-Err-clause-rolls : goal.returns-in-Err-clause-rolls

@@ -1,5 +1,7 @@
-use Rattle.vbr_list.proofs.Names.{None, refl, Some, ap, arith, ◌∙◌}
+use Rattle.vbr_list.proofs.Names.{ℕ, None, refl, Some, ap, arith, subst, ◌∙◌}
 use Rattle.vbr_list.proofs.Names.{had_on, none_on, quiet_on, Start}
+use Rattle.vbr_list.specs.updates.HeldStores.{StoresWanted}
+use Rattle.vbr_list.specs.updates.NewValues.{value_after}
 use Rattle.vbr_list.specs.updates.Preparing.{AskLoses, TellsOther}
 use Rattle.vbr_list.proofs.pieces.Going.{call_on, within_call}
 use Rattle.vbr_list.proofs.inserts.Linking.{begun, counts_until, had_until, has_until, located, none_until, quiet_until}
@@ -31,7 +33,7 @@ returns-in_default-clause-kept g c =
       same = c.loop-found.invariant.1;
       has = has_until so went;
       is_not = tt;
-      says = tired_out c.args.value c.args.wanted c.args.self.now c.loop-found.self c.reach.new.self c.law.ensures went
+      says = tired_out c.args.wanted c.args.self.now c.loop-found.self c.reach.new.self c.law.ensures went
           c.args.gives so c.in_default.ensures.tired;
     }
 
@@ -101,7 +103,7 @@ returns-in-Otherwise-clause-kept g c =
       same = c.loop-found.invariant.1;
       has = hand_kept c.loop-found.hand asks.hand (has_until so went);
       is_not = told.is_not;
-      says = told_other c.args.value c.args.wanted c.args.self.now c.loop-found.self d c.law.ensures went
+      says = told_other c.args.wanted c.args.self.now c.loop-found.self d c.law.ensures went
           c.args.gives so f c.in-Some.ensures.found e asks c.in-Otherwise.there told;
     }
 
@@ -142,11 +144,13 @@ returns-in-Ok-link_found-clause-stored g c =
     let found = wide_found c.loop-found.self c.in-Some.found in
     let x = rw c.in-None.is at (simp went.call.at.slots at c.in-Ok.ensures.wanted) in
     let call = c.ask.ensures.asks.call in
-    stored_as c.args.value c.args.wanted c.args.self.now c.loop-found.self d c.law.ensures went c.args.gives
+    let S : ℕ → Type 0 = λ value. StoresWanted c.args.gives value c.args.wanted c.args.self.now f c.args.hand None in
+    subst S (c.after-stored.ensures ∙ ap (value_after c.args.value) c.in-None.is)
+    (stored_as c.args.wanted c.args.self.now c.loop-found.self d c.law.ensures went c.after-stored.result c.args.gives
     c.loop-found.invariant.0 found c.in-Some.ensures.found c.loop-found.invariant.1 f
     (call_on call c.link_found.ensures.settles.call) c.requires.asked.values None x.is (λ none. refl)
-    (changes_since d e f found c.law-in-loop-found.ensures call x.used x.read x.keeps c.args.value c.loop-found.hand
-    None x.known c.in-Ok-link_found.ensures.linked)
+    (changes_since d e f found c.law-in-loop-found.ensures call x.used x.read x.keeps c.after-stored.result
+    c.loop-found.hand None x.known c.in-Ok-link_found.ensures.linked))
 
 pub loop-found-preserved-in-Err-link_found : goal.loop-found-preserved-in-Err-link_found
 loop-found-preserved-in-Err-link_found g c =
@@ -225,11 +229,14 @@ returns-in-Ok-replace_and_unlink-clause-stored g c =
     let call = c.ask.ensures.asks.call in
     let replaced = simp (call.at.slots ∙ went.call.at.slots) at c.in-Ok-replace_and_unlink.ensures.replaced in
     let none = absent_none c.args.gives c.args.wanted (Some old) asked.absent x.is in
-    rw c.in-Some-there.is (stored_as c.args.value c.args.wanted c.args.self.now c.loop-found.self d c.law.ensures went
-    c.args.gives c.loop-found.invariant.0 found c.in-Some.ensures.found c.loop-found.invariant.1 f
+    let S : ℕ → Type 0 =
+    λ value. StoresWanted c.args.gives value c.args.wanted c.args.self.now f c.args.hand (Some old) in
+    rw c.in-Some-there.is (subst S (c.after-stored.ensures ∙ ap (value_after c.args.value) c.in-Some-there.is)
+    (stored_as c.args.wanted c.args.self.now c.loop-found.self d c.law.ensures went c.after-stored.result c.args.gives
+    c.loop-found.invariant.0 found c.in-Some.ensures.found c.loop-found.invariant.1 f
     (call_on call c.replace_and_unlink.ensures.settles.call) asked.values (Some old) x.is none
-    (changes_since d e f found c.law-in-loop-found.ensures call x.used x.read x.keeps c.args.value c.loop-found.hand
-    (Some old) x.known (replaced old known).stores))
+    (changes_since d e f found c.law-in-loop-found.ensures call x.used x.read x.keeps c.after-stored.result
+    c.loop-found.hand (Some old) x.known (replaced old known).stores)))
 
 pub loop-found-preserved : goal.loop-found-preserved
 loop-found-preserved g c =

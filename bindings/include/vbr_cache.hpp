@@ -1,0 +1,692 @@
+/* A cache with keys and values of any size, in fixed memory, for C++17 and later: a record map of vbr_record_map.hpp that evicts.
+
+       using users = vbr::cache<vbr::small_string<31>, user>;
+       users cache = users::open_bytes(1 << 20, 8).value();          // in a mebibyte at most, for 8 threads at a time
+       users::loan mine = cache.lend_wait();                         // the right of this thread to make calls
+       users::key_type who = users::key_type::from("ada").value();   // or refusal::too_long
+       std::optional<user> there = mine.get_or_load(who, from_database).value(); // none: the loader gave none
+
+   Keys and values are those of a record map: trivially copyable, and a text or bytes as a small_string or small_bytes. Of two keys with one
+   hash the one that comes later takes the other's place.
+
+   An insert into a full cache evicts by CLOCK (Corbato 1968). A hand goes from slot to slot. An entry that was found since the hand came
+   by, or was given another value, is marked as not used and stays. Another one goes, and so does one that has expired. A new entry counts
+   as not used, so what is asked for once goes at the next round.
+
+   All threads share one hand, which an atomic addition advances for each slot that is looked at. Four threads with a hand each had 0.1 to
+   0.4 fewer hits in 100, among 2,000 entries of 20,000 keys by Zipf 0.7 and 0.99, with scans and without (30 November 2026).
+
+   A hit loads, and stores the mark only if the hand has come by since; besides it counts itself on a line of the cache of the loan's own.
+   All memory is taken at the opening and by renewals, and `bytes` is the most that there is at any moment.
+
+   An entry may have a time to live. When that is over it is a miss, and the call that meets it takes it out.
+
+   Inserts use up epochs, as vbr(3) says. From 7/8 of the last epoch on a call that stores a value renews the cache, unless the program does.
+   Entries go along; which of them were used lately is lost. All loans have to be back for it. So a loan that begins a call meanwhile gives
+   its handle back and borrows another one; no call of the loan tells. Nobody waits more than a millisecond for that until the last epoch is
+   spent, years later in most caches. From then on calls that store a value wait for the other loans: whoever keeps one and makes no call
+   holds them up, and so does a thread that has two.
+
+   All calls give a vbr::result. Those of a loan that has none are refused by refusal::no_handle. Each call of the map that they make has
+   the ample budget; they are refused by refusal::out_of_steps if that was spent, or if others were faster most_attempts times. A call that
+   stores a value is refused by refusal::no_slot only if no entry can go, since other loans keep all slots; by refusal::epoch_spent
+   if the program renews; and by refusal::no_memory if there is none for a renewal. A refused call has changed no value, though another entry
+   may have been evicted. */
+#ifndef VBR_CACHE_HPP
+#define VBR_CACHE_HPP
+
+#include "vbr_record_map.hpp"
+
+#include <condition_variable>
+#include <mutex>
+#include <thread>
+
+namespace vbr {
+
+/* What `compute` is to do with a key: it keeps what it has, there or not; it gets this value, with the time to live of the cache or one of its
+   own, and is inserted if it is absent; it gets this value and expires when it would have; or it is taken out if it is there.
+
+       return tries ? to::update(*tries + 1) : to::put_for(1, 60s); */
+template <class Value>
+class [[nodiscard]] cache_change {
+public:
+    static cache_change keep() noexcept { return {kind::keep}; }
+    static cache_change put(const Value &value) noexcept { return {kind::put, value}; }
+    static cache_change put_for(const Value &value, std::chrono::nanoseconds time) noexcept { return {kind::put, value, time}; }
+    static cache_change update(const Value &value) noexcept { return {kind::update, value}; }
+    static cache_change remove() noexcept { return {kind::remove}; }
+
+private:
+    template <class, class, class>
+    friend class cache_loan;
+    enum class kind { keep, put, update, remove };
+    cache_change(kind which, const std::optional<Value> &stored = std::nullopt, std::optional<std::chrono::nanoseconds> time = std::nullopt) noexcept
+        : what(which), value(stored), lives(time) {}
+    kind what;
+    std::optional<Value> value;
+    std::optional<std::chrono::nanoseconds> lives; /* none: as long as the cache says */
+};
+
+/* The time of a steady clock, which caches go by unless they are given another one.
+
+       how.clock = vbr::steady_time; */
+inline std::chrono::nanoseconds steady_time() noexcept { return std::chrono::steady_clock::now().time_since_epoch(); }
+
+/* How a cache is opened.
+
+       users::options how;
+       how.time_to_live = 10min; */
+template <class Hash>
+struct cache_options {
+    std::optional<std::chrono::nanoseconds> time_to_live = std::nullopt; /* of an entry that isn't given another one; it begins anew with
+                                                                            each value that is put. None: for ever */
+    std::chrono::nanoseconds (*clock)() = steady_time; /* the time since any moment, always the same one. It is asked only if an entry has a
+                                                          time to live, and makes no call of the cache */
+    bool is_renewed_by_program = false; /* calls that find the epoch spent are then refused */
+    std::uint64_t last_epoch = max_epoch; /* as of a shape */
+    std::optional<std::uint64_t> seed = std::nullopt;
+    Hash hash = Hash(); /* of keys of more than 64 bits */
+};
+
+/* What the calls of a cache have done since its opening.
+
+       vbr::cache_statistics told = cache.statistics();
+       std::printf("%llu of %llu are hits\n", 0ull + told.hits, 0ull + told.hits + told.misses); */
+struct cache_statistics {
+    std::uint64_t hits = 0;      /* look-ups that gave a value: of `get`, and of `get_or_load` before it loads or waits */
+    std::uint64_t misses = 0;    /* those that gave none */
+    std::uint64_t evictions = 0; /* entries that went for others */
+    std::uint64_t expiries = 0;  /* entries that were taken out or replaced since they had expired */
+    std::uint64_t loads = 0;     /* loaders that were begun */
+    std::uint64_t length = 0;    /* how many entries there are, also such as have expired and nobody met since */
+};
+
+namespace detail {
+
+/* What a record begins with: under which word the map has it, until when it is good, or 0 for ever, and the value. */
+template <class Value>
+struct cached {
+    std::uint64_t word, until;
+    Value value;
+};
+
+/* On a line of the cache of its own. */
+template <class T>
+struct alignas(64) apart {
+    T it{};
+};
+
+/* The loads under way of some keys of a cache. */
+template <class Key, class Value>
+class alignas(64) cache_loads {
+public:
+    /* A load of a key, on the stack of its thread. If another thread loads the key already this one waits for it, if it may: until that has
+       ended, and this one has its value, or loads, since that one failed. */
+    struct load {
+        load(cache_loads &of, const Key &loaded, bool waits) : all(of), key(loaded) { all.begin(*this, waits); }
+        load(const load &) = delete;
+        load &operator=(const load &) = delete;
+        ~load() { all.end(*this); }
+
+        cache_loads &all;
+        const Key &key;
+        const std::thread::id thread = std::this_thread::get_id();
+        load *by = this; /* the one that brings the value; none if it has come, or isn't waited for */
+        load *next = nullptr;
+        bool is_outdated = false; /* the key was changed since it began */
+        std::optional<Value> value = std::nullopt;
+    };
+
+    /* Has what was loaded kept, by a call that waits for nothing, unless the key was changed meanwhile. No change comes in between. */
+    template <class Keep>
+    void keep(const load &mine, const Keep &keeps) {
+        std::lock_guard<std::mutex> guard(lock);
+        if (!mine.is_outdated) keeps();
+    }
+
+    /* Notes that a key is about to be changed, or all: what a load of it brings isn't kept, and who comes now doesn't wait for it. A load
+       that isn't noted yet begins after this, and after all that the thread did before. */
+    void outdate(const Key *key) noexcept {
+        if (count.fetch_add(0) == 0) return;
+        std::lock_guard<std::mutex> guard(lock);
+        for (load *each = first; each; each = each->next)
+            if (each->by == each && (!key || same_bytes(each->key, *key))) each->is_outdated = true;
+    }
+
+private:
+    void begin(load &mine, bool waits) {
+        std::unique_lock<std::mutex> guard(lock);
+        for (load *each = first; each; each = each->next)
+            if (each->by == each && !each->is_outdated && same_bytes(each->key, mine.key))
+                mine.by = waits && each->thread != mine.thread ? each : nullptr;
+        mine.next = std::exchange(first, &mine);
+        count.fetch_add(1);
+        changed.wait(guard, [&] { return !mine.by || mine.by == &mine; });
+    }
+
+    /* Those that wait have its value; if it has none one of them loads, and the others wait for that one. */
+    void end(load &mine) noexcept {
+        std::lock_guard<std::mutex> guard(lock);
+        load **at = &first, *heir = nullptr;
+        while (*at != &mine) at = &(*at)->next;
+        *at = mine.next;
+        count.fetch_sub(1);
+        for (load *each = first; each; each = each->next) {
+            if (each->by != &mine) continue;
+            if (mine.value) each->value.emplace(*mine.value);
+            else if (!heir) heir = each;
+            each->by = heir;
+        }
+        changed.notify_all();
+    }
+
+    std::atomic<std::size_t> count{0};
+    load *first = nullptr;
+    std::mutex lock;
+    std::condition_variable changed;
+};
+
+/* What the loans of a cache share. */
+template <class Key, class Value, class Hash>
+struct cache_table {
+    using map_type = record_map<Key, cached<Value>, Hash>;
+
+    cache_table(map_type &&records, const shape &wanted, std::uint32_t entries, const cache_options<Hash> &how)
+        : map(std::move(records)), lender(map.lending()), opened(wanted), capacity(entries), options(how),
+          renews_from(how.is_renewed_by_program ? UINT64_MAX : map.last_epoch() - map.last_epoch() / 8),
+          visited(std::make_unique<std::atomic<bool>[]>(wanted.slots)), counts(std::make_unique<apart<cache_statistics>[]>(map.handles())) {}
+
+    /* The most bytes that such a cache takes, or UINT64_MAX: the words of the map three times, and what a report of it takes, in a renewal; the
+       records and the marks; and what handles have besides. */
+    static std::uint64_t bytes_for(std::uint32_t entries, std::size_t handles) noexcept {
+        const shape wanted = shape::for_keys(entries, handles);
+        if (wanted.slots > max_slots) return UINT64_MAX;
+        const std::uint64_t slots = wanted.slots, words = 2 + wanted.buckets + 5 * slots + slots / 64 + 1;
+        return 3 * 8 * words + slots * (52 + 1 + (sizeof(typename record_table<Key, cached<Value>, Hash>::record) + 7) / 8 * 8) +
+               handles * (4096 + sizeof counts[0]) + 4096 + sizeof(cache_table);
+    }
+
+    /* Renews once all loans are back, if they are in time, unless that was done since there were so many renewals. */
+    result<void> renew(const deadline &until, std::size_t before) {
+#ifdef __cpp_exceptions
+        try {
+#endif
+            return map.renew_since(before, opened, until);
+#ifdef __cpp_exceptions
+        } catch (const std::bad_alloc &) {
+            return refusal::no_memory;
+        }
+#endif
+    }
+
+    /* Whether a call that stores a value at this epoch is to renew: one in each 64th of the last epoch. */
+    bool is_due(std::uint64_t epoch) noexcept {
+        if (epoch < renews_from) return false;
+        std::uint64_t tried = tried_at.load(std::memory_order_relaxed);
+        return epoch - tried > map.last_epoch() / 64 && tried_at.compare_exchange_strong(tried, epoch, std::memory_order_relaxed);
+    }
+
+    /* The time, which is above zero, and until when an entry is good that gets so much of it now. */
+    std::uint64_t now() const { return static_cast<std::uint64_t>(options.clock().count()) + 1; }
+    bool is_over(std::uint64_t until) const { return until != 0 && until <= now(); }
+    std::uint64_t until(std::optional<std::chrono::nanoseconds> time) const {
+        if (!time) time = options.time_to_live;
+        return time ? now() + static_cast<std::uint64_t>(std::max(*time, std::chrono::nanoseconds::zero()).count()) : 0;
+    }
+
+    /* Marks the entry of a slot as used, or not: whether it was marked otherwise. */
+    bool marks(std::uint32_t slot, bool is_used) noexcept {
+        if (visited[slot].load(std::memory_order_relaxed) == is_used) return false;
+        visited[slot].store(is_used, std::memory_order_relaxed);
+        return true;
+    }
+
+    cache_loads<Key, Value> &loads_of(std::uint64_t word) noexcept { return loads[word * 0x9E3779B97F4A7C15u >> 60]; }
+
+    map_type map;
+    const lending<map_handle> &lender; /* of the map */
+    const shape opened;
+    const std::uint32_t capacity;
+    const cache_options<Hash> options;
+    const std::uint64_t renews_from; /* the epoch from which on calls renew, if they do */
+    std::unique_ptr<std::atomic<bool>[]> visited; /* of each slot: whether its entry was found since the hand came by */
+    std::unique_ptr<apart<cache_statistics>[]> counts; /* of each handle, written by its loan alone */
+    cache_loads<Key, Value> loads[16];
+    apart<std::atomic<std::uint64_t>> hand;   /* the slot that it looks at next, and whole rounds */
+    apart<std::atomic<std::uint64_t>> length; /* of the entries that there are, and of those that are about to come */
+    std::atomic<std::uint64_t> tried_at{0};   /* the epoch at which a call tried to renew last */
+};
+
+} // namespace detail
+
+/* The right of one thread at a time to make calls on a cache, or none. It is tested by `if (loan)`; if it has none its calls are
+   refused by refusal::no_handle. It has a handle, which goes back where this ends, and also while a loader of it runs or it waits for
+   another one, and for a renewal. It borrows another one afterwards, and waits for it. So a loader may take its time, and make
+   calls by the same loan.
+
+       users::loan mine = cache.lend_wait(); */
+template <class Key, class Value, class Hash>
+class [[nodiscard]] cache_loan {
+    using table_type = detail::cache_table<Key, Value, Hash>;
+    using record_loan = typename table_type::map_type::loan;
+    using seen = typename record_loan::seen;
+
+public:
+    using change = cache_change<Value>;
+    using cursor = record_cursor;
+    using found = result<std::optional<Value>>; /* a value; none where the key was absent or had expired */
+
+    /* As of a record map.
+
+           static_assert(users::loan::most_attempts == 1000); */
+    static constexpr int most_attempts = record_loan::most_attempts;
+
+    cache_loan() noexcept = default;
+    cache_loan(cache_loan &&other) noexcept : table(std::exchange(other.table, nullptr)), mine(std::move(other.mine)) {}
+    cache_loan &operator=(cache_loan &&other) noexcept {
+        mine = std::move(other.mine);
+        table = std::exchange(other.table, nullptr);
+        return *this;
+    }
+
+    explicit operator bool() const noexcept { return table != nullptr; }
+
+    /* The value of a key: a copy, whole, of what it had at a moment of the call. The entry counts as used. One that has expired is taken
+       out, and is a miss. It is a look-up, a copy and one load, and takes no slot.
+
+           std::optional<user> has = mine.get(who).value(); */
+    found get(const Key &key) {
+        found there = find(key);
+        if (there.has_value()) count(*there ? &cache_statistics::hits : &cache_statistics::misses);
+        return there;
+    }
+
+    /* Whether a key is there and hasn't expired. It isn't counted, and is no use of the entry; it costs a `get`.
+
+           if (*mine.has(who)) there++; */
+    result<bool> has(const Key &key) {
+        if (!is_ready()) return refusal::no_handle;
+        auto there = mine.get(key);
+        if (!there.has_value()) return there.error();
+        return *there && !table->is_over((*there)->until);
+    }
+
+    /* Gives a key this value, with the time to live of the cache, whether it was there or not, and returns the one that it had. If the
+       cache is full another entry goes before. It takes a slot and writes the record.
+
+           std::optional<user> before = mine.put(who, user{5, 1}).value(); // what who had */
+    found put(const Key &key, const Value &value) { return compute(key, [&](const auto &) { return change::put(value); }); }
+
+    /* The same, with a time to live of its own. If that isn't above zero the entry has expired at once.
+
+           std::optional<user> earlier = mine.put_for(who, user{5, 2}, 60s).value(); */
+    found put_for(const Key &key, const Value &value, std::chrono::nanoseconds time) {
+        return compute(key, [&](const auto &) { return change::put_for(value, time); });
+    }
+
+    /* Adds a key with its value, as `put`: true if it was absent. Else its value and its time stay.
+
+           bool added = mine.insert(who, user{5, 3}).value(); */
+    result<bool> insert(const Key &key, const Value &value) {
+        return had(false, compute(key, [&](const auto &there) { return there ? change::keep() : change::put(value); }));
+    }
+
+    /* Gives a key that is there this value, as `put`, and returns the one that it had; none, and nothing is changed, if it is absent.
+
+           std::optional<user> replaced = mine.replace(who, user{5, 4}).value(); */
+    found replace(const Key &key, const Value &value) {
+        return compute(key, [&](const auto &there) { return there ? change::put(value) : change::keep(); });
+    }
+
+    /* Takes a key out, and returns its value. It takes no slot.
+
+           std::optional<user> taken = mine.remove(who).value(); */
+    found remove(const Key &key) { return compute(key, [](const auto &) { return change::remove(); }); }
+
+    /* Gives an entry this time to live from now on: true if it is there. It costs a `put`.
+
+           bool is_there = mine.touch(who, 10min).value(); */
+    result<bool> touch(const Key &key, std::chrono::nanoseconds time) {
+        return had(true, compute(key, [&](const auto &there) { return there ? change::put_for(*there, time) : change::keep(); }));
+    }
+
+    /* Does with a key what `ask` says of the value that it has, or of none, and returns that value: `keep`, `put`, `put_for`, `update` or
+       `remove`. It is done only if the key still has the entry that `ask` was told of. Else `ask` is asked again, of what is there then,
+       at most most_attempts times.
+
+           using to = visits::change;
+           auto next_try = [](const std::optional<int> &tries) { // three in a minute
+               if (tries == 3) return to::keep();
+               return tries ? to::update(*tries + 1) : to::put_for(1, 60s);
+           };
+           if (told.compute(7, next_try).value() == 3) refused++; */
+    template <class Ask>
+    found compute(const Key &key, Ask &&ask) {
+        if (!is_ready_to_store()) return refusal::no_handle;
+        const std::uint64_t word = word_of(key);
+        table->loads_of(word).outdate(&key);
+        return change_by(key, word, ask, true);
+    }
+
+    /* The value of a key, as `get`; if it is absent, the one that `loader` returns, a Value or an option, which is put with the time to live
+       of the cache. None, or an exception, which goes to the caller: the loader failed, and nothing is put.
+
+       If several threads miss one key at a time one of them runs its loader, and the others wait and get its value. If it fails, one of
+       those that wait runs its own. The loan has no handle meanwhile. Two loaders that load each other's key wait for ever. A loader
+       that asks for the key that it loads is refused by refusal::load_under_way.
+
+       If the key is there again when the loader has ended, the call returns what is there. If it was changed or taken out while the loader ran,
+       by other calls than a load, the value is returned and not kept, and a call that begins after that change doesn't wait for it. So once
+       `remove` returns nobody finds what was loaded before. A value isn't kept either where its put would be refused.
+
+           std::optional<user> there = mine.get_or_load(who, from_database).value(); // none: the loader gave none */
+    template <class Loader>
+    found get_or_load(const Key &key, Loader &&loader) {
+        return load(key, loader, true);
+    }
+
+    /* The same, and it waits for no loader of another thread: if one loads the key it is refused by refusal::load_under_way.
+
+           if (mine.try_get_or_load(who, from_database) == vbr::refusal::load_under_way) elsewhere++; */
+    template <class Loader>
+    found try_get_or_load(const Key &key, Loader &&loader) {
+        return load(key, loader, false);
+    }
+
+    /* Takes all entries out that are there all the while. Others may put some meanwhile. It makes a call for each bucket and a remove for
+       each entry; if it is refused some were taken out.
+
+           vbr::result<void> cleared = mine.clear(); */
+    result<void> clear() {
+        if (!is_ready()) return refusal::no_handle;
+        for (auto &each : table->loads) each.outdate(nullptr);
+        for (vbr::cursor from;;) {
+            const std::uint32_t bucket = from.raw.bucket;
+            auto stands = mine.handle->next_at(from);
+            if (stands == refusal::out_of_steps && from.raw.bucket != bucket) continue; // the walk has come further
+            if (!stands.has_value()) return stands.error();
+            if (!*stands) return result<void>(std::in_place);
+            const result<bool> taken = take_out((*stands)->first, (*stands)->second);
+            if (!taken.has_value()) return taken.error();
+        }
+    }
+
+    /* Calls `visit` with the key and the value of all entries that haven't expired, as `for_each` of a record map. It is no use of them.
+
+           vbr::result<void> walked = mine.for_each([&](const users::key_type &, const user &each) { sum += each.visits; }); */
+    template <class Visit>
+    result<void> for_each(Visit &&visit) {
+        if (!is_ready()) return refusal::no_handle;
+        return mine.for_each([&](const typename record_loan::entry &each) {
+            if (!table->is_over(each.value().until)) visit(each.key(), each.value().value);
+        });
+    }
+
+private:
+    template <class, class, class>
+    friend class cache;
+
+    cache_loan(table_type *of, record_loan &&lent) noexcept : table(lent ? of : nullptr), mine(std::move(lent)) {}
+
+    /* Whether a call found the key there, or absent if that is asked for. */
+    static result<bool> had(bool wanted, const found &told) noexcept {
+        if (!told.has_value()) return told.error();
+        return told->has_value() == wanted;
+    }
+
+    std::uint64_t word_of(const Key &key) const noexcept { return table->map.all->hash(key); }
+
+    /* Whether there is a handle for a call: another one if it was given back, or a thread waits for all of them. */
+    bool is_ready() { return (mine && !table->lender.is_renewing()) || borrows(); }
+    bool borrows() {
+        if (!table) return false;
+        mine = record_loan();
+        mine = table->map.lend_wait();
+        return static_cast<bool>(mine);
+    }
+
+    /* The same for a call that stores a value. At 7/8 of the last epoch it renews first, if all other loans come back within a millisecond. */
+    bool is_ready_to_store() {
+        if (!is_ready()) return false;
+        if (!table->is_due(mine.epoch())) return true;
+        const std::size_t renewals = table->lender.renewed();
+        mine = record_loan();
+        static_cast<void>(table->renew(detail::after(std::chrono::milliseconds(1)), renewals));
+        return is_ready();
+    }
+
+    void count(std::uint64_t cache_statistics::*which) noexcept {
+        std::uint64_t &number = table->counts[mine.handle.number()].it.*which; // which no other thread writes
+        __atomic_store_n(&number, number + 1, __ATOMIC_RELAXED);
+    }
+
+    void is_shorter() noexcept { table->length.it.fetch_sub(1, std::memory_order_relaxed); }
+
+    /* The value of a key, whose entry is marked as used; none if it is absent, or has expired and is taken out. */
+    found find(const Key &key) {
+        if (!is_ready()) return refusal::no_handle;
+        const std::uint64_t word = word_of(key);
+        seen there;
+        const result<bool> is_there = mine.read(word, there);
+        if (!is_there.has_value()) return is_there.error();
+        if (!*is_there || !record_loan::is_of(there, key)) return std::optional<Value>();
+        if (table->is_over(there.record.value.until)) {
+            if (take_out(word, there.at) == true) count(&cache_statistics::expiries);
+            return std::optional<Value>();
+        }
+        table->marks(there.at.slot(), true);
+        return std::optional<Value>(there.record.value.value);
+    }
+
+    result<bool> take_out(std::uint64_t word, const map_incarnation &at) noexcept {
+        result<bool> is_out = mine.handle->remove_entry(word, at);
+        if (is_out == true) is_shorter();
+        return is_out;
+    }
+
+    /* Does with a key what `ask` says, and has another entry go or renews for it, unless it may not wait. */
+    template <class Ask>
+    found change_by(const Key &key, std::uint64_t word, Ask &ask, bool waits) {
+        for (int attempt = 0; attempt < most_attempts && (!waits || is_ready()); attempt++) {
+            std::optional<Value> before;
+            const result<bool> told = attempt_by(key, word, ask, before);
+            if (told == true) return before;
+            if (told == false && table) word = word_of(key); // `ask` may have assigned a loan of another cache
+            if (told.has_value() || (told == refusal::no_slot && evict(true))) continue;
+            if (told != refusal::epoch_spent || table->options.is_renewed_by_program || !waits) return told.error();
+            const std::size_t renewals = table->lender.renewed();
+            mine = record_loan();
+            const result<void> renewed = table->renew(std::nullopt, renewals);
+            if (!renewed) return renewed.error();
+        }
+        return refusal::out_of_steps;
+    }
+
+    /* The same once, by the handle as it is: true if it was done. What was there before goes where there is none yet. */
+    template <class Ask>
+    result<bool> attempt_by(const Key &key, std::uint64_t word, Ask &ask, std::optional<Value> &before) {
+        using kind = typename change::kind;
+        const std::uint64_t number = mine.table->number;
+        seen there;
+        const result<bool> has_word = mine.read(word, there);
+        if (!has_word.has_value()) return has_word;
+        const map_incarnation *instead = *has_word ? &there.at : nullptr;
+        const bool is_own = instead && record_loan::is_of(there, key);
+        if (is_own && !table->is_over(there.record.value.until)) before.emplace(there.record.value.value);
+        const change wanted = ask(std::as_const(before));
+        if (wanted.what == kind::keep || (wanted.what == kind::remove && !before)) return true;
+        if (!mine || mine.table->number != number) return false; // it made calls of its own
+        if (wanted.what == kind::remove) return take_out(word, there.at);
+        const std::uint64_t until = wanted.what == kind::update && before ? there.record.value.until : table->until(wanted.lives);
+        if (!instead) make_room();
+        const auto marks = [visited = table->visited.get(), instead](std::uint32_t slot) { visited[slot].store(instead, std::memory_order_relaxed); };
+        const result<bool> told = mine.publish(word, instead, record_loan::record_of(key, {word, until, *wanted.value}), marks);
+        if (!instead && told != true) is_shorter();
+        if (instead && told == true && !before) count(is_own ? &cache_statistics::expiries : &cache_statistics::evictions);
+        return told;
+    }
+
+    /* Counts an entry that is to come, for which another one goes if there are as many as may be. */
+    void make_room() {
+        std::atomic<std::uint64_t> &length = table->length.it;
+        if (length.load(std::memory_order_relaxed) < table->capacity || !evict(false)) length.fetch_add(1, std::memory_order_relaxed);
+        while (length.load(std::memory_order_relaxed) > table->capacity && evict(true)) {}
+    }
+
+    /* Takes the next entry out that wasn't found since the hand came by, or has expired: whether there was one in three rounds. It is counted
+       no more, unless another one is to come for it. */
+    bool evict(bool shortens) {
+        const vbr_records &records = mine.table->of_slots.raw;
+        std::uint64_t now = 0;
+        for (std::uint64_t passed = 0; passed < 3 * std::uint64_t{records.slots}; passed++) {
+            const auto slot = static_cast<std::uint32_t>(table->hand.it.fetch_add(1, std::memory_order_relaxed) % records.slots);
+            const std::uint64_t *head = &records.words[slot * records.each]; // its word, and until when it is good, as they are
+            const std::uint64_t word = __atomic_load_n(head, __ATOMIC_ACQUIRE), until = __atomic_load_n(head + 1, __ATOMIC_ACQUIRE);
+            if (until != 0 && now == 0) now = table->now();
+            const bool is_over = until != 0 && until <= now;
+            if (!is_over && table->marks(slot, false)) continue;
+            const result<std::optional<map_incarnation>> at = mine.handle->get_entry(word);
+            if (!at.has_value() || !*at || (*at)->slot() != slot) continue; // the slot is free, or in a hand
+            if (mine.handle->remove_entry(word, **at) != true) continue;
+            count(is_over ? &cache_statistics::expiries : &cache_statistics::evictions);
+            if (shortens) is_shorter();
+            return true;
+        }
+        return false;
+    }
+
+    template <class Loader>
+    found load(const Key &key, Loader &loader, bool waits) {
+        found there = get(key);
+        if (!there.has_value() || *there) return there;
+        const std::uint64_t word = word_of(key);
+        auto &loads = table->loads_of(word);
+        mine = record_loan();
+        typename detail::cache_loads<Key, Value>::load own(loads, key, waits);
+        if (own.value) return own.value;
+        if (!own.by) return refusal::load_under_way;
+        found again = find(key); // a load may have ended just before
+        if (!again.has_value() || *again) return again;
+        count(&cache_statistics::loads);
+        mine = record_loan();
+        const std::optional<Value> loaded = loader();
+        if (!loaded) return loaded;
+        own.value.emplace(*loaded);
+        auto unless_there = [&](const auto &it) { return it ? change::keep() : change::put(*loaded); };
+        if (is_ready_to_store() && &table->loads_of(word) == &loads) // or the loader assigned a loan of another cache
+            loads.keep(own, [&] {
+                const found kept = change_by(key, word, unless_there, false);
+                if (kept.has_value() && *kept) own.value.emplace(**kept);
+            });
+        return own.value;
+    }
+
+    table_type *table = nullptr;
+    record_loan mine;
+};
+
+/* A cache, which lends its handles to threads. It is moved and never copied. Its loans end before it: one that ends while a loan has a
+   handle ends the program by abort, with a sentence on standard error. A loan without a name lasts to the end of its line.
+
+       users cache = users::open_bytes(1 << 20, 8).value(); */
+template <class Key, class Value, class Hash = detail::usual_hash<Key>>
+class cache {
+    using table_type = detail::cache_table<Key, Value, Hash>;
+
+public:
+    using key_type = Key;
+    using value_type = Value;
+    using hash_type = Hash;
+    using change = cache_change<Value>;
+    using loan = cache_loan<Key, Value, Hash>;
+    using options = cache_options<Hash>;
+
+    /* One that lends nothing.
+
+           users later; // lends none until it is assigned */
+    cache() noexcept = default;
+    cache(cache &&) noexcept = default;
+    cache &operator=(cache &&) noexcept = default;
+
+    /* Opens an empty one that takes at most so many bytes, ever: what it asks of the heap, at the opening and in renewals. It has as many entries
+       as there is room for, and lends so many handles, from 1 to max_many_handles. It is refused by refusal::too_few_bytes if there is no
+       room for one entry, and else as a record map is; where a vector or the records find no memory it throws std::bad_alloc.
+
+           users cache = users::open_bytes(1 << 20, 8).value(); */
+    static result<cache> open_bytes(std::size_t bytes, std::size_t handles, const options &how = options()) {
+        std::uint32_t fits = 0;
+        for (std::uint32_t more = std::uint32_t{1} << 31; more > 0; more /= 2)
+            if (table_type::bytes_for(fits + more, handles) <= bytes) fits += more;
+        if (fits == 0) return refusal::too_few_bytes;
+        return open_for(fits, handles, how);
+    }
+
+    /* The same for so many entries, at least one, in whatever memory they take.
+
+           users minutes = users::open_for(1000, 8, how).value(); */
+    static result<cache> open_for(std::uint32_t entries, std::size_t handles, const options &how = options()) {
+        if (entries == 0) return refusal::bad_shape;
+        shape wanted = shape::for_keys(entries, handles);
+        wanted.last_epoch = how.last_epoch;
+        wanted.seed = how.seed;
+        auto opened = table_type::map_type::open(wanted, handles, how.hash);
+        if (!opened.has_value()) return opened.error();
+        cache made;
+        made.all = std::make_unique<table_type>(std::move(*opened), wanted, entries, how);
+        return made;
+    }
+
+    /* The right to make calls, as lenders of vbr.hpp give it: at once or none; as soon as a handle is free; or within a time.
+
+           users::loan mine = cache.lend_wait(); */
+    loan lend() noexcept { return all ? loan(all.get(), all->map.lend()) : loan(); }
+    loan lend_wait() { return all ? loan(all.get(), all->map.lend_wait()) : loan(); }
+    template <class Rep, class Period>
+    loan lend_for(const std::chrono::duration<Rep, Period> &limit) {
+        return all ? loan(all.get(), all->map.lend_for(limit)) : loan();
+    }
+
+    /* Lets it go on at epoch 1 with its entries, as soon as all loans are back, which make no call meanwhile, or give their handle back
+       for it. A thread that has a loan itself waits for ever. It takes the memory that `bytes` counts. Where there is none it is refused
+       by refusal::no_memory, and all stays as it was.
+
+           vbr::result<void> renewed = cache.renew(); */
+    result<void> renew() { return all ? all->renew(std::nullopt, all->lender.renewed()) : refusal::no_handle; }
+
+    /* The same, or refused by refusal::on_loan where not all loans were back until the time was over.
+
+           vbr::result<void> in_vain = cache.renew_for(10ms); // refusal::on_loan: mine is out */
+    template <class Rep, class Period>
+    result<void> renew_for(const std::chrono::duration<Rep, Period> &limit) {
+        return all ? all->renew(detail::after(limit), all->lender.renewed()) : refusal::no_handle;
+    }
+
+    /* What its calls have done. It takes five loads for each handle, of no one moment unless no call is under way.
+
+           vbr::cache_statistics told = cache.statistics(); */
+    cache_statistics statistics() const noexcept {
+        using told = cache_statistics;
+        told sum;
+        for (std::size_t i = 0; i < handles(); i++)
+            for (auto each : {&told::hits, &told::misses, &told::evictions, &told::expiries, &told::loads})
+                sum.*each += __atomic_load_n(&(all->counts[i].it.*each), __ATOMIC_RELAXED);
+        if (all) sum.length = all->length.it.load(std::memory_order_relaxed);
+        return sum;
+    }
+
+    /* The most entries that there are at one time, but for one more of each call under way; the most bytes; how many handles it lends, and how
+       many are on loan. 0 without any.
+
+           if (cache.bytes() > 1 << 20 || cache.capacity() < 1000 || cache.handles() != 8 || cache.on_loan() != 1) return 1; */
+    std::uint32_t capacity() const noexcept { return all ? all->capacity : 0; }
+    std::uint64_t bytes() const noexcept { return all ? table_type::bytes_for(all->capacity, handles()) : 0; }
+    std::size_t handles() const noexcept { return all ? all->map.handles() : 0; }
+    std::size_t on_loan() const noexcept { return all ? all->map.on_loan() : 0; }
+
+private:
+    std::unique_ptr<table_type> all;
+};
+
+} // namespace vbr
+
+#endif

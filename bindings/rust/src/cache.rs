@@ -1,0 +1,697 @@
+//! Caches: maps of records with a bound on their entries, which evict.
+use crate::cache_loads::Loads;
+use crate::cache_options::{CacheOpenError, CacheOptions};
+use crate::record_entry::{At, Numbers};
+use crate::{
+    CacheChange, CacheLent, Lent, LoadError, Map, OpenError, OutOfSteps, Record, RecordKey, Records, Refusal, RenewError,
+    Shape,
+};
+use std::fmt;
+use std::hash::{BuildHasher, RandomState};
+use std::sync::atomic::{AtomicBool, AtomicU64, Ordering::Relaxed};
+use std::time::{Duration, Instant};
+
+/// A cache in fixed memory, without a lock on its calls: it keeps as many entries as it was opened for, and evicts. Keys and values
+/// have any size, as those of a [`RecordMap`](crate::RecordMap): numbers, structs by [`record!`](crate::record), strings by
+/// [`SmallStr`](crate::SmallStr), bytes by [`SmallBytes`](crate::SmallBytes).
+///
+/// ```
+/// use vbr::{record, Cache, SmallStr};
+///
+/// record! {
+///     #[derive(Clone, Copy, Debug, PartialEq)]
+///     struct User {
+///         id: u64,
+///         name: SmallStr<32>,
+///     }
+/// }
+///
+/// let users: Cache<SmallStr<64>, User> = Cache::open_bytes(16 << 20, 4)?; // 16 MiB, and four threads at a time
+/// let address = SmallStr::new("ada@example.org")?;
+/// let load = || Ok::<_, vbr::TooLong>(User { id: 5, name: SmallStr::new("Ada Lovelace")? }); // from a database
+/// assert_eq!(users.get_or_load(address, load).map(|user| user.id), Ok(5));
+/// assert!(users.get(address)?.is_some()); // and now it is there
+/// # Ok::<(), Box<dyn std::error::Error>>(())
+/// ```
+///
+/// # Calls and loans
+///
+/// The cache lends its handles. A [`CacheLent`] makes all calls. The cache itself has the most frequent ones, which lend a handle each,
+/// and have it back when they return; a thread that makes many keeps a loan for them. A thread that has a loan itself may wait for ever in such a call, and
+/// so it may in a closure that the cache asks, but for a loader.
+///
+/// # What goes
+///
+/// An insert into a full cache evicts by CLOCK (Corbató 1968). A hand goes from slot to slot. An entry that was found since the hand
+/// came by, or given a value, stays, and is marked as not used; another one goes, and so does one that has expired. A new entry counts as not
+/// used, so what is asked for once goes at the next round. Of two keys with one hash the one that comes later takes the other's place.
+///
+/// All threads share one hand, which is advanced by one atomic addition for each slot that it passes. One for each thread takes as many
+/// instructions, and four threads had 0.4 to 0.8 fewer hits in a hundred with them (Zipf 0.7 and 0.99, room for a tenth of the keys,
+/// 30 November 2026): an entry then meets a hand sooner after it comes. In the same draws by one thread the cache had 1.0 to 1.2 hits
+/// more in a hundred than an exact LRU (`tests/caches.rs`).
+///
+/// # Cost
+///
+/// A look-up, a copy and two loads make a hit: of values of 64 bytes among 1,024 keys it took 224 instructions, and a get of a
+/// [`RecordMap`](crate::RecordMap) 189. A put into the full cache took 1,331, and a put and a remove of the map 1,082 (valgrind,
+/// 30 November 2026). A hit of an entry with a time to live asks the clock besides.
+///
+/// # Renewals
+///
+/// Inserts use up epochs, as in each map ([the limits](crate#what-to-know-before-you-take-it)). From 7/8 of the last epoch on a call
+/// that stores a value renews the cache, unless [the program does](CacheOptions::renewed_by_program). It goes once over all entries,
+/// and calls wait meanwhile. [`CacheLent`] says what a thread with a loan meets. Entries and counts go along; which entries were used
+/// lately is lost.
+///
+/// # Memory
+///
+/// All is taken at the opening and by renewals, and [`Cache::bytes`] is the most that there is at any moment. A map has a slot for each
+/// entry and 64 for each handle; there are three times its words for a renewal, 54 bytes for each slot, and the records once. A record
+/// has two words beside those of the value, and those of the key if it is hashed. So an entry takes some 220 bytes more than its
+/// value, some 65 of them between renewals, and a handle some 17,000 and 64 values.
+pub struct Cache<K: RecordKey, V: Record, H = RandomState> {
+    pub(crate) table: Map<u64, ()>,
+    pub(crate) records: Records<Stored<K, V>>,
+    pub(crate) loads: Loads,
+    pub(crate) options: CacheOptions<H>,
+    /// Of each slot, whether its entry was found since the hand came by.
+    visited: Vec<AtomicBool>,
+    /// What the loans of each handle have done.
+    counts: Vec<Apart<[AtomicU64; Count::ALL]>>,
+    /// The slot that is looked at next for an eviction, modulo their number.
+    hand: Apart<AtomicU64>,
+    /// How many entries there are, and are about to be put in.
+    length: Apart<AtomicU64>,
+    /// The epoch from which on calls renew, if they do.
+    renews_from: u64,
+    /// The epoch at which a call tried to renew last.
+    tried_at: AtomicU64,
+    capacity: u32,
+    bytes: usize,
+}
+
+/// On cache lines of its own.
+#[derive(Default)]
+#[repr(align(128))]
+struct Apart<T>(T);
+
+/// What is counted of a loan.
+#[derive(Clone, Copy)]
+pub(crate) enum Count {
+    Hits,
+    Misses,
+    Evictions,
+    Expiries,
+    Loads,
+}
+
+impl Count {
+    const ALL: usize = 5;
+}
+
+crate::record! {
+    /// What a record begins with.
+    #[derive(Clone, Copy)]
+    pub(crate) struct Head {
+        /// That of the key, so that a slot tells whose it is.
+        number: u64,
+        /// In nanoseconds of the clock and one more; 0: never.
+        pub(crate) expires: u64,
+    }
+}
+
+/// A record: its head, and the key and the value.
+pub(crate) type Stored<K, V> = (Head, (<K as RecordKey>::Kept, V));
+
+/// A handle on loan.
+pub(crate) type Mine<'c> = Lent<'c, Numbers>;
+
+/// What a call makes of a value, if there is one that hasn't expired.
+type Ask<'a, V> = &'a mut dyn FnMut(Option<V>) -> CacheChange<V>;
+
+impl<K: RecordKey, V: Record, H> Cache<K, V, H> {
+    /// How many words a record has.
+    pub(crate) const WORDS: usize = Stored::<K, V>::WORDS;
+
+    pub(crate) fn open(options: CacheOptions<H>, capacity: u32, shape: Shape, bytes: usize) -> Result<Self, OpenError> {
+        let table = Map::open(shape)?; // first, since it takes more while it runs
+        let last = table.last_epoch();
+        Ok(Cache {
+            table,
+            records: Records::open(shape.slots)?,
+            loads: Loads::none().ok_or(OpenError::Memory)?,
+            renews_from: if options.renews { last - last / 8 } else { u64::MAX },
+            options,
+            visited: filled(shape.slots as usize, AtomicBool::default)?,
+            counts: filled(shape.handles, Apart::default)?,
+            hand: Apart::default(),
+            length: Apart::default(),
+            tried_at: AtomicU64::new(0),
+            capacity,
+            bytes,
+        })
+    }
+
+    /// How many entries it keeps: as many as there are at a time once it is full, but for one more of each call that is under way.
+    ///
+    /// ```
+    /// # use vbr::Cache;
+    /// let cache: Cache<u64, u64> = Cache::open_for(100, 1)?;
+    /// for key in 0..1_000 {
+    ///     cache.put(key, key)?;
+    /// }
+    /// assert_eq!((cache.capacity(), cache.statistics().length), (100, 100));
+    /// # Ok::<(), Box<dyn std::error::Error>>(())
+    /// ```
+    pub fn capacity(&self) -> u32 {
+        self.capacity
+    }
+
+    /// How many bytes of the heap it takes at most at any moment, in its opening and its renewals too.
+    ///
+    /// ```
+    /// # use vbr::Cache;
+    /// let cache: Cache<u64, [u8; 1_000]> = Cache::open_for(10_000, 4)?;
+    /// assert!((10_000_000..13_000_000).contains(&cache.bytes()));
+    /// # Ok::<(), vbr::OpenError>(())
+    /// ```
+    pub fn bytes(&self) -> usize {
+        self.bytes
+    }
+
+    /// How many handles it lends.
+    ///
+    /// ```
+    /// # use vbr::Cache;
+    /// assert_eq!(Cache::<u64, u64>::open_for(100, 3)?.handle_count(), 3);
+    /// # Ok::<(), vbr::OpenError>(())
+    /// ```
+    pub fn handle_count(&self) -> usize {
+        self.table.handle_count()
+    }
+
+    /// What its calls have done. Each handle counts for itself, and this adds up: while calls are under way it is off by what these do.
+    ///
+    /// ```
+    /// # use vbr::Cache;
+    /// let cache: Cache<u64, u64> = Cache::open_for(100, 1)?;
+    /// cache.put(5, 70)?;
+    /// assert_eq!((cache.get(5)?, cache.get(6)?), (Some(70), None));
+    /// let told = cache.statistics();
+    /// assert_eq!((told.hits, told.misses, told.length), (1, 1, 1));
+    /// # Ok::<(), Box<dyn std::error::Error>>(())
+    /// ```
+    pub fn statistics(&self) -> CacheStatistics {
+        let sum = |what: Count| self.counts.iter().map(|it| it.0[what as usize].load(Relaxed)).sum();
+        CacheStatistics {
+            hits: sum(Count::Hits),
+            misses: sum(Count::Misses),
+            evictions: sum(Count::Evictions),
+            expiries: sum(Count::Expiries),
+            loads: sum(Count::Loads),
+            length: self.length.0.load(Relaxed),
+        }
+    }
+
+    /// Lends a free handle, or returns `None` if each was lent at some moment of the call, or the cache is being renewed. It never waits.
+    ///
+    /// ```
+    /// # use vbr::Cache;
+    /// let cache: Cache<u64, u64> = Cache::open_for(100, 1)?;
+    /// let mut mine = cache.lend().expect("the one handle");
+    /// assert!(cache.lend().is_none());
+    /// mine.put(5, 70)?;
+    /// # Ok::<(), Box<dyn std::error::Error>>(())
+    /// ```
+    #[inline]
+    pub fn lend(&self) -> Option<CacheLent<'_, K, V, H>> {
+        self.table.lend().map(|lent| CacheLent::of(self, lent))
+    }
+
+    /// Lends a free handle as soon as there is one, as [`Table::lend_wait`](crate::Table::lend_wait) does. A thread that has a loan itself
+    /// may wait for ever, and a loan without a name lasts to the end of its statement.
+    ///
+    /// ```
+    /// # use vbr::Cache;
+    /// let cache: Cache<u64, u64> = Cache::open_for(100, 2)?;
+    /// std::thread::scope(|scope| {
+    ///     for key in 0..4 {
+    ///         let cache = &cache;
+    ///         scope.spawn(move || cache.lend_wait().put(key, 70));
+    ///     }
+    /// });
+    /// assert_eq!(cache.statistics().length, 4);
+    /// # Ok::<(), vbr::OpenError>(())
+    /// ```
+    #[inline]
+    pub fn lend_wait(&self) -> CacheLent<'_, K, V, H> {
+        CacheLent::of(self, self.table.lend_wait())
+    }
+
+    /// As [`Cache::lend_wait`], or `None` if each handle was lent until the time was over.
+    ///
+    /// ```
+    /// # use std::time::Duration;
+    /// # use vbr::Cache;
+    /// let cache: Cache<u64, u64> = Cache::open_for(100, 1)?;
+    /// let mine = cache.lend_timeout(Duration::from_secs(1)).expect("the one handle");
+    /// assert!(cache.lend_timeout(Duration::from_millis(1)).is_none());
+    /// # drop(mine);
+    /// # Ok::<(), vbr::OpenError>(())
+    /// ```
+    #[inline]
+    pub fn lend_timeout(&self, limit: Duration) -> Option<CacheLent<'_, K, V, H>> {
+        self.table.lend_timeout(limit).map(|lent| CacheLent::of(self, lent))
+    }
+
+    /// Renews the cache: lets it go on at epoch 1, with its entries. It waits until all loans are back, or begin a call: so a thread
+    /// that has one itself waits for ever. It goes over all entries.
+    ///
+    /// ```
+    /// # use vbr::Cache;
+    /// let cache: Cache<u64, u64> = Cache::open_for(100, 1)?;
+    /// cache.put(5, 70)?;
+    /// cache.renew()?;
+    /// assert_eq!(cache.get(5)?, Some(70));
+    /// # Ok::<(), Box<dyn std::error::Error>>(())
+    /// ```
+    ///
+    /// # Errors
+    ///
+    /// [`RenewError::Memory`]. The cache is as it was then.
+    pub fn renew(&self) -> Result<(), RenewError> {
+        self.renew_once(self.table.lender.renewals(), None)
+    }
+
+    /// As [`Cache::renew`], or [`RenewError::Lent`] if not all loans were back when the time was over.
+    ///
+    /// ```
+    /// # use std::time::Duration;
+    /// # use vbr::{Cache, RenewError};
+    /// let cache: Cache<u64, u64> = Cache::open_for(100, 1)?;
+    /// let mine = cache.lend_wait();
+    /// assert_eq!(cache.renew_timeout(Duration::from_millis(1)), Err(RenewError::Lent));
+    /// # drop(mine);
+    /// # Ok::<(), vbr::OpenError>(())
+    /// ```
+    ///
+    /// # Errors
+    ///
+    /// [`RenewError::Memory`] and [`RenewError::Lent`]. The cache is as it was then.
+    pub fn renew_timeout(&self, limit: Duration) -> Result<(), RenewError> {
+        self.renew_once(self.table.lender.renewals(), Instant::now().checked_add(limit))
+    }
+
+    /// Renews it once all loans are back, if they are before the deadline, unless that was done since there were so many renewals.
+    pub(crate) fn renew_once(&self, renewals: usize, deadline: Option<Instant>) -> Result<(), RenewError> {
+        let lender = &self.table.lender;
+        lender.renew_once(renewals, lender.shape().get(), deadline, Some(&self.records.words))
+    }
+
+    /// Whether a call that stores a value at this epoch is to renew: one in each 64th of the last epoch.
+    #[inline]
+    pub(crate) fn is_due(&self, epoch: u64) -> bool {
+        epoch >= self.renews_from && {
+            let tried = self.tried_at.load(Relaxed);
+            epoch.wrapping_sub(tried) > self.table.last_epoch() / 64
+                && self.tried_at.compare_exchange(tried, epoch, Relaxed, Relaxed).is_ok()
+        }
+    }
+
+    #[inline]
+    pub(crate) fn count(&self, handle: usize, what: Count) {
+        let count = &self.counts[handle].0[what as usize]; // which no other thread writes
+        count.store(count.load(Relaxed) + 1, Relaxed);
+    }
+
+    /// The time, which is above zero.
+    fn now(&self) -> u64 {
+        nanoseconds((self.options.clock)()).saturating_add(1)
+    }
+
+    #[inline]
+    pub(crate) fn is_over(&self, expires: u64) -> bool {
+        expires != 0 && expires <= self.now()
+    }
+
+    /// When an entry expires that gets so much time now.
+    fn expiry(&self, time: Option<Duration>) -> u64 {
+        time.map_or(0, |time| self.now().saturating_add(nanoseconds(time)))
+    }
+
+    /// The value of a key, which counts as used; none if it has expired, and is taken out, or is absent.
+    #[inline]
+    pub(crate) fn look_up(&self, mine: &mut Mine<'_>, number: u64, key: K) -> Result<Option<V>, OutOfSteps> {
+        let Some(((head, (kept, value)), at)) = self.records.read_entry(mine, number)? else { return Ok(None) };
+        if kept != key.kept() {
+            return Ok(None);
+        }
+        if self.is_over(head.expires) {
+            if self.take_out(mine, number, &at)? {
+                self.count(mine.number(), Count::Expiries);
+            }
+            return Ok(None);
+        }
+        self.marks(at.slot(), true);
+        Ok(Some(value))
+    }
+
+    /// Marks the entry of a slot as used, or not, and whether it was marked otherwise.
+    #[inline]
+    fn marks(&self, slot: u32, is_used: bool) -> bool {
+        let visited = &self.visited[slot as usize];
+        let is_news = visited.load(Relaxed) != is_used;
+        if is_news {
+            visited.store(is_used, Relaxed);
+        }
+        is_news
+    }
+
+    /// Does with a key what `ask` says of the value that it has, evicts if there is no slot, and returns that value.
+    pub(crate) fn change(&self, mine: &mut Mine<'_>, number: u64, key: K, ask: Ask<'_, V>) -> Result<Option<V>, Refusal> {
+        loop {
+            let found = self.records.read_entry(mine, number)?;
+            let at = found.as_ref().map(|(_, at)| at);
+            let own = found.as_ref().map(|(it, _)| it).filter(|(_, (kept, _))| *kept == key.kept());
+            let there = own.filter(|(head, _)| !self.is_over(head.expires));
+            let before = there.map(|(_, (_, value))| *value);
+            let (value, expires) = match (ask(before), there, at) {
+                (CacheChange::Remove, Some(_), Some(at)) => {
+                    if self.take_out(mine, number, at)? {
+                        return Ok(before);
+                    }
+                    continue;
+                }
+                (CacheChange::Keep | CacheChange::Remove, ..) => return Ok(before),
+                (CacheChange::Update(value), Some((head, _)), _) => (value, head.expires),
+                (CacheChange::PutFor(value, time), ..) => (value, self.expiry(Some(time))),
+                (CacheChange::Put(value) | CacheChange::Update(value), ..) => (value, self.expiry(self.options.time_to_live)),
+            };
+            match self.store(mine, &(Head { number, expires }, (key.kept(), value)), at, before.is_some()) {
+                Ok(true) => {
+                    if at.is_some() && before.is_none() {
+                        self.count(mine.number(), if own.is_some() { Count::Expiries } else { Count::Evictions });
+                    }
+                    return Ok(before);
+                }
+                Ok(false) => {}
+                Err(Refusal::NoSlot) if self.evict(mine)? => self.uncount(),
+                Err(why) => return Err(why),
+            }
+        }
+    }
+
+    /// Puts a record in place of this entry, or if there is none, and whether that was done.
+    fn store(&self, mine: &mut Mine<'_>, record: &Stored<K, V>, at: Option<&At>, is_used: bool) -> Result<bool, Refusal> {
+        if at.is_some() {
+            return self.publish(mine, record, at, is_used);
+        }
+        self.make_room(mine)?;
+        let told = self.publish(mine, record, at, is_used);
+        if told != Ok(true) {
+            self.uncount();
+        }
+        told
+    }
+
+    /// The same of an entry that is counted.
+    fn publish(&self, mine: &mut Mine<'_>, record: &Stored<K, V>, at: Option<&At>, is_used: bool) -> Result<bool, Refusal> {
+        let mut held = mine.hold()?;
+        self.records.write(&mut held, record);
+        self.visited[held.slot() as usize].store(is_used, Relaxed);
+        let number = record.0.number;
+        Ok(match at {
+            Some(at) => held.replace(number, at, ())?.is_ok(),
+            None => held.try_insert(number, ())?.is_ok(),
+        })
+    }
+
+    /// Counts an entry less.
+    pub(crate) fn uncount(&self) {
+        self.length.0.fetch_sub(1, Relaxed);
+    }
+
+    /// Counts an entry that is to come, for which another one goes if there are as many as may be.
+    fn make_room(&self, mine: &mut Mine<'_>) -> Result<(), Refusal> {
+        let (length, capacity) = (&self.length.0, u64::from(self.capacity));
+        if length.load(Relaxed) >= capacity && mine.epoch() == self.table.last_epoch() {
+            drop(mine.hold()?); // nothing goes in vain
+        }
+        if length.load(Relaxed) < capacity || !self.evict(mine)? {
+            length.fetch_add(1, Relaxed);
+        }
+        while length.load(Relaxed) > capacity && self.evict(mine) == Ok(true) {
+            self.uncount();
+        }
+        Ok(())
+    }
+
+    /// Takes the next entry out that wasn't found since the hand came by, or has expired, and whether there was one in two rounds. It
+    /// is still counted.
+    fn evict(&self, mine: &mut Mine<'_>) -> Result<bool, OutOfSteps> {
+        let (slots, mut now) = (self.table.slots(), None);
+        for _ in 0..2 * u64::from(slots) {
+            let slot = u32::try_from(self.hand.0.fetch_add(1, Relaxed) % u64::from(slots)).expect("below the slots");
+            let Head { number, expires } = self.records.words.copy_of(slot);
+            let is_over = expires != 0 && expires <= *now.get_or_insert_with(|| self.now());
+            if !is_over && self.marks(slot, false) {
+                continue;
+            }
+            let stands = mine.get_entry(number)?.filter(|at| at.slot() == slot); // or the slot is free, or held
+            if stands.map_or(Ok(false), |at| mine.remove_entry(number, &at))? {
+                self.count(mine.number(), if is_over { Count::Expiries } else { Count::Evictions });
+                return Ok(true);
+            }
+        }
+        Ok(false)
+    }
+
+    /// Takes this very entry out, and whether it was there.
+    pub(crate) fn take_out(&self, mine: &mut Mine<'_>, number: u64, at: &At) -> Result<bool, OutOfSteps> {
+        let is_out = mine.remove_entry(number, at)?;
+        if is_out {
+            self.uncount();
+        }
+        Ok(is_out)
+    }
+}
+
+/// So many, if there is memory.
+fn filled<T>(count: usize, make: impl FnMut() -> T) -> Result<Vec<T>, OpenError> {
+    let mut all = Vec::new();
+    all.try_reserve_exact(count).map_err(|_| OpenError::Memory)?;
+    all.resize_with(count, make);
+    Ok(all)
+}
+
+fn nanoseconds(time: Duration) -> u64 {
+    u64::try_from(time.as_nanos()).unwrap_or(u64::MAX)
+}
+
+impl<K: RecordKey, V: Record> Cache<K, V> {
+    /// Opens an empty cache which takes at most so many bytes, at any moment, with as many entries as there is room for; it lends so many
+    /// handles, one for each thread that makes calls at the same time. [`CacheOptions`] has other forms of it.
+    ///
+    /// ```
+    /// # use vbr::Cache;
+    /// let cache: Cache<u64, [u8; 4_096]> = Cache::open_bytes(64 << 20, 4)?; // pages, in 64 MiB
+    /// assert!(cache.bytes() <= 64 << 20 && cache.capacity() > 15_000);
+    /// # Ok::<(), vbr::CacheOpenError>(())
+    /// ```
+    ///
+    /// # Errors
+    ///
+    /// [`CacheOpenError`]. Nothing is kept then.
+    pub fn open_bytes(bytes: usize, handles: usize) -> Result<Cache<K, V>, CacheOpenError> {
+        CacheOptions::new().open_bytes(bytes, handles)
+    }
+
+    /// Opens an empty cache which keeps so many entries, and lends so many handles.
+    ///
+    /// ```
+    /// # use vbr::Cache;
+    /// let cache: Cache<u64, u64> = Cache::open_for(1_000, 2)?;
+    /// assert_eq!((cache.capacity(), cache.handle_count()), (1_000, 2));
+    /// # Ok::<(), vbr::OpenError>(())
+    /// ```
+    ///
+    /// # Errors
+    ///
+    /// [`OpenError::Shape`], which is tested first: with [`ShapeError::Slots`](crate::ShapeError::Slots) if it is for no entry, or for more
+    /// than there are slots; and [`OpenError::Memory`]. Nothing is kept then.
+    pub fn open_for(entries: u32, handles: usize) -> Result<Cache<K, V>, OpenError> {
+        CacheOptions::new().open_for(entries, handles)
+    }
+}
+
+impl<K: RecordKey, V: Record, H: BuildHasher> Cache<K, V, H> {
+    /// The number that a key has in the table.
+    #[inline]
+    pub(crate) fn number_of(&self, key: K) -> u64 {
+        key.number(&self.options.hasher)
+    }
+}
+
+/// Calls of the cache itself, each by a loan for it alone.
+impl<K: RecordKey, V: Record, H: BuildHasher> Cache<K, V, H> {
+    /// The value of a key, whole, as [`CacheLent::get`] gives it.
+    ///
+    /// ```
+    /// # use vbr::Cache;
+    /// let cache: Cache<u64, u64> = Cache::open_for(100, 1)?;
+    /// cache.put(5, 70)?;
+    /// assert_eq!((cache.get(5)?, cache.get(6)?), (Some(70), None));
+    /// # Ok::<(), Box<dyn std::error::Error>>(())
+    /// ```
+    ///
+    /// # Errors
+    ///
+    /// [`OutOfSteps`].
+    pub fn get(&self, key: K) -> Result<Option<V>, OutOfSteps> {
+        self.lend_wait().get(key)
+    }
+
+    /// Gives a key this value, and returns the one that it had, as [`CacheLent::put`] does.
+    ///
+    /// ```
+    /// # use vbr::Cache;
+    /// let cache: Cache<u64, u64> = Cache::open_for(100, 1)?;
+    /// assert_eq!((cache.put(5, 70)?, cache.put(5, 71)?), (None, Some(70)));
+    /// # Ok::<(), Box<dyn std::error::Error>>(())
+    /// ```
+    ///
+    /// # Errors
+    ///
+    /// The same as for [`CacheLent::put`].
+    pub fn put(&self, key: K, value: V) -> Result<Option<V>, Refusal> {
+        self.lend_wait().put(key, value)
+    }
+
+    /// As [`Cache::put`], with a time to live of its own, as [`CacheLent::put_for`] does.
+    ///
+    /// ```
+    /// # use vbr::Cache;
+    /// let cache: Cache<u64, u64> = Cache::open_for(100, 1)?;
+    /// # use std::time::Duration;
+    /// cache.put_for(5, 70, Duration::from_secs(60))?;
+    /// assert_eq!(cache.get(5)?, Some(70));
+    /// # Ok::<(), Box<dyn std::error::Error>>(())
+    /// ```
+    ///
+    /// # Errors
+    ///
+    /// The same as for [`CacheLent::put`].
+    pub fn put_for(&self, key: K, value: V, time: Duration) -> Result<Option<V>, Refusal> {
+        self.lend_wait().put_for(key, value, time)
+    }
+
+    /// Takes a key out, and returns the value that it had, as [`CacheLent::remove`] does.
+    ///
+    /// ```
+    /// # use vbr::Cache;
+    /// let cache: Cache<u64, u64> = Cache::open_for(100, 1)?;
+    /// cache.put(5, 70)?;
+    /// assert_eq!((cache.remove(5)?, cache.remove(5)?), (Some(70), None));
+    /// # Ok::<(), Box<dyn std::error::Error>>(())
+    /// ```
+    ///
+    /// # Errors
+    ///
+    /// [`OutOfSteps`]. Nothing was changed then.
+    pub fn remove(&self, key: K) -> Result<Option<V>, OutOfSteps> {
+        self.lend_wait().remove(key)
+    }
+
+    /// Does with a key what `change` says of what is there, as [`CacheLent::compute`] does. `change` makes no call of the cache.
+    ///
+    /// ```
+    /// # use vbr::Cache;
+    /// let cache: Cache<u64, u64> = Cache::open_for(100, 1)?;
+    /// cache.compute(5, |count| vbr::CacheChange::Put(count.unwrap_or(0) + 1))?;
+    /// assert_eq!(cache.get(5)?, Some(1));
+    /// # Ok::<(), Box<dyn std::error::Error>>(())
+    /// ```
+    ///
+    /// # Errors
+    ///
+    /// The same as for [`CacheLent::compute`].
+    pub fn compute(&self, key: K, change: impl FnMut(Option<V>) -> CacheChange<V>) -> Result<Option<V>, Refusal> {
+        self.lend_wait().compute(key, change)
+    }
+
+    /// The value of a key; if it is absent, the one that `loader` returns, as [`CacheLent::get_or_load`] has it.
+    ///
+    /// ```
+    /// # use vbr::Cache;
+    /// let cache: Cache<u64, u64> = Cache::open_for(100, 1)?;
+    /// assert_eq!(cache.get_or_load(5, || Err("no answer")), Err(vbr::LoadError::Failed("no answer")));
+    /// assert_eq!(cache.get_or_load(5, || Ok::<_, ()>(70)), Ok(70));
+    /// # Ok::<(), Box<dyn std::error::Error>>(())
+    /// ```
+    ///
+    /// # Errors
+    ///
+    /// The same as for [`CacheLent::get_or_load`].
+    pub fn get_or_load<E>(&self, key: K, loader: impl FnOnce() -> Result<V, E>) -> Result<V, LoadError<E>> {
+        self.lend_wait().get_or_load(key, loader)
+    }
+
+    /// The same without waiting for another thread's loader, as [`CacheLent::try_get_or_load`] has it.
+    ///
+    /// ```
+    /// # use vbr::Cache;
+    /// let cache: Cache<u64, u64> = Cache::open_for(100, 1)?;
+    /// assert_eq!(cache.try_get_or_load(5, || Ok::<_, ()>(70)), Ok(70));
+    /// # Ok::<(), Box<dyn std::error::Error>>(())
+    /// ```
+    ///
+    /// # Errors
+    ///
+    /// The same as for [`CacheLent::try_get_or_load`].
+    pub fn try_get_or_load<E>(&self, key: K, loader: impl FnOnce() -> Result<V, E>) -> Result<V, LoadError<E>> {
+        self.lend_wait().try_get_or_load(key, loader)
+    }
+}
+
+impl<K: RecordKey, V: Record, H> fmt::Debug for Cache<K, V, H> {
+    fn fmt(&self, f: &mut fmt::Formatter<'_>) -> fmt::Result {
+        f.debug_struct("Cache")
+            .field("capacity", &self.capacity)
+            .field("bytes", &self.bytes)
+            .field("handles", &self.handle_count())
+            .field("statistics", &self.statistics())
+            .finish_non_exhaustive()
+    }
+}
+
+/// What the calls of a [`Cache`] have done since its opening, by [`Cache::statistics`].
+///
+/// ```
+/// # use vbr::{Cache, CacheStatistics};
+/// fn hit_ratio(told: CacheStatistics) -> f64 {
+///     told.hits as f64 / (told.hits + told.misses) as f64
+/// }
+/// let cache: Cache<u64, u64> = Cache::open_for(100, 1)?;
+/// for key in [5, 6, 5, 5] {
+///     cache.get_or_load(key, || Ok::<_, ()>(70)).expect("a loader that doesn't fail");
+/// }
+/// assert_eq!(hit_ratio(cache.statistics()), 0.5);
+/// # Ok::<(), vbr::OpenError>(())
+/// ```
+#[derive(Clone, Copy, Debug, Default, PartialEq, Eq, Hash)]
+#[non_exhaustive]
+pub struct CacheStatistics {
+    /// How many look-ups gave a value: of `get`, and of `get_or_load` before it loads or waits.
+    pub hits: u64,
+    /// How many gave none.
+    pub misses: u64,
+    /// How many entries went for others.
+    pub evictions: u64,
+    /// How many entries were taken out, or replaced, since they had expired.
+    pub expiries: u64,
+    /// How many loaders were begun.
+    pub loads: u64,
+    /// How many entries there are, also such as have expired and nobody met since.
+    pub length: u64,
+}

@@ -1,0 +1,477 @@
+//! Calls of caches.
+use crate::cache::{Cache, Count, Head, Mine};
+use crate::cache_loads::LoadError;
+use crate::{Cursor, OutOfSteps, Record, RecordKey, Refusal, Steps, WalkError};
+use std::fmt;
+use std::hash::{BuildHasher, RandomState};
+use std::time::{Duration, Instant};
+
+/// A loan of a [`Cache`], which makes all calls: a handle, which goes back when this is dropped. It may go to another thread, and is not
+/// `Sync`.
+///
+/// A look-up hashes the key, unless that is kept as itself, finds the entry, copies the record, asks by one load whether the entry still
+/// stands there, and marks it as used unless it is marked. It writes nothing then but its count of hits, on a cache line of the handle's
+/// own. A call that stores a value takes a slot, writes the record there, and puts it in the place of the entry that it read. If the key
+/// was absent and the cache is full, another entry goes first.
+///
+/// Each step of a call has the budget of the handle ([`CacheLent::set_steps`]). A change begins again once for each update of the key
+/// by others that came in between.
+///
+/// # What becomes of the loan in a renewal, and while a loader runs
+///
+/// The handle isn't kept while a loader of this loan runs, nor while it waits for another one, nor while the cache is renewed: it
+/// is given back, and another one is taken afterwards. So a call may wait for a handle that is free, as [`Cache::lend_wait`] does.
+///
+/// For a renewal each loan has to be given back or to begin a call. Until the last epoch is spent, which takes years in most caches,
+/// nobody waits for more than a millisecond for that; from then on a call that stores a value waits for the other loans. A thread
+/// that keeps a loan all that time and makes no call holds it up, and so does one that has two loans itself.
+///
+/// ```
+/// # use vbr::{Cache, CacheChange, CacheLent, Refusal};
+/// /// Counts a visit of a page.
+/// fn visit(pages: &mut CacheLent<u64, u64>, page: u64) -> Result<(), Refusal> {
+///     pages.compute(page, |count| CacheChange::Put(count.unwrap_or(0) + 1))?;
+///     Ok(())
+/// }
+/// let pages = Cache::open_for(100, 1)?;
+/// let mut mine = pages.lend_wait();
+/// visit(&mut mine, 5)?;
+/// visit(&mut mine, 5)?;
+/// assert_eq!(mine.get(5)?, Some(2));
+/// # Ok::<(), Box<dyn std::error::Error>>(())
+/// ```
+///
+/// ```compile_fail,E0277
+/// fn is_sync<T: Sync>() {}
+/// is_sync::<vbr::CacheLent<'static, u64, u64>>();
+/// ```
+#[must_use = "it goes back when it is dropped"]
+#[clippy::has_significant_drop]
+pub struct CacheLent<'c, K: RecordKey, V: Record, H = RandomState> {
+    cache: &'c Cache<K, V, H>,
+    /// None while it is given back.
+    lent: Option<Mine<'c>>,
+    steps: Option<Steps>,
+}
+
+/// What [`CacheLent::compute`] is to do with a key.
+///
+/// ```
+/// # use std::time::Duration;
+/// # use vbr::{Cache, CacheChange};
+/// let cache: Cache<u64, u64> = Cache::open_for(100, 1)?;
+/// cache.put_for(5, 70, Duration::from_secs(60))?;
+/// cache.compute(5, |before| before.map_or(CacheChange::Keep, |value| CacheChange::Update(value + 1)))?;
+/// assert_eq!(cache.get(5)?, Some(71)); // for what is left of the minute
+/// # Ok::<(), Box<dyn std::error::Error>>(())
+/// ```
+#[derive(Clone, Copy, Debug, PartialEq, Eq, Hash)]
+pub enum CacheChange<V> {
+    /// It stays as it is, there or not.
+    Keep,
+    /// It gets this value, with the time to live of the cache, and is inserted if it is absent.
+    Put(V),
+    /// The same, with a time to live of its own.
+    PutFor(V, Duration),
+    /// It gets this value, and expires when it would have; if it is absent, as with `Put`.
+    Update(V),
+    /// It is taken out if it is there.
+    Remove,
+}
+
+impl<'c, K: RecordKey, V: Record, H> CacheLent<'c, K, V, H> {
+    #[inline]
+    pub(crate) fn of(cache: &'c Cache<K, V, H>, lent: Mine<'c>) -> CacheLent<'c, K, V, H> {
+        CacheLent { cache, lent: Some(lent), steps: None }
+    }
+
+    /// The handle; another one if it was given back, or a thread waits for all of them.
+    #[inline]
+    fn mine(&mut self) -> &mut Mine<'c> {
+        if self.cache.table.lender.is_paused() {
+            self.lent = None;
+        }
+        self.lent.get_or_insert_with(|| {
+            let mut lent = self.cache.table.lend_wait();
+            if let Some(steps) = self.steps {
+                lent.set_steps(steps);
+            }
+            lent
+        })
+    }
+
+    /// Gives the calls of this loan another budget. After the loan the handle has its own again.
+    ///
+    /// ```
+    /// # use vbr::{Cache, OutOfSteps, Steps};
+    /// let cache: Cache<u64, u64> = Cache::open_for(100, 1)?;
+    /// let mut mine = cache.lend_wait();
+    /// mine.set_steps(Steps::new(1));
+    /// assert_eq!(mine.get(5), Err(OutOfSteps));
+    /// # Ok::<(), vbr::OpenError>(())
+    /// ```
+    pub fn set_steps(&mut self, steps: Steps) {
+        self.steps = Some(steps);
+        self.mine().set_steps(steps);
+    }
+
+    /// Returns the next entry of a walk, a key and its value; `None` at the end. A key that is there all the while is given, once, with a
+    /// value that it had at a moment of the call. It is no use of the entry, and an entry that has expired is passed over. It makes two
+    /// look-ups for each entry.
+    ///
+    /// ```
+    /// # use vbr::{Cache, Cursor};
+    /// let cache: Cache<u64, u64> = Cache::open_for(100, 1)?;
+    /// let mut mine = cache.lend_wait();
+    /// mine.put(5, 70)?;
+    /// let mut cursor = Cursor::first();
+    /// assert_eq!((mine.next(&mut cursor)?, mine.next(&mut cursor)?), (Some((5, 70)), None));
+    /// # Ok::<(), Box<dyn std::error::Error>>(())
+    /// ```
+    ///
+    /// # Errors
+    ///
+    /// [`WalkError`]. Nothing is given then, and no entry is passed over by the next call.
+    pub fn next(&mut self, cursor: &mut Cursor) -> Result<Option<(K, V)>, WalkError> {
+        let (cache, mine) = (self.cache, self.mine());
+        loop {
+            let before = *cursor;
+            let Some((number, _)) = mine.next_at(cursor)? else { return Ok(None) };
+            match cache.records.read_entry(mine, number) {
+                Ok(Some(((head, (kept, value)), _))) if !cache.is_over(head.expires) => {
+                    return Ok(Some((K::from_kept(number, kept), value)));
+                }
+                Ok(_) => {} // it has left, or expired
+                Err(why) => {
+                    *cursor = before;
+                    return Err(why.into());
+                }
+            }
+        }
+    }
+
+    /// Takes out all entries that are there as it begins. Those that are put in meanwhile may stay. It goes once over the entries.
+    ///
+    /// ```
+    /// # use vbr::Cache;
+    /// let cache: Cache<u64, u64> = Cache::open_for(100, 1)?;
+    /// cache.put(5, 70)?;
+    /// cache.lend_wait().clear()?;
+    /// assert_eq!((cache.get(5)?, cache.statistics().length), (None, 0));
+    /// # Ok::<(), Box<dyn std::error::Error>>(())
+    /// ```
+    ///
+    /// # Errors
+    ///
+    /// [`OutOfSteps`]. Some were taken out then.
+    pub fn clear(&mut self) -> Result<(), OutOfSteps> {
+        let (cache, mut cursor) = (self.cache, Cursor::first());
+        cache.loads.outdate(|_| true);
+        let mine = self.mine();
+        while let Some((number, at)) = mine.next_at(&mut cursor).map_err(WalkError::of_borrowed)? {
+            cache.take_out(mine, number, &at)?;
+        }
+        Ok(())
+    }
+
+    /// The handle, for a call that stores a value. At 7/8 of the last epoch the cache is renewed first, if nobody keeps a loan.
+    fn mine_to_store(&mut self) -> &mut Mine<'c> {
+        let cache = self.cache;
+        if cache.is_due(self.mine().epoch()) {
+            let renewals = cache.table.lender.renewals();
+            self.lent = None;
+            let _ = cache.renew_once(renewals, Some(Instant::now() + Duration::from_millis(1)));
+        }
+        self.mine()
+    }
+}
+
+impl<K: RecordKey, V: Record, H: BuildHasher> CacheLent<'_, K, V, H> {
+    /// The value of a key, a copy that is whole, and that the key had at a moment of the call; none if the key is absent. The entry counts
+    /// as used. One that has expired is taken out, and is a miss. Nothing that other threads write is written if it was used since the
+    /// hand came by.
+    ///
+    /// ```
+    /// # use vbr::Cache;
+    /// let cache: Cache<u64, [u64; 4]> = Cache::open_for(100, 1)?;
+    /// let mut mine = cache.lend_wait();
+    /// mine.put(5, [7; 4])?;
+    /// assert_eq!((mine.get(5)?, mine.get(6)?), (Some([7; 4]), None));
+    /// # Ok::<(), Box<dyn std::error::Error>>(())
+    /// ```
+    ///
+    /// # Errors
+    ///
+    /// [`OutOfSteps`]. It isn't counted then.
+    #[inline]
+    pub fn get(&mut self, key: K) -> Result<Option<V>, OutOfSteps> {
+        let (cache, number) = (self.cache, self.cache.number_of(key));
+        let mine = self.mine();
+        let value = cache.look_up(mine, number, key)?;
+        cache.count(mine.number(), if value.is_some() { Count::Hits } else { Count::Misses });
+        Ok(value)
+    }
+
+    /// Whether a key is there, and hasn't expired. It is no use of the entry, isn't counted, and reads nothing of the value.
+    ///
+    /// ```
+    /// # use vbr::Cache;
+    /// let cache: Cache<u64, u64> = Cache::open_for(100, 1)?;
+    /// let mut mine = cache.lend_wait();
+    /// mine.put(5, 70)?;
+    /// assert!(mine.has(5)? && !mine.has(6)?);
+    /// # Ok::<(), Box<dyn std::error::Error>>(())
+    /// ```
+    ///
+    /// # Errors
+    ///
+    /// [`OutOfSteps`].
+    #[doc(alias = "contains_key")]
+    pub fn has(&mut self, key: K) -> Result<bool, OutOfSteps> {
+        let (cache, number) = (self.cache, self.cache.number_of(key));
+        let found = cache.records.words.read_entry::<(Head, K::Kept), _>(self.mine(), number)?;
+        Ok(found.is_some_and(|((head, kept), _)| kept == key.kept() && !cache.is_over(head.expires)))
+    }
+
+    /// Gives a key this value, with the time to live of the cache, and returns the one that it had; `None` if it was absent, and then it
+    /// is inserted. Another entry goes if the cache is full.
+    ///
+    /// ```
+    /// # use vbr::Cache;
+    /// let cache: Cache<u64, u64> = Cache::open_for(1, 1)?;
+    /// let mut mine = cache.lend_wait();
+    /// assert_eq!((mine.put(5, 70)?, mine.put(5, 71)?, mine.put(6, 72)?), (None, Some(70), None));
+    /// assert_eq!((mine.get(5)?, mine.get(6)?), (None, Some(72)));
+    /// # Ok::<(), Box<dyn std::error::Error>>(())
+    /// ```
+    ///
+    /// # Errors
+    ///
+    /// As for [`CacheLent::compute`]. Nothing was changed then but for entries that were evicted.
+    pub fn put(&mut self, key: K, value: V) -> Result<Option<V>, Refusal> {
+        self.compute(key, |_| CacheChange::Put(value))
+    }
+
+    /// As [`CacheLent::put`], with a time to live of its own.
+    ///
+    /// ```
+    /// # use std::time::Duration;
+    /// # use vbr::Cache;
+    /// let cache: Cache<u64, u64> = Cache::open_for(100, 1)?;
+    /// let mut mine = cache.lend_wait();
+    /// mine.put_for(5, 70, Duration::from_millis(1))?;
+    /// std::thread::sleep(Duration::from_millis(1));
+    /// assert_eq!(mine.get(5)?, None);
+    /// # Ok::<(), Box<dyn std::error::Error>>(())
+    /// ```
+    ///
+    /// # Errors
+    ///
+    /// The same as for [`CacheLent::put`].
+    pub fn put_for(&mut self, key: K, value: V, time: Duration) -> Result<Option<V>, Refusal> {
+        self.compute(key, |_| CacheChange::PutFor(value, time))
+    }
+
+    /// Adds a key with a value, and says whether it was absent; one that is there keeps its value and its expiry.
+    ///
+    /// ```
+    /// # use vbr::Cache;
+    /// let cache: Cache<u64, u64> = Cache::open_for(100, 1)?;
+    /// let mut mine = cache.lend_wait();
+    /// assert!(mine.try_insert(5, 70)? && !mine.try_insert(5, 71)?);
+    /// # Ok::<(), Box<dyn std::error::Error>>(())
+    /// ```
+    ///
+    /// # Errors
+    ///
+    /// The same as for [`CacheLent::put`], if the key was absent; otherwise [`Refusal::OutOfSteps`] alone.
+    pub fn try_insert(&mut self, key: K, value: V) -> Result<bool, Refusal> {
+        let before = self.compute(key, |before| before.map_or(CacheChange::Put(value), |_| CacheChange::Keep))?;
+        Ok(before.is_none())
+    }
+
+    /// Gives a key that is there another value, with the time to live of the cache, and returns the one that it had; `None` if it was
+    /// absent, and then nothing was changed.
+    ///
+    /// ```
+    /// # use vbr::Cache;
+    /// let cache: Cache<u64, u64> = Cache::open_for(100, 1)?;
+    /// let mut mine = cache.lend_wait();
+    /// mine.put(5, 70)?;
+    /// assert_eq!((mine.replace(5, 71)?, mine.replace(6, 71)?), (Some(70), None));
+    /// # Ok::<(), Box<dyn std::error::Error>>(())
+    /// ```
+    ///
+    /// # Errors
+    ///
+    /// The same as for [`CacheLent::put`], if the key was there; otherwise [`Refusal::OutOfSteps`] alone.
+    pub fn replace(&mut self, key: K, value: V) -> Result<Option<V>, Refusal> {
+        self.compute(key, |before| before.map_or(CacheChange::Keep, |_| CacheChange::Put(value)))
+    }
+
+    /// Gives a key that is there another time to live, from now on, and says whether it was there. The entry counts as used. It costs as
+    /// much as a [`CacheLent::replace`] by the same value, which it is.
+    ///
+    /// ```
+    /// # use std::time::Duration;
+    /// # use vbr::Cache;
+    /// let cache: Cache<u64, u64> = Cache::open_for(100, 1)?;
+    /// let mut mine = cache.lend_wait();
+    /// mine.put(5, 70)?;
+    /// assert!(mine.touch(5, Duration::ZERO)? && !mine.touch(5, Duration::from_secs(1))?);
+    /// # Ok::<(), Box<dyn std::error::Error>>(())
+    /// ```
+    ///
+    /// # Errors
+    ///
+    /// The same as for [`CacheLent::replace`].
+    pub fn touch(&mut self, key: K, time: Duration) -> Result<bool, Refusal> {
+        let touched = |before: Option<V>| before.map_or(CacheChange::Keep, |value| CacheChange::PutFor(value, time));
+        Ok(self.compute(key, touched)?.is_some())
+    }
+
+    /// Takes a key out, and returns the value that it had; `None` if it was absent, or had expired. It takes no slot.
+    ///
+    /// ```
+    /// # use vbr::Cache;
+    /// let cache: Cache<u64, u64> = Cache::open_for(100, 1)?;
+    /// let mut mine = cache.lend_wait();
+    /// mine.put(5, 70)?;
+    /// assert_eq!((mine.remove(5)?, mine.remove(5)?), (Some(70), None));
+    /// # Ok::<(), Box<dyn std::error::Error>>(())
+    /// ```
+    ///
+    /// # Errors
+    ///
+    /// [`OutOfSteps`]. Nothing was changed then.
+    pub fn remove(&mut self, key: K) -> Result<Option<V>, OutOfSteps> {
+        // what takes no slot is refused for one reason alone
+        self.compute(key, |_| CacheChange::Remove).map_err(|_| OutOfSteps)
+    }
+
+    /// Does with a key what `change` says, which is asked with the value that the key has, or with `None` if it is absent or has expired,
+    /// and returns that value.
+    ///
+    /// The change is made only if the key still has the entry that `change` was told of. If another call came in between, `change` is
+    /// asked again, with what that left. So no change is lost. It is asked while a handle is on loan, so it makes no call of the
+    /// cache.
+    ///
+    /// ```
+    /// # use std::time::Duration;
+    /// # use vbr::{Cache, CacheChange};
+    /// let cache: Cache<u64, u64> = Cache::open_for(100, 1)?;
+    /// let mut mine = cache.lend_wait();
+    /// /// Three tries in a minute.
+    /// let next_try = |tries: Option<u64>| match tries {
+    ///     None => CacheChange::PutFor(1, Duration::from_secs(60)),
+    ///     Some(3) => CacheChange::Keep,
+    ///     Some(tries) => CacheChange::Update(tries + 1),
+    /// };
+    /// for before in [None, Some(1), Some(2), Some(3), Some(3)] {
+    ///     assert_eq!(mine.compute(5, next_try)?, before);
+    /// }
+    /// # Ok::<(), Box<dyn std::error::Error>>(())
+    /// ```
+    ///
+    /// # Errors
+    ///
+    /// [`Refusal::OutOfSteps`]. If a value was to be stored also [`Refusal::EpochSpent`], if the cache is renewed by the program, or
+    /// there is no memory for a renewal; and [`Refusal::NoSlot`], if no entry can go, since other handles keep all slots, or removes had
+    /// too few steps to free theirs. The key is as it was then.
+    pub fn compute(&mut self, key: K, mut change: impl FnMut(Option<V>) -> CacheChange<V>) -> Result<Option<V>, Refusal> {
+        let (cache, number) = (self.cache, self.cache.number_of(key));
+        cache.loads.outdate(|it| it == number);
+        loop {
+            let mine = self.mine_to_store();
+            let renewals = cache.table.lender.renewals();
+            match cache.change(mine, number, key, &mut change) {
+                Err(Refusal::EpochSpent) if cache.options.renews => {
+                    self.lent = None;
+                    cache.renew_once(renewals, None).map_err(|_| Refusal::EpochSpent)?;
+                }
+                told => return told,
+            }
+        }
+    }
+
+    /// The value of a key; if it is absent, the one that `loader` returns, which is put in with the time to live of the cache.
+    ///
+    /// If several threads miss one key at a time, one of them runs its loader, and the others wait until it has ended, and look again. If
+    /// it failed or panicked, one of those that waited runs its own. The loan has no handle while the loader runs or the thread waits. So a
+    /// loader may take its time, and make calls of the cache for other keys. Two that wait for each other's key wait for ever.
+    ///
+    /// A value is put in if the key is still absent then; otherwise the call returns what is there. If the key was changed or taken
+    /// out while the loader ran, by other calls than a load, the value is returned and not kept, and a call that begins after that
+    /// change doesn't wait for it. So once [`CacheLent::remove`] returns, nobody finds what was loaded before. It isn't kept either
+    /// if it is refused, and if more than 256 other keys are being loaded; then the load isn't shared.
+    ///
+    /// ```
+    /// # use vbr::{Cache, LoadError};
+    /// let cache: Cache<u64, u64> = Cache::open_for(100, 4)?;
+    /// let square = |number: u64| move || number.checked_mul(number).ok_or("it is too large");
+    /// let mut mine = cache.lend_wait();
+    /// assert_eq!(mine.get_or_load(5, square(5)), Ok(25));
+    /// assert_eq!(mine.get_or_load(5, || Err("it is there")), Ok(25));
+    /// assert_eq!(mine.get_or_load(u64::MAX, square(u64::MAX)), Err(LoadError::Failed("it is too large")));
+    /// # Ok::<(), vbr::OpenError>(())
+    /// ```
+    ///
+    /// # Errors
+    ///
+    /// [`LoadError::Failed`], if `loader` fails; [`LoadError::UnderWay`], if a loader of this thread loads the key;
+    /// [`LoadError::OutOfSteps`]. Nothing was put in then.
+    pub fn get_or_load<E>(&mut self, key: K, loader: impl FnOnce() -> Result<V, E>) -> Result<V, LoadError<E>> {
+        self.load(key, loader, true)
+    }
+
+    /// As [`CacheLent::get_or_load`], and doesn't wait for the loader of another thread.
+    ///
+    /// ```
+    /// # use vbr::{Cache, LoadError};
+    /// let cache: Cache<u64, u64> = Cache::open_for(100, 2)?;
+    /// let told = cache.get_or_load(5, || {
+    ///     let elsewhere = std::thread::scope(|scope| scope.spawn(|| cache.try_get_or_load(5, || Ok::<_, ()>(71))).join());
+    ///     assert_eq!(elsewhere.expect("it doesn't panic"), Err(LoadError::UnderWay));
+    ///     Ok::<_, ()>(70)
+    /// });
+    /// assert_eq!(told, Ok(70));
+    /// # Ok::<(), vbr::OpenError>(())
+    /// ```
+    ///
+    /// # Errors
+    ///
+    /// The same as for [`CacheLent::get_or_load`], and [`LoadError::UnderWay`] if another thread loads the key.
+    pub fn try_get_or_load<E>(&mut self, key: K, loader: impl FnOnce() -> Result<V, E>) -> Result<V, LoadError<E>> {
+        self.load(key, loader, false)
+    }
+
+    fn load<E>(&mut self, key: K, loader: impl FnOnce() -> Result<V, E>, waits: bool) -> Result<V, LoadError<E>> {
+        let (cache, number) = (self.cache, self.cache.number_of(key));
+        if let Some(value) = self.get(key)? {
+            return Ok(value);
+        }
+        let claimed = loop {
+            self.lent = None;
+            let claimed = cache.loads.claim(number, waits)?;
+            if let Some(value) = cache.look_up(self.mine(), number, key)? {
+                return Ok(value); // that of a load which ended just before
+            }
+            if let Some(claimed) = claimed {
+                break claimed;
+            }
+        };
+        cache.count(self.mine().number(), Count::Loads);
+        self.lent = None;
+        let value = loader().map_err(LoadError::Failed)?;
+        let mine = self.mine_to_store();
+        let mut unless_there = |before: Option<V>| before.map_or(CacheChange::Put(value), |_| CacheChange::Keep);
+        let kept = claimed.keep(|| cache.change(mine, number, key, &mut unless_there));
+        Ok(kept.and_then(Result::ok).flatten().unwrap_or(value))
+    }
+}
+
+impl<K: RecordKey, V: Record, H> fmt::Debug for CacheLent<'_, K, V, H> {
+    fn fmt(&self, f: &mut fmt::Formatter<'_>) -> fmt::Result {
+        f.debug_struct("CacheLent").field("number", &self.lent.as_ref().map(Mine::number)).finish_non_exhaustive()
+    }
+}
