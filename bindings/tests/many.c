@@ -1,11 +1,12 @@
 /* Many callers of one set: a thousand threads with a handle each, all handles in turn, and all at once, on stacks of 64 KiB. As many
-   handles as there may be are opened, reported and closed. What opening and closing take is in proportion to the handles: a
-   thousand take at most 20 ms more than 64 with the same slots.
+   handles as there may be are opened, reported and closed. What opening and closing take is in proportion to the handles: four
+   times as many, with the same slots, take less than eight times the processor time, which other work on the machine leaves as it is
+   but for some noise. More rounds take that away.
 
        many [HANDLES] */
 #include "client.h"
 
-enum { OPENING = 3, BUCKETS = 1024, STACK = 64 << 10, ROUNDS = 15 };
+enum { OPENING = 3, BUCKETS = 1024, STACK = 64 << 10, FEW = 4000, MORE = 4 * FEW, ROUNDS = 5, MOST_ROUNDS = 100 };
 
 static const uint64_t opening[OPENING] = {1000000, 1000001, 1000002};
 static vbr_handle handle[VBR_MAX_MANY_HANDLES];
@@ -122,23 +123,26 @@ static void too_many(void) {
     free(more);
 }
 
-/* The least time in ms that an opening and a close of so many handles took, at once and one by one. */
-static double took(size_t handles, int one_by_one) {
-    double least = 1e9;
-    for (int round = 0; round < ROUNDS; round++) {
-        struct timespec from, to;
-        clock_gettime(CLOCK_MONOTONIC, &from);
-        CHECK(vbr_open_many(handle, handles, slots, BUCKETS, VBR_MAX_EPOCH, opening, OPENING) == VBR_OK);
-        if (one_by_one) {
-            for (size_t i = 0; i < handles; i++) CHECK(vbr_close(&handle[i], keys, 8, &report) == (i + 1 == handles ? VBR_YES : VBR_NO));
-        } else {
-            CHECK(vbr_close_all(handle, handles, keys, 8, &report) == VBR_YES);
-        }
-        clock_gettime(CLOCK_MONOTONIC, &to);
-        double ms = 1e3 * (double)(to.tv_sec - from.tv_sec) + 1e-6 * (double)(to.tv_nsec - from.tv_nsec);
-        if (ms < least) least = ms;
+static double worked(void) { return 1e3 * (double)clock() / CLOCKS_PER_SEC; }
+
+/* What an opening and a close of so many handles took, at once or one by one, in ms of processor time; or the least so far, if that is less. */
+static void take(double *least, size_t handles, int one_by_one) {
+    double from = worked();
+    CHECK(vbr_open_many(handle, handles, slots, BUCKETS, VBR_MAX_EPOCH, opening, OPENING) == VBR_OK);
+    if (one_by_one) {
+        for (size_t i = 0; i < handles; i++) CHECK(vbr_close(&handle[i], keys, 8, &report) == (i + 1 == handles ? VBR_YES : VBR_NO));
+    } else {
+        CHECK(vbr_close_all(handle, handles, keys, 8, &report) == VBR_YES);
     }
-    return least;
+    double ms = worked() - from;
+    if (ms < *least) *least = ms;
+}
+
+static void in_proportion(int one_by_one) {
+    double few = 1e9, more = 1e9;
+    for (int round = 0; round < ROUNDS || (more >= 8 * few && round < MOST_ROUNDS); round++) take(&few, FEW, one_by_one), take(&more, MORE, one_by_one);
+    printf("opening and closing %s take %.1f ms of %d handles and %.1f of %d\n", one_by_one ? "one by one" : "at once", few, FEW, more, MORE);
+    CHECK(more < 8 * few);
 }
 
 int main(int words, char **word) {
@@ -149,9 +153,7 @@ int main(int words, char **word) {
     in_threads();
     on_a_small_stack(ends, NULL);
     too_many();
-    double few = took(64, 0), many = took(1000, 0), few_in_turn = took(64, 1), many_in_turn = took(1000, 1);
-    CHECK(many - few <= 20 && many_in_turn - few_in_turn <= 20);
-    printf("%zu handles in threads and in turn, and all at once, in C: passed; opening and closing took %.1f ms of 64 handles and %.1f"
-           " of 1,000, one by one %.1f and %.1f\n", count, few, many, few_in_turn, many_in_turn);
+    in_proportion(0), in_proportion(1);
+    printf("%zu handles in threads and in turn, and all at once, in C: passed\n", count);
     return 0;
 }

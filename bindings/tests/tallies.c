@@ -2,7 +2,7 @@
    slots lie in the shared pool. */
 #include "client.h"
 
-enum { THREADS = 4, ROUNDS = 20000, SECONDS = 120 };
+enum { THREADS = 4, ROUNDS = 20000, SECONDS = 120 /* of processor time */ };
 
 static vbr_handle handles[THREADS];
 
@@ -70,10 +70,9 @@ static void *meet(void *of) {
 /* Threads that change the same keys begin traversals anew; and the advances of all handles make the epoch. */
 static void of_threads(void) {
     uint64_t restarts = 0, all = 0, epoch = 0;
-    double end = now() + SECONDS;
     CHECK(vbr_open(handles, THREADS, 64, 1, VBR_MAX_EPOCH) == VBR_OK);
     for (; restarts == 0; restarts = vbr_restarts(&handles[0]) + vbr_restarts(&handles[1])) {
-        CHECK(now() < end);
+        CHECK(clock() / CLOCKS_PER_SEC < SECONDS);
         run_threads(THREADS, meet, handles, sizeof *handles);
     }
     for (int i = 0; i < THREADS; i++) all += vbr_advances(&handles[i]);
