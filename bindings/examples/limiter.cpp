@@ -71,6 +71,7 @@ public:
     // The same with a step between, in which another thread may count.
     verdict admit_carelessly(std::uint64_t client, std::uint32_t now) {
         usage there = map.get(client).value().value_or(usage{0, 0});
+        if (there.count + 1 == LIMIT) std::this_thread::yield();
         std::optional<usage> next = there.with_one(now);
         if (!next) return {false, there.window};
         CHECK(map.put(client, *next).has_value());

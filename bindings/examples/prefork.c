@@ -304,7 +304,7 @@ int main(int argument_count, char **arguments) {
     is_careless = argument_count > 1 && !strcmp(arguments[1], "careless");
     int wanted = argument_count > 1 && !is_careless ? atoi(arguments[1]) : 120;
     uint64_t seed = argument_count > 2 ? strtoull(arguments[2], NULL, 10) : 1, random = (seed + 1) * 0x9e3779b97f4a7c15u | 1;
-    if (is_careless) alarm(600); /* what two processes tear may keep this one for ever */
+    if (is_careless) alarm(120); /* what two processes tear may keep this one for ever */
     board = mmap(NULL, sizeof *board, PROT_READ | PROT_WRITE, MAP_SHARED | MAP_ANONYMOUS, -1, 0);
     CHECK(board != MAP_FAILED);
     CHECK(!socketpair(AF_UNIX, SOCK_SEQPACKET, 0, connection));

@@ -40,7 +40,10 @@ static uint64_t seal_of(const struct account *it) {
 static int find(vbr_map_handle *map, uint64_t owner, struct account *account, vbr_incarnation *at) {
     vbr_answer there = is_careless ? vbr_map_get_entry(map, owner, at) : vbr_map_records_read(map, &accounts, owner, account, at);
     CHECK(there >= 0);
-    if (is_careless && there == VBR_YES) sched_yield(), vbr_records_copy(&accounts, at->slot, account);
+    if (is_careless && there == VBR_YES) {
+        if (at->value % 64 == 0) sched_yield(); /* while others go on */
+        vbr_records_copy(&accounts, at->slot, account);
+    }
     if (there == VBR_NO) return 0;
     CHECK(account->seal == seal_of(account)); /* or it is a copy of two */
     CHECK(account->owner == owner);           /* or of another one's */

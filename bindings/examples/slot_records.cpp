@@ -88,7 +88,7 @@ private:
     there copied(std::uint64_t owner) noexcept {
         std::optional<vbr::map_incarnation> at = map.get_entry(owner).value();
         if (!at) return std::nullopt;
-        std::this_thread::yield();
+        if (at->value() % 64 == 0) std::this_thread::yield(); // while others go on
         return there({records.copy(*at), *at});
     }
 

@@ -18,6 +18,7 @@
 #include <string.h>
 #include <sys/mman.h>
 #include <sys/prctl.h>
+#include <sys/time.h>
 #include <sys/wait.h>
 #include <unistd.h>
 
@@ -146,6 +147,21 @@ static pid_t forked(void) {
     return child;
 }
 
+static void give_way(int signal_number) {
+    (void)signal_number;
+    int kept = errno;
+    rest(20);
+    errno = kept;
+}
+
+/* Careless processes meet in the middle of calls, also where processors are few. */
+static void gives_way_often(void) {
+    struct itimerval often = {{0, 100}, {0, 100}};
+    struct sigaction action = {0};
+    action.sa_handler = give_way;
+    CHECK(!sigaction(SIGALRM, &action, NULL) && !setitimer(ITIMER_REAL, &often, NULL));
+}
+
 static pid_t begin_life(const struct round *r, int position, vbr_shared_handle *handle, uint64_t *random) {
     int number = (int)lives_begun % LIVES;
     struct life *life = &board->lives[number];
@@ -156,6 +172,7 @@ static pid_t begin_life(const struct round *r, int position, vbr_shared_handle *
     lives_begun++;
     pid_t child = forked();
     if (child) return child;
+    if (is_careless) gives_way_often();
     struct caller w = {.handle = handle, .life = life, .random = own, .cursor = VBR_CURSOR_BEGIN, .number = number};
     while (!atomic_load_explicit(&board->is_over, memory_order_relaxed) && atomic_load(&life->count) < CALLS) make(r, &w);
     _exit(0);
@@ -576,7 +593,7 @@ int main(int count, char **words) {
     long wanted = count > 2 ? atol(words[2]) : 20;
     uint64_t random = ((uint64_t)(count > 3 ? atol(words[3]) : 1) + 1) * 0x9e3779b97f4a7c15u | 1;
     is_careless = count > 1 && !strcmp(words[1], "careless");
-    if (is_careless) alarm(600); /* what two processes tear may keep this one for ever */
+    if (is_careless) alarm(120); /* what two processes tear may keep this one for ever */
     if (count > 1 && (is_careless || !strcmp(words[1], "order"))) return order(wanted, &random);
     if (count > 1 && !strcmp(words[1], "lost")) return lost(wanted, &random);
     if (count > 1 && !strcmp(words[1], "balance")) return balance(wanted, &random);

@@ -312,6 +312,7 @@ static void ordered(bool is_careless) {
                 if (turn > 1'000) std::this_thread::yield(), patience--;
             if (!is_careless) CHECK(add(of, at[round][mine]) == true);
             found[round][mine] = of.has(at[round][other]).value();
+            if (is_careless && round % 64 == 0) std::this_thread::yield(); // so that the other looks too, also where processors are few
             if (is_careless) CHECK(add(of, at[round][mine]) == true);
         }
     });

@@ -71,11 +71,14 @@ fn main() -> Result<(), Box<dyn Error>> {
         for first in 0..THREADS {
             let (cache, source) = (&cache, &source);
             scope.spawn(move || {
-                for turn in 0..20_000 {
+                for turn in 0..if is_careless { 2_000 } else { 20_000 } {
                     let page = (turn * 7 + first * turn / 3) % PAGES;
                     if turn % 5 == first && page % THREADS == first {
                         // nobody else changes this one
                         let changes = change(cache, source, page).expect("a page");
+                        if is_careless {
+                            thread::yield_now(); // others put in what they had read before
+                        }
                         let found = changes_of(&fetch(cache, source, page, is_careless).expect("a page"));
                         assert_eq!(found, changes, "an old page came back: FAILED");
                     } else {

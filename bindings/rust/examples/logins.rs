@@ -111,7 +111,11 @@ impl Known {
     fn sweep(&self, logins: &mut Logins, is_careless: bool) -> Result<[u64; 2], OutOfSteps> {
         let mut counts = [0; 2];
         while self.working.load(SeqCst) > 0 {
-            for seen in logins.expired(self.now.load(SeqCst))? {
+            let expired = logins.expired(self.now.load(SeqCst))?;
+            if is_careless {
+                thread::yield_now(); // and their users log in again
+            }
+            for seen in expired {
                 let swept = if is_careless { logins.sweep_carelessly(seen)? } else { logins.sweep(seen)? };
                 counts[usize::from(!swept)] += 1;
             }

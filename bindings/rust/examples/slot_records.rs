@@ -104,7 +104,7 @@ impl Accounts<'_> {
     /// What was paid, and what accounts had that were ended.
     fn work(&mut self, mut random: u64) -> Result<(u64, u64), Refusal> {
         let (mut paid, mut ended) = (0, 0);
-        for _ in 0..TURNS {
+        for _ in 0..if self.is_careless { TURNS / 25 } else { TURNS } {
             random ^= random << 13;
             random ^= random >> 7;
             random ^= random << 17;
@@ -128,7 +128,9 @@ impl Accounts<'_> {
 fn find(map: &vbr::MapPass, records: &Records<Account>, owner: u64, is_careless: bool) -> Result<Found, OutOfSteps> {
     let found = if is_careless {
         let at = map.get_entry(owner)?;
-        thread::yield_now();
+        if at.is_some_and(|at| at.value() % 64 == 0) {
+            thread::yield_now(); // while others go on
+        }
         at.map(|at| (records.copy(&at), at))
     } else {
         records.read_entry(map, owner)?
