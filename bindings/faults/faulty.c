@@ -109,6 +109,7 @@ vbr_answer WRAP(insert_within)(a_handle *handle, uint64_t key WITH(uint64_t valu
 static vbr_answer remove_after_look_up(a_handle *handle, uint64_t key WITH(uint64_t *value), uint32_t budget) {
     uint64_t seen = 0;
     vbr_answer answer = LOOK_UP(handle, key WITH(&seen), budget);
+    if (now(7)) sched_yield(); /* so that others remove it meanwhile, also where processors are few */
     vbr_answer removed = REAL(remove_within)(handle, key WITH(&(uint64_t){0}), budget);
     if (removed < 0) return removed;
     if (answer == VBR_YES) GIVE(value, seen);
