@@ -199,10 +199,10 @@ static void *work(void *of) {
 }
 
 static void *make_checkpoints(void *of) {
-    while (atomic_load(&working) > 0) {
+    do {
         checkpoint(of);
         sched_yield();
-    }
+    } while (atomic_load(&working) > 0);
     checkpoint(of);
     return NULL;
 }

@@ -78,10 +78,11 @@ int main() {
     for (std::uint64_t i = 0; i < THREADS; i++) threads.emplace_back([&, i] { ended += work(mine, 88172645463325252u + i, REQUESTS); });
     long renewals = 0;
     std::thread clock([&] {
-        for (; !is_over; renewals++) {
+        do {
             std::this_thread::sleep_for(PERIOD); // a week, say
             mine.renew();
-        }
+            renewals++;
+        } while (!is_over);
     });
     for (std::thread &thread : threads) thread.join();
     is_over = true;

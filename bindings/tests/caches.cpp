@@ -334,11 +334,14 @@ static void loaders_of_threads(int failures) {
     constexpr int THREADS = 6;
     numbers cache = numbers::open_for(8, 2).value(); // there are fewer handles than threads, and nobody keeps one while it waits
     std::atomic<int> begun{0}, runs{0}, failed{0};
+    std::atomic<bool> is_under_way{false}, has_asked{false};
+    const auto end = std::chrono::steady_clock::now() + 10min; // of what hangs
     std::vector<std::thread> threads;
     for (int i = 0; i < THREADS; i++)
         threads.emplace_back([&] {
             auto loads = [&]() -> std::optional<std::uint64_t> {
-                while (begun < THREADS) std::this_thread::yield();
+                is_under_way = true;
+                while ((begun < THREADS || !has_asked) && std::chrono::steady_clock::now() < end) std::this_thread::yield();
                 std::this_thread::sleep_for(20ms); // so that the others wait
                 const int run = ++runs;
                 if (run > failures) return 70;
@@ -354,9 +357,9 @@ static void loaders_of_threads(int failures) {
                 failed++;
             }
         });
-    while (runs == 0 && begun < THREADS) std::this_thread::yield();
-    const auto refused = cache.lend_wait().try_get_or_load(5, unwanted);
-    CHECK(refused == vbr::refusal::load_under_way || refused == std::optional<std::uint64_t>(70));
+    while (!is_under_way) std::this_thread::yield();
+    CHECK(cache.lend_wait().try_get_or_load(5, unwanted) == vbr::refusal::load_under_way);
+    has_asked = true;
     for (std::thread &each : threads) each.join();
     CHECK(failed == failures && runs == failures + 1 && cache.statistics().loads == static_cast<std::uint64_t>(runs) && cache.on_loan() == 0);
     CHECK(cache.lend().get(5) == std::optional<std::uint64_t>(70));

@@ -383,7 +383,7 @@ static void renewals_and_loans() {
     std::vector<std::thread> threads;
     for (std::uint64_t i = 0; i < 8; i++)
         threads.emplace_back([&, i] {
-            for (int round = 0; round < 600; round++) {
+            for (int round = 0; round < 600 || (renewed == 0 && round < 10'000'000); round++) { // and until a renewal has come between
                 lender.lend_owned() = {};
                 auto mine = round % 3 == 0 ? lender.lend_wait() : round % 3 == 1 ? lender.lend_for(std::chrono::hours(1)) : lender.lend();
                 if (!mine) continue;

@@ -227,7 +227,7 @@ static void shared_renewals(Lender lender) {
                 done += lender.renew(wanted).has_value();
             });
         while (begun < 3 || lender.lend()) std::this_thread::yield();
-        std::this_thread::sleep_for(std::chrono::milliseconds(20)); // so that all wait
+        std::this_thread::sleep_for(std::chrono::milliseconds(20 * (turn + 1))); // so that all wait
         kept = {};
         for (std::thread &each : threads) each.join();
         CHECK(done == 3 && renewals_made > 0 && lender.slots() == wanted.slots);

@@ -406,6 +406,9 @@ public:
         }
     }
 
+    // Whether amounts went in and out, and renewals came between.
+    bool has_met() const { return put_in > 0 && taken_out > 0 && renewals > 3; }
+
     void renew_now_and_then() {
         for (bool is_wide = false; !is_over; is_wide = !is_wide) {
             CHECK(map.renew(vbr::shape::for_keys(is_wide ? 4 * KEYS : KEYS, THREADS)));
@@ -423,7 +426,7 @@ public:
             if (whole(each).key >= COUNTED + OWNED) left += each.value().amount[0];
         }));
         for (std::uint32_t i = 0; i < COUNTED; i++) CHECK(begun[i] == done[i] && mine.get(key_of(i)).value()->amount[0] == done[i]);
-        CHECK(put_in == taken_out + left && put_in > 0 && taken_out > 0 && renewals > 3);
+        CHECK(put_in == taken_out + left && has_met());
         mine = loan();
         CHECK(map.count_about() == static_cast<std::int64_t>(keys));
         for (std::uint32_t i = 0; i < COUNTED; i++) all_counted += done[i];
@@ -531,7 +534,7 @@ private:
     std::array<std::atomic<std::uint32_t>, COUNTED + OWNED> begun{}, done{};
     std::atomic<std::uint64_t> put_in{0}, taken_out{0};
     std::atomic<long> moves{0}, walks{0};
-    long renewals = 0;
+    std::atomic<long> renewals{0};
 };
 
 template <class Map>
@@ -542,7 +545,9 @@ static void by_threads(std::chrono::milliseconds time) {
     std::vector<std::thread> threads;
     for (std::size_t i = 0; i < THREADS; i++) threads.emplace_back([&, i] { keys.work(i, 88172645463325252u + i); });
     threads.emplace_back([&] { keys.renew_now_and_then(); });
-    std::this_thread::sleep_for(time);
+    const auto begun = std::chrono::steady_clock::now();
+    for (std::this_thread::sleep_for(time); !keys.has_met(); std::this_thread::sleep_for(1ms))
+        CHECK(std::chrono::steady_clock::now() - begun < 10min); // or it hangs
     keys.is_over = true;
     for (std::thread &thread : threads) thread.join();
     keys.check_at_rest();

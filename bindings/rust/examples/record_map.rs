@@ -6,7 +6,7 @@
 //! map. The program counts what was paid: it is what the accounts have at the end, and had when they were ended. A careless
 //! payer reads an account and puts it back with what it adds, and so loses what others paid in between.
 use std::error::Error;
-use std::sync::atomic::{AtomicBool, Ordering::Relaxed};
+use std::sync::atomic::{AtomicBool, Ordering};
 use std::thread;
 use std::time::Duration;
 use vbr::{record, Change, OutOfSteps, RecordMap, RecordRefusal, Shape, SmallStr};
@@ -67,7 +67,7 @@ impl Teller<'_> {
     /// What was paid, and what accounts had that were ended.
     fn work(mut self) -> Result<(u64, u64), Box<dyn Error + Send + Sync>> {
         let (mut paid, mut ended) = (0, 0);
-        for _ in 0..TURNS {
+        for _ in 0..if self.is_careless { TURNS / 25 } else { TURNS } {
             self.random ^= self.random << 13;
             self.random ^= self.random >> 7;
             self.random ^= self.random << 17;
@@ -93,16 +93,19 @@ fn look_on(
     is_over: &AtomicBool,
 ) -> Result<u64, Box<dyn Error + Send + Sync>> {
     let mut seen = 0;
-    while !is_over.load(Relaxed) {
+    loop {
+        let are_done = is_over.load(Ordering::Acquire); // what they paid is there
         for entry in &accounts.lend_wait() {
             let (owner, account) = entry?;
             assert!(OWNERS.contains(&owner.as_str()) && CITIES.contains(&account.city.as_str()));
             seen += 1;
         }
+        if are_done {
+            return Ok(seen);
+        }
         thread::sleep(Duration::from_millis(1));
         accounts.renew(shape)?; // at epoch 1 again
     }
-    Ok(seen)
 }
 
 /// What was paid, and what is left or was paid out.
@@ -118,7 +121,7 @@ fn serve(is_careless: bool) -> Result<(u64, u64), Box<dyn Error + Send + Sync>> 
             .collect();
         let observer = scope.spawn(|| look_on(&accounts, shape, &is_over));
         let told: Vec<_> = tellers.into_iter().map(thread::ScopedJoinHandle::join).collect();
-        is_over.store(true, Relaxed);
+        is_over.store(true, Ordering::Release);
         for each in told {
             let (more, less) = each.expect("a thread that ends")?;
             paid += more;

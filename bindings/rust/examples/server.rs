@@ -77,12 +77,14 @@ fn main() -> Result<(), Box<dyn Error + Send + Sync>> {
         let (server, is_over) = (&server, &is_over);
         let clock = scope.spawn(move || {
             let mut renewals = 0;
-            while !is_over.load(Relaxed) {
+            loop {
                 thread::sleep(PERIOD); // a week, say
                 server.renew()?;
                 renewals += 1;
+                if is_over.load(Relaxed) {
+                    return Ok::<u32, vbr::RenewError>(renewals);
+                }
             }
-            Ok::<u32, vbr::RenewError>(renewals)
         });
         let threads: Vec<_> = (0..THREADS).map(|it| scope.spawn(move || server.work(88_172_645_463_325_252 + it))).collect();
         let ended = threads.into_iter().map(|it| it.join().expect("a thread that ends")).sum::<Result<u64, _>>();

@@ -220,6 +220,9 @@ fn a_value_that_was_not_seen_stays() {
                     Some(before) => counts[0] += before % 2,
                     None => counts[1] += 1,
                 }
+                while turn == 0 && other.has(5) == Ok(true) {
+                    thread::yield_now(); // the other thread has begun once it takes this one
+                }
                 if turn % 16 == 0 {
                     thread::yield_now();
                 }

@@ -357,7 +357,8 @@ fn renewals_while_others_wait<K: Both>() {
             .map(|key| {
                 let set = &set;
                 scope.spawn(move || {
-                    for round in 0..600 {
+                    // and until a renewal has come between
+                    for round in (0..10_000_000).take_while(|round| *round < 600 || renewed.load(Ordering::Relaxed) == 0) {
                         drop(set.lend_owned());
                         let mine = match round % 3 {
                             0 => Some(set.lend_wait()),

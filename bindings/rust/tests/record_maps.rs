@@ -403,6 +403,7 @@ struct Worker<'m, K: RecordKey> {
     number: u64,
     key: fn(u64) -> K,
     map: &'m RecordMap<K, Value>,
+    renewals: &'m AtomicU64,
     /// What each own key has, if it is this thread's.
     own: [Option<u64>; OWN as usize],
     /// The last number that was seen of each key that another one changes.
@@ -415,7 +416,8 @@ struct Worker<'m, K: RecordKey> {
 impl<K: RecordKey + Debug + PartialEq> Worker<'_, K> {
     fn work(mut self) -> (u64, u64) {
         let mut random = 88_172_645_463_325_252 + self.number;
-        for _ in 0..ROUNDS {
+        // and until renewals have come between
+        for _ in (0..100 * ROUNDS).take_while(|round| *round < ROUNDS || self.renewals.load(Relaxed) <= 2) {
             let mut mine = self.map.lend_wait();
             for _ in 0..4 {
                 random ^= random << 13;
@@ -568,7 +570,7 @@ fn four_threads<K: RecordKey + Debug + PartialEq>(key: fn(u64) -> K) {
             .map(|number| {
                 let own = std::array::from_fn(|place| is_steady(place).then_some(0));
                 let seen = [0; OWN as usize];
-                let worker = Worker { number, key, map, own, seen, serial: 0, added: 0, taken: 0 };
+                let worker = Worker { number, key, map, renewals, own, seen, serial: 0, added: 0, taken: 0 };
                 scope.spawn(move || worker.work())
             })
             .collect();
