@@ -814,7 +814,7 @@ template <class Of> static int try_all(uint64_t wanted, uint64_t seed, const cha
     fuzz::Kept<std::string> kept;
     fuzz::Progress progress{"calls", wanted};
     for (uint64_t done = 0; done < wanted; done++) {
-        if (done % 64 == 0) alarm(60);
+        if (done % 64 == 0) alarm(600); // so many that take longer hang
         std::string input = kept.inputs.empty() || random.once_in(3) ? fresh(random) : changed(random, kept.inputs);
         kept.offer(input, play<Of>(input));
         progress.tell(done, kept.inputs.size());

@@ -79,7 +79,7 @@ public:
         words.push_back(nullptr);
         char *environment[] = {nullptr};
         pid_t child;
-        alarm(60);
+        alarm(600); // one that takes longer hangs
         if (int error = posix_spawn(&child, path, &actions, nullptr, words.data(), environment))
             std::fprintf(stderr, "fuzz: %s: %s\n", path, std::strerror(error)), std::exit(2);
         posix_spawn_file_actions_destroy(&actions);

@@ -1,6 +1,7 @@
 /* To be preloaded into a program: refuses its thread number REFUSE, counted from 1. Each other thread sleeps for half a
-   second before it begins. A program that ends by exit or _exit leaves in the file that THREADS names how many threads were
-   started, and how many of them have ended; it waits for the last few instructions of those for a tenth of a second. */
+   second before it begins, and doesn't begin if the program has come to its end by then. A program that ends by exit or _exit leaves
+   in the file that THREADS names how many threads were started, and how many of them have begun and ended; it waits for the last few
+   instructions of those that have begun, and for a minute at most if they go on. */
 #define _GNU_SOURCE
 #include <dlfcn.h>
 #include <errno.h>
@@ -17,7 +18,8 @@ struct work {
     void *given;
 };
 
-static atomic_long asked, started, ended;
+static atomic_long asked, started, begun, ended;
+static atomic_int is_over;
 
 static void pause_for(long milliseconds) {
     struct timespec time = {0, milliseconds * 1000000};
@@ -28,6 +30,11 @@ static void *begin(void *argument) {
     struct work work = *(struct work *)argument;
     free(argument);
     pause_for(500);
+    atomic_fetch_add(&begun, 1);
+    if (atomic_load(&is_over)) {
+        atomic_fetch_sub(&begun, 1);
+        for (;;) pause();
+    }
     void *result = work.run(work.given);
     atomic_fetch_add(&ended, 1);
     return result;
@@ -49,7 +56,8 @@ int pthread_create(pthread_t *thread, const pthread_attr_t *attributes, void *(*
 }
 
 __attribute__((destructor)) static void end(void) {
-    for (int i = 0; i < 10 && atomic_load(&ended) < atomic_load(&started); i++) pause_for(10);
+    atomic_store(&is_over, 1);
+    for (int i = 0; i < 6000 && atomic_load(&ended) < atomic_load(&begun); i++) pause_for(10);
     const char *name = getenv("THREADS");
     FILE *file = name ? fopen(name, "w") : NULL;
     if (!file) return;
