@@ -1,6 +1,7 @@
 # What the tests in bash have in common. A test sources this file first: it goes to the top of the repository, and makes the folder
 # $room, which is gone at the end. What fails is reported with the name of the test.
 root=$(realpath "$(dirname "${BASH_SOURCE[0]}")/../..")
+export LC_ALL=C.UTF-8 # what compilers and others say is compared
 this_test=$(realpath --relative-to="$root" "$0")
 cd "$root"
 room=$(mktemp -d)
