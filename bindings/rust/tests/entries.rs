@@ -223,8 +223,8 @@ fn a_value_that_was_not_seen_stays() {
                 while turn == 0 && other.has(5) == Ok(true) {
                     thread::yield_now(); // the other thread has begun once it takes this one
                 }
-                if turn % 16 == 0 {
-                    thread::yield_now();
+                if turn % 15 == 0 {
+                    thread::yield_now(); // after an even value and an odd one in turn
                 }
             }
             is_over.store(true, Ordering::Release);
@@ -232,7 +232,11 @@ fn a_value_that_was_not_seen_stays() {
         });
         let mut taken = 0;
         while !is_over.load(Ordering::Acquire) {
-            taken += handles[0].retain(|_, value| value % 2 == 1).expect("steps");
+            let odd = |_, value| {
+                thread::yield_now(); // so that another value comes meanwhile
+                value % 2 == 1
+            };
+            taken += handles[0].retain(odd).expect("steps");
         }
         (taken, puts.join().expect("a thread that ends"))
     });

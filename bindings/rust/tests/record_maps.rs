@@ -417,7 +417,7 @@ impl<K: RecordKey + Debug + PartialEq> Worker<'_, K> {
     fn work(mut self) -> (u64, u64) {
         let mut random = 88_172_645_463_325_252 + self.number;
         // and until renewals have come between
-        for _ in (0..100 * ROUNDS).take_while(|round| *round < ROUNDS || self.renewals.load(Relaxed) <= 2) {
+        for _ in (0..20 * ROUNDS).take_while(|round| *round < ROUNDS || self.renewals.load(Relaxed) <= 2) {
             let mut mine = self.map.lend_wait();
             for _ in 0..4 {
                 random ^= random << 13;
