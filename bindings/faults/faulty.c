@@ -69,6 +69,7 @@ static _Thread_local struct {
     void *of; /* the handle's */
     uint64_t key;
     vbr_answer answer;
+    unsigned count; /* how many there were */
 } looked;
 
 static int is_looked(const a_handle *handle, uint64_t key) { return looked.of && looked.of == handle->owned && looked.key == key; }
@@ -137,6 +138,7 @@ vbr_answer WRAP(has_within)(a_handle *handle, uint64_t key, uint32_t budget) {
     looked.of = answer < 0 ? NULL : handle->owned;
     looked.key = key;
     looked.answer = answer;
+    if (fault() == 22 && ++looked.count % 16 == 0) sched_yield(); /* so that others change the key before the next call, also where processors are few */
     return answer == VBR_YES && now(4) ? VBR_NO : answer;
 }
 
