@@ -39,7 +39,7 @@ vbr_answer WRAP(replace_held_within)(a_handle *handle, uint64_t key, const vbr_i
 #endif
 
 vbr_answer WRAP(remove_entry_within)(a_handle *handle, uint64_t key, const vbr_incarnation *at, uint32_t steps) {
-    if (fault() == 3) sched_yield(); /* so that others change the entry more often */
+    if (now(3)) sched_yield(); /* so that others change the entry more often */
     vbr_answer told = REAL(remove_entry_within)(handle, key, at, steps);
     return told == VBR_NO && fault() == 3 ? CALL(remove_within)(handle, key WITH(NULL), steps) : told;
 }
@@ -53,7 +53,7 @@ vbr_answer WRAP(hold_within)(a_handle *handle, uint32_t *slot, uint32_t steps) {
 vbr_answer WRAP(get_entry_within)(a_handle *handle, uint64_t key, vbr_incarnation *at, uint32_t steps) {
     vbr_answer told = REAL(get_entry_within)(handle, key, at, steps);
     if (told == VBR_YES) gives_one_before(6, at, &found);
-    if (fault() == 1) sched_yield(); /* so that the slot is handed out anew more often */
+    if (now(1)) sched_yield(); /* so that the slot is handed out anew more often */
     return told;
 }
 
