@@ -13,16 +13,18 @@
    by, or was given another value, is marked as not used and stays. Another one goes, and so does one that has expired. A new entry counts
    as not used, so what is asked for once goes at the next round.
 
-   All threads share one hand, which an atomic addition advances for each slot that is looked at. Four threads with a hand each had 0.1 to
-   0.4 fewer hits in 100, among 2,000 entries of 20,000 keys by Zipf 0.7 and 0.99, with scans and without (30 November 2026).
+   All threads share one hand, which an atomic addition advances by eight slots. A handle looks at these in turn, and goes on where it was.
+   Four threads with a hand each had 0.1 to 0.4 fewer hits in 100, among 2,000 entries of 20,000 keys by Zipf 0.7 and 0.99, with scans and
+   without (30 November 2026).
 
    A hit loads, and stores the mark only if the hand has come by since; besides it counts itself on a line of the cache of the loan's own.
+   The mark is a word of the entry's record.
    All memory is taken at the opening and by renewals, and `bytes` is the most that there is at any moment.
 
    An entry may have a time to live. When that is over it is a miss, and the call that meets it takes it out.
 
    Inserts use up epochs, as vbr(3) says. From 7/8 of the last epoch on a call that stores a value renews the cache, unless the program does.
-   Entries go along; which of them were used lately is lost. All loans have to be back for it. So a loan that begins a call meanwhile gives
+   Entries go along, and so does which of them were used lately. All loans have to be back for it. So a loan that begins a call meanwhile gives
    its handle back and borrows another one; no call of the loan tells. Nobody waits more than a millisecond for that until the last epoch is
    spent, years later in most caches. From then on calls that store a value wait for the other loans: whoever keeps one and makes no call
    holds them up, and so does a thread that has two.
@@ -103,10 +105,11 @@ struct cache_statistics {
 
 namespace detail {
 
-/* What a record begins with: under which word the map has it, until when it is good, or 0 for ever, and the value. */
+/* What a record begins with: under which word the map has it, until when it is good, or 0 for ever, whether it was found since the hand came
+   by, and the value. The mark alone is written while the entry is there. */
 template <class Value>
 struct cached {
-    std::uint64_t word, until;
+    std::uint64_t word, until, is_used;
     Value value;
 };
 
@@ -114,6 +117,11 @@ struct cached {
 template <class T>
 struct alignas(64) apart {
     T it{};
+};
+
+/* What the loans of one handle have done, and the next one of the eight slots that it has of the hand. */
+struct cache_turns : cache_statistics {
+    std::uint64_t slot = 0;
 };
 
 /* The loads under way of some keys of a cache. */
@@ -194,16 +202,16 @@ struct cache_table {
     cache_table(map_type &&records, const shape &wanted, std::uint32_t entries, const cache_options<Hash> &how)
         : map(std::move(records)), lender(map.lending()), opened(wanted), capacity(entries), options(how),
           renews_from(how.is_renewed_by_program ? UINT64_MAX : map.last_epoch() - map.last_epoch() / 8),
-          visited(std::make_unique<std::atomic<bool>[]>(wanted.slots)), counts(std::make_unique<apart<cache_statistics>[]>(map.handles())) {}
+          turns(std::make_unique<apart<cache_turns>[]>(map.handles())) {}
 
     /* The most bytes that such a cache takes, or UINT64_MAX: the words of the map three times, and what a report of it takes, in a renewal; the
-       records and the marks; and what handles have besides. */
+       records; and what handles have besides. */
     static std::uint64_t bytes_for(std::uint32_t entries, std::size_t handles) noexcept {
         const shape wanted = shape::for_keys(entries, handles);
         if (wanted.slots > max_slots) return UINT64_MAX;
         const std::uint64_t slots = wanted.slots, words = 2 + wanted.buckets + 5 * slots + slots / 64 + 1;
-        return 3 * 8 * words + slots * (52 + 1 + (sizeof(typename record_table<Key, cached<Value>, Hash>::record) + 7) / 8 * 8) +
-               handles * (4096 + sizeof counts[0]) + 4096 + sizeof(cache_table);
+        return 3 * 8 * words + slots * (52 + (sizeof(typename record_table<Key, cached<Value>, Hash>::record) + 7) / 8 * 8) +
+               handles * (4096 + sizeof turns[0]) + 4096 + sizeof(cache_table);
     }
 
     /* Renews once all loans are back, if they are in time, unless that was done since there were so many renewals. */
@@ -234,13 +242,6 @@ struct cache_table {
         return time ? now() + static_cast<std::uint64_t>(std::max(*time, std::chrono::nanoseconds::zero()).count()) : 0;
     }
 
-    /* Marks the entry of a slot as used, or not: whether it was marked otherwise. */
-    bool marks(std::uint32_t slot, bool is_used) noexcept {
-        if (visited[slot].load(std::memory_order_relaxed) == is_used) return false;
-        visited[slot].store(is_used, std::memory_order_relaxed);
-        return true;
-    }
-
     cache_loads<Key, Value> &loads_of(std::uint64_t word) noexcept { return loads[word * 0x9E3779B97F4A7C15u >> 60]; }
 
     map_type map;
@@ -249,10 +250,9 @@ struct cache_table {
     const std::uint32_t capacity;
     const cache_options<Hash> options;
     const std::uint64_t renews_from; /* the epoch from which on calls renew, if they do */
-    std::unique_ptr<std::atomic<bool>[]> visited; /* of each slot: whether its entry was found since the hand came by */
-    std::unique_ptr<apart<cache_statistics>[]> counts; /* of each handle, written by its loan alone */
+    std::unique_ptr<apart<cache_turns>[]> turns; /* of each handle, written by its loan alone */
     cache_loads<Key, Value> loads[16];
-    apart<std::atomic<std::uint64_t>> hand;   /* the slot that it looks at next, and whole rounds */
+    apart<std::atomic<std::uint64_t>> hand;   /* the slot from which on it gives eight next, and whole rounds */
     apart<std::atomic<std::uint64_t>> length; /* of the entries that there are, and of those that are about to come */
     std::atomic<std::uint64_t> tried_at{0};   /* the epoch at which a call tried to renew last */
 };
@@ -456,7 +456,7 @@ private:
     }
 
     void count(std::uint64_t cache_statistics::*which) noexcept {
-        std::uint64_t &number = table->counts[mine.handle.number()].it.*which; // which no other thread writes
+        std::uint64_t &number = table->turns[mine.handle.number()].it.*which; // which no other thread writes
         __atomic_store_n(&number, number + 1, __ATOMIC_RELAXED);
     }
 
@@ -474,7 +474,7 @@ private:
             if (take_out(word, there.at) == true) count(&cache_statistics::expiries);
             return std::optional<Value>();
         }
-        table->marks(there.at.slot(), true);
+        marks(there.at.slot(), true);
         return std::optional<Value>(there.record.value.value);
     }
 
@@ -519,8 +519,7 @@ private:
         if (wanted.what == kind::remove) return take_out(word, there.at);
         const std::uint64_t until = wanted.what == kind::update && before ? there.record.value.until : table->until(wanted.lives);
         if (!instead) make_room();
-        const auto marks = [visited = table->visited.get(), instead](std::uint32_t slot) { visited[slot].store(instead, std::memory_order_relaxed); };
-        const result<bool> told = mine.publish(word, instead, record_loan::record_of(key, {word, until, *wanted.value}), marks);
+        const result<bool> told = mine.publish(word, instead, record_loan::record_of(key, {word, until, *has_word, *wanted.value}));
         if (!instead && told != true) is_shorter();
         if (instead && told == true && !before) count(is_own ? &cache_statistics::expiries : &cache_statistics::evictions);
         return told;
@@ -533,18 +532,34 @@ private:
         while (length.load(std::memory_order_relaxed) > table->capacity && evict(true)) {}
     }
 
+    /* The words of the record of a slot, as they are: first those of `cached`. */
+    std::uint64_t *words_of(std::uint32_t slot) const noexcept {
+        const vbr_records &records = mine.table->of_slots.raw;
+        return &records.words[slot * records.each];
+    }
+
+    /* Marks the entry of a slot as used, or not: whether it was marked otherwise. If another entry has come to the slot meanwhile it is that
+       one which is marked, once; no copy of a record goes by its mark. */
+    bool marks(std::uint32_t slot, bool is_used) noexcept {
+        std::uint64_t *mark = words_of(slot) + 2;
+        if (__atomic_load_n(mark, __ATOMIC_RELAXED) == is_used) return false;
+        __atomic_store_n(mark, is_used, __ATOMIC_RELAXED);
+        return true;
+    }
+
     /* Takes the next entry out that wasn't found since the hand came by, or has expired: whether there was one in three rounds. It is counted
        no more, unless another one is to come for it. */
     bool evict(bool shortens) {
-        const vbr_records &records = mine.table->of_slots.raw;
-        std::uint64_t now = 0;
-        for (std::uint64_t passed = 0; passed < 3 * std::uint64_t{records.slots}; passed++) {
-            const auto slot = static_cast<std::uint32_t>(table->hand.it.fetch_add(1, std::memory_order_relaxed) % records.slots);
-            const std::uint64_t *head = &records.words[slot * records.each]; // its word, and until when it is good, as they are
+        const std::uint64_t slots = table->opened.slots;
+        std::uint64_t now = 0, &next = table->turns[mine.handle.number()].it.slot;
+        for (std::uint64_t passed = 0; passed < 3 * slots; passed++) {
+            if (next % 8 == 0) next = table->hand.it.fetch_add(8, std::memory_order_relaxed);
+            const auto slot = static_cast<std::uint32_t>(next++ % slots);
+            const std::uint64_t *head = words_of(slot);
             const std::uint64_t word = __atomic_load_n(head, __ATOMIC_ACQUIRE), until = __atomic_load_n(head + 1, __ATOMIC_ACQUIRE);
             if (until != 0 && now == 0) now = table->now();
             const bool is_over = until != 0 && until <= now;
-            if (!is_over && table->marks(slot, false)) continue;
+            if (!is_over && marks(slot, false)) continue;
             const result<std::optional<map_incarnation>> at = mine.handle->get_entry(word);
             if (!at.has_value() || !*at || (*at)->slot() != slot) continue; // the slot is free, or in a hand
             if (mine.handle->remove_entry(word, **at) != true) continue;
@@ -669,7 +684,7 @@ public:
         told sum;
         for (std::size_t i = 0; i < handles(); i++)
             for (auto each : {&told::hits, &told::misses, &told::evictions, &told::expiries, &told::loads})
-                sum.*each += __atomic_load_n(&(all->counts[i].it.*each), __ATOMIC_RELAXED);
+                sum.*each += __atomic_load_n(&(all->turns[i].it.*each), __ATOMIC_RELAXED);
         if (all) sum.length = all->length.it.load(std::memory_order_relaxed);
         return sum;
     }

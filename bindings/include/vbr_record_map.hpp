@@ -405,7 +405,7 @@ public:
     result<bool> replace_entry(const entry &found_before, const Value &value) {
         if (!handle) return refusal::no_handle;
         if (found_before.table != table->number) return false;
-        return publish(found_before.word, &found_before.at, record_of(found_before.key(), value), [](std::uint32_t) {});
+        return publish(found_before.word, &found_before.at, record_of(found_before.key(), value));
     }
 
     /* Takes a key out with its value if it still has the very entry that was found, as vbr_map_remove_entry does. Returns true if the key
@@ -533,14 +533,11 @@ private:
         return handle->is_still(into.at);
     }
 
-    /* Makes a record that of a word, in place of the entry that was found there, or if none is there: true if it was done. Before, `marks` is
-       called with its slot, which is this loan's alone. */
-    template <class Marks>
-    result<bool> publish(std::uint64_t word, const map_incarnation *instead, const record &fresh, const Marks &marks) noexcept {
+    /* Makes a record that of a word, in place of the entry that was found there, or if none is there: true if it was done. */
+    result<bool> publish(std::uint64_t word, const map_incarnation *instead, const record &fresh) noexcept {
         result<map_held> slot = handle->hold();
         if (!slot.has_value()) return slot.error();
         table->of_slots.write(*slot, fresh);
-        marks(slot->number());
         return instead ? handle->replace(std::move(*slot), word, *instead, 0) : handle->insert(std::move(*slot), word, 0);
     }
 
@@ -561,7 +558,7 @@ private:
             if (!wanted.stored && (!wanted.is_removal || !before)) return before;
             if (*has_word && !before) return refusal::hash_taken;
             if (!handle || table->number != number) return refusal::no_handle;
-            result<bool> told = wanted.stored ? publish(word, before ? &there.at : nullptr, record_of(key, *wanted.stored), [](std::uint32_t) {})
+            result<bool> told = wanted.stored ? publish(word, before ? &there.at : nullptr, record_of(key, *wanted.stored))
                                               : handle->remove_entry(word, there.at);
             if (!told.has_value()) return told.error();
             if (*told) return before;
