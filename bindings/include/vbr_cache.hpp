@@ -201,8 +201,9 @@ struct cache_table {
 
     cache_table(map_type &&records, const shape &wanted, std::uint32_t entries, const cache_options<Hash> &how)
         : map(std::move(records)), lender(map.lending()), opened(wanted), capacity(entries), options(how),
-          renews_from(how.is_renewed_by_program ? UINT64_MAX : map.last_epoch() - map.last_epoch() / 8),
-          turns(std::make_unique<apart<cache_turns>[]>(map.handles())) {}
+          turns(std::make_unique<apart<cache_turns>[]>(map.handles())) {
+        is_renewed();
+    }
 
     /* The most bytes that such a cache takes, or UINT64_MAX: the words of the map three times, and what a report of it takes, in a renewal; the
        records; and what handles have besides. */
@@ -219,7 +220,9 @@ struct cache_table {
 #ifdef __cpp_exceptions
         try {
 #endif
-            return map.renew_since(before, opened, until);
+            const result<void> told = map.renew_since(before, opened, until);
+            if (told) is_renewed();
+            return told;
 #ifdef __cpp_exceptions
         } catch (const std::bad_alloc &) {
             return refusal::no_memory;
@@ -227,11 +230,15 @@ struct cache_table {
 #endif
     }
 
-    /* Whether a call that stores a value at this epoch is to renew: one in each 64th of the last epoch. */
+    /* Whether a call that stores a value at this epoch is to renew: one in each 64th of the last epoch, from 7/8 of it on. */
     bool is_due(std::uint64_t epoch) noexcept {
-        if (epoch < renews_from) return false;
-        std::uint64_t tried = tried_at.load(std::memory_order_relaxed);
-        return epoch - tried > map.last_epoch() / 64 && tried_at.compare_exchange_strong(tried, epoch, std::memory_order_relaxed);
+        std::uint64_t from = due_from.load(std::memory_order_relaxed);
+        return epoch >= from && due_from.compare_exchange_strong(from, epoch + map.last_epoch() / 64 + 1, std::memory_order_relaxed);
+    }
+
+    /* Epochs begin anew. */
+    void is_renewed() noexcept {
+        due_from.store(options.is_renewed_by_program ? UINT64_MAX : map.last_epoch() - map.last_epoch() / 8, std::memory_order_relaxed);
     }
 
     /* The time, which is above zero, and until when an entry is good that gets so much of it now. */
@@ -249,12 +256,11 @@ struct cache_table {
     const shape opened;
     const std::uint32_t capacity;
     const cache_options<Hash> options;
-    const std::uint64_t renews_from; /* the epoch from which on calls renew, if they do */
     std::unique_ptr<apart<cache_turns>[]> turns; /* of each handle, written by its loan alone */
     cache_loads<Key, Value> loads[16];
     apart<std::atomic<std::uint64_t>> hand;   /* the slot from which on it gives eight next, and whole rounds */
     apart<std::atomic<std::uint64_t>> length; /* of the entries that there are, and of those that are about to come */
-    std::atomic<std::uint64_t> tried_at{0};   /* the epoch at which a call tried to renew last */
+    std::atomic<std::uint64_t> due_from;      /* the epoch from which on a call is to renew next */
 };
 
 } // namespace detail
@@ -492,7 +498,11 @@ private:
             const result<bool> told = attempt_by(key, word, ask, before);
             if (told == true) return before;
             if (told == false && table) word = word_of(key); // `ask` may have assigned a loan of another cache
-            if (told.has_value() || (told == refusal::no_slot && evict(true))) continue;
+            if (told.has_value()) continue;
+            if (told == refusal::no_slot && evict()) {
+                is_shorter();
+                continue;
+            }
             if (told != refusal::epoch_spent || table->options.is_renewed_by_program || !waits) return told.error();
             const std::size_t renewals = table->lender.renewed();
             mine = record_loan();
@@ -525,11 +535,15 @@ private:
         return told;
     }
 
-    /* Counts an entry that is to come, for which another one goes if there are as many as may be. */
+    /* Counts an entry that is to come. As many go as are too many then, which this call alone takes on; those that can't go are counted again. */
     void make_room() {
         std::atomic<std::uint64_t> &length = table->length.it;
-        if (length.load(std::memory_order_relaxed) < table->capacity || !evict(false)) length.fetch_add(1, std::memory_order_relaxed);
-        while (length.load(std::memory_order_relaxed) > table->capacity && evict(true)) {}
+        const std::uint64_t most = table->capacity;
+        std::uint64_t now = length.load(std::memory_order_relaxed);
+        while (now != most && !length.compare_exchange_weak(now, std::min(now + 1, most), std::memory_order_relaxed)) {}
+        std::uint64_t goes = now < most ? 0 : now + 1 - most;
+        while (goes > 0 && evict()) goes--;
+        if (goes > 0) length.fetch_add(goes, std::memory_order_relaxed);
     }
 
     /* The words of the record of a slot, as they are: first those of `cached`. */
@@ -547,9 +561,9 @@ private:
         return true;
     }
 
-    /* Takes the next entry out that wasn't found since the hand came by, or has expired: whether there was one in three rounds. It is counted
-       no more, unless another one is to come for it. */
-    bool evict(bool shortens) {
+    /* Takes the next entry out that wasn't found since the hand came by, or has expired: whether there was one in three rounds. It is still
+       counted. */
+    bool evict() {
         const std::uint64_t slots = table->opened.slots;
         std::uint64_t now = 0, &next = table->turns[mine.handle.number()].it.slot;
         for (std::uint64_t passed = 0; passed < 3 * slots; passed++) {
@@ -564,7 +578,6 @@ private:
             if (!at.has_value() || !*at || (*at)->slot() != slot) continue; // the slot is free, or in a hand
             if (mine.handle->remove_entry(word, **at) != true) continue;
             count(is_over ? &cache_statistics::expiries : &cache_statistics::evictions);
-            if (shortens) is_shorter();
             return true;
         }
         return false;

@@ -392,6 +392,23 @@ static void renewals() {
     CHECK(its.get((spent_at - 2) % 90) == found(spent_at - 2) && its.put(7, 70).has_value());
 }
 
+// After a renewal the next one comes at the same epoch, so after about as many puts of keys that are there; an epoch has 18 of them.
+static void renewals_at_one_epoch() {
+    numbers::options how;
+    how.last_epoch = 8;
+    numbers cache = numbers::open_for(100, 1, how).value();
+    numbers::loan mine = cache.lend();
+    std::uint64_t key = 0;
+    const auto puts = [&] { // until it is renewed, which takes memory, as nothing else does
+        const std::uint64_t first = key;
+        for (const long before = asked; asked == before; key++) CHECK(mine.put(key % 100, key).has_value());
+        return static_cast<long>(key - first);
+    };
+    static_cast<void>(puts()); // of keys that aren't there yet, too
+    const long as_many = puts();
+    for (int i = 0; i < 4; i++) CHECK(std::abs(puts() - as_many) < 9);
+}
+
 // Memory
 
 template <class Value>
@@ -656,6 +673,29 @@ static void by_threads(long calls) {
     keys.check_at_rest();
 }
 
+// Two threads put a key each where there is room for one more: one entry goes, and no two. The clock, which is asked just before, lets them meet.
+static std::atomic<int> at_the_clock{0};
+static std::chrono::nanoseconds meeting_clock() {
+    if (at_the_clock.fetch_add(1) < 2) while (at_the_clock < 2) {}
+    return 1ns;
+}
+
+static void two_for_one_place() {
+    numbers::options how;
+    how.clock = meeting_clock;
+    numbers cache = numbers::open_for(8, 2, how).value();
+    const auto put = [&](std::uint64_t key) { CHECK(cache.lend_wait().put_for(key, key, 1h).has_value()); };
+    for (int round = 0; round < 1000; round++) {
+        CHECK(cache.lend_wait().clear());
+        for (std::uint64_t key = 0; key < 7; key++) CHECK(cache.lend_wait().put(key, key).has_value());
+        at_the_clock = 0;
+        std::thread other(put, 100);
+        put(101);
+        other.join();
+        CHECK(cache.statistics().length == 8);
+    }
+}
+
 int main(int count, char **words) {
     if (example() != 0) return 1;
     rows<std::uint64_t>({5, 0, ~std::uint64_t{0}});
@@ -670,8 +710,10 @@ int main(int count, char **words) {
     loaders_alone();
     for (int failures : {0, 1, 2, 5}) loaders_of_threads(failures);
     renewals();
+    renewals_at_one_epoch();
     memory();
     hits();
+    two_for_one_place();
     const long calls = count > 1 ? std::atol(words[1]) : 200000;
     by_threads<std::uint32_t>(calls);
     by_threads<vbr::small_string<31>>(calls);
