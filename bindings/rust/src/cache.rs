@@ -8,7 +8,7 @@ use crate::{
 };
 use std::fmt;
 use std::hash::{BuildHasher, RandomState};
-use std::sync::atomic::{AtomicBool, AtomicU64, Ordering::Relaxed};
+use std::sync::atomic::{AtomicU64, Ordering::Relaxed};
 use std::time::{Duration, Instant};
 
 /// A cache in fixed memory, without a lock on its calls: it keeps as many entries as it was opened for, and evicts. Keys and values
@@ -46,8 +46,8 @@ use std::time::{Duration, Instant};
 /// came by, or given a value, stays, and is marked as not used; another one goes, and so does one that has expired. A new entry counts as not
 /// used, so what is asked for once goes at the next round. Of two keys with one hash the one that comes later takes the other's place.
 ///
-/// All threads share one hand, which is advanced by one atomic addition for each slot that it passes. One for each thread takes as many
-/// instructions, and four threads had 0.4 to 0.8 fewer hits in a hundred with them (Zipf 0.7 and 0.99, room for a tenth of the keys,
+/// All threads share one hand, which an atomic addition advances by eight slots. A handle looks at these in turn, and goes on where it was.
+/// Four threads with a hand each had 0.4 to 0.8 fewer hits in a hundred (Zipf 0.7 and 0.99, room for a tenth of the keys,
 /// 30 November 2026): an entry then meets a hand sooner after it comes. In the same draws by one thread the cache had 1.0 to 1.2 hits
 /// more in a hundred than an exact LRU (`tests/caches.rs`).
 ///
@@ -61,32 +61,28 @@ use std::time::{Duration, Instant};
 ///
 /// Inserts use up epochs, as in each map ([the limits](crate#what-to-know-before-you-take-it)). From 7/8 of the last epoch on a call
 /// that stores a value renews the cache, unless [the program does](CacheOptions::renewed_by_program). It goes once over all entries,
-/// and calls wait meanwhile. [`CacheLent`] says what a thread with a loan meets. Entries and counts go along; which entries were used
-/// lately is lost.
+/// and calls wait meanwhile. [`CacheLent`] says what a thread with a loan meets. Entries and counts go along, and so does which
+/// entries were used lately.
 ///
 /// # Memory
 ///
 /// All is taken at the opening and by renewals, and [`Cache::bytes`] is the most that there is at any moment. A map has a slot for each
-/// entry and 64 for each handle; there are three times its words for a renewal, 54 bytes for each slot, and the records once. A record
-/// has two words beside those of the value, and those of the key if it is hashed. So an entry takes some 220 bytes more than its
-/// value, some 65 of them between renewals, and a handle some 17,000 and 64 values.
+/// entry and 64 for each handle; there are three times its words for a renewal, 53 bytes for each slot, and the records once. A record
+/// has three words beside those of the value, and those of the key if it is hashed. So an entry takes some 230 bytes more than its
+/// value, some 70 of them between renewals, and a handle some 17,000 and 64 values.
 pub struct Cache<K: RecordKey, V: Record, H = RandomState> {
     pub(crate) table: Map<u64, ()>,
     pub(crate) records: Records<Stored<K, V>>,
     pub(crate) loads: Loads,
     pub(crate) options: CacheOptions<H>,
-    /// Of each slot, whether its entry was found since the hand came by.
-    visited: Vec<AtomicBool>,
     /// What the loans of each handle have done.
-    counts: Vec<Apart<[AtomicU64; Count::ALL]>>,
-    /// The slot that is looked at next for an eviction, modulo their number.
+    turns: Vec<Apart<Turn>>,
+    /// The slot from which on eight are looked at next for an eviction, modulo their number.
     hand: Apart<AtomicU64>,
     /// How many entries there are, and are about to be put in.
     length: Apart<AtomicU64>,
-    /// The epoch from which on calls renew, if they do.
-    renews_from: u64,
-    /// The epoch at which a call tried to renew last.
-    tried_at: AtomicU64,
+    /// The epoch from which on a call is to renew next.
+    due_from: AtomicU64,
     capacity: u32,
     bytes: usize,
 }
@@ -110,6 +106,14 @@ impl Count {
     const ALL: usize = 5;
 }
 
+/// What the loans of one handle have done, each of which alone writes it.
+#[derive(Default)]
+struct Turn {
+    counts: [AtomicU64; Count::ALL],
+    /// The next one of the eight slots that it has of the hand.
+    slot: AtomicU64,
+}
+
 crate::record! {
     /// What a record begins with.
     #[derive(Clone, Copy)]
@@ -118,7 +122,14 @@ crate::record! {
         number: u64,
         /// In nanoseconds of the clock and one more; 0: never.
         pub(crate) expires: u64,
+        /// Whether the entry was found since the hand came by: 1 or 0. It alone is written while the entry is there.
+        is_used: u64,
     }
+}
+
+impl Head {
+    /// Which word of a record `is_used` is.
+    const IS_USED: usize = 2;
 }
 
 /// A record: its head, and the key and the value.
@@ -136,18 +147,16 @@ impl<K: RecordKey, V: Record, H> Cache<K, V, H> {
 
     pub(crate) fn open(options: CacheOptions<H>, capacity: u32, shape: Shape, bytes: usize) -> Result<Self, OpenError> {
         let table = Map::open(shape)?; // first, since it takes more while it runs
-        let last = table.last_epoch();
+        let due_from = AtomicU64::new(first_due(options.renews, table.last_epoch()));
         Ok(Cache {
             table,
             records: Records::open(shape.slots)?,
             loads: Loads::none().ok_or(OpenError::Memory)?,
-            renews_from: if options.renews { last - last / 8 } else { u64::MAX },
             options,
-            visited: filled(shape.slots as usize, AtomicBool::default)?,
-            counts: filled(shape.handles, Apart::default)?,
+            turns: filled(shape.handles, Apart::default)?,
             hand: Apart::default(),
             length: Apart::default(),
-            tried_at: AtomicU64::new(0),
+            due_from,
             capacity,
             bytes,
         })
@@ -203,7 +212,7 @@ impl<K: RecordKey, V: Record, H> Cache<K, V, H> {
     /// # Ok::<(), Box<dyn std::error::Error>>(())
     /// ```
     pub fn statistics(&self) -> CacheStatistics {
-        let sum = |what: Count| self.counts.iter().map(|it| it.0[what as usize].load(Relaxed)).sum();
+        let sum = |what: Count| self.turns.iter().map(|it| it.0.counts[what as usize].load(Relaxed)).sum();
         CacheStatistics {
             hits: sum(Count::Hits),
             misses: sum(Count::Misses),
@@ -306,22 +315,21 @@ impl<K: RecordKey, V: Record, H> Cache<K, V, H> {
     /// Renews it once all loans are back, if they are before the deadline, unless that was done since there were so many renewals.
     pub(crate) fn renew_once(&self, renewals: usize, deadline: Option<Instant>) -> Result<(), RenewError> {
         let lender = &self.table.lender;
-        lender.renew_once(renewals, lender.shape().get(), deadline, Some(&self.records.words))
+        lender.renew_once(renewals, lender.shape().get(), deadline, Some(&self.records.words))?;
+        self.due_from.store(first_due(self.options.renews, self.table.last_epoch()), Relaxed); // epochs begin anew
+        Ok(())
     }
 
-    /// Whether a call that stores a value at this epoch is to renew: one in each 64th of the last epoch.
+    /// Whether a call that stores a value at this epoch is to renew: one in each 64th of the last epoch, from 7/8 of it on.
     #[inline]
     pub(crate) fn is_due(&self, epoch: u64) -> bool {
-        epoch >= self.renews_from && {
-            let tried = self.tried_at.load(Relaxed);
-            epoch.wrapping_sub(tried) > self.table.last_epoch() / 64
-                && self.tried_at.compare_exchange(tried, epoch, Relaxed, Relaxed).is_ok()
-        }
+        let (from, next) = (self.due_from.load(Relaxed), epoch + self.table.last_epoch() / 64 + 1);
+        epoch >= from && self.due_from.compare_exchange(from, next, Relaxed, Relaxed).is_ok()
     }
 
     #[inline]
     pub(crate) fn count(&self, handle: usize, what: Count) {
-        let count = &self.counts[handle].0[what as usize]; // which no other thread writes
+        let count = &self.turns[handle].0.counts[what as usize]; // which no other thread writes
         count.store(count.load(Relaxed) + 1, Relaxed);
     }
 
@@ -357,13 +365,14 @@ impl<K: RecordKey, V: Record, H> Cache<K, V, H> {
         Ok(Some(value))
     }
 
-    /// Marks the entry of a slot as used, or not, and whether it was marked otherwise.
+    /// Marks the entry of a slot as used, or not, and whether it was marked otherwise. If another entry has come to the slot meanwhile it is
+    /// that one which is marked, once; no copy of a record goes by its mark.
     #[inline]
     fn marks(&self, slot: u32, is_used: bool) -> bool {
-        let visited = &self.visited[slot as usize];
-        let is_news = visited.load(Relaxed) != is_used;
+        let (mark, is_used) = (self.records.words.word(slot, Head::IS_USED), u64::from(is_used));
+        let is_news = mark.load(Relaxed) != is_used;
         if is_news {
-            visited.store(is_used, Relaxed);
+            mark.store(is_used, Relaxed);
         }
         is_news
     }
@@ -388,7 +397,8 @@ impl<K: RecordKey, V: Record, H> Cache<K, V, H> {
                 (CacheChange::PutFor(value, time), ..) => (value, self.expiry(Some(time))),
                 (CacheChange::Put(value) | CacheChange::Update(value), ..) => (value, self.expiry(self.options.time_to_live)),
             };
-            match self.store(mine, &(Head { number, expires }, (key.kept(), value)), at, before.is_some()) {
+            let head = Head { number, expires, is_used: u64::from(before.is_some()) };
+            match self.store(mine, &(head, (key.kept(), value)), at) {
                 Ok(true) => {
                     if at.is_some() && before.is_none() {
                         self.count(mine.number(), if own.is_some() { Count::Expiries } else { Count::Evictions });
@@ -403,23 +413,21 @@ impl<K: RecordKey, V: Record, H> Cache<K, V, H> {
     }
 
     /// Puts a record in place of this entry, or if there is none, and whether that was done.
-    fn store(&self, mine: &mut Mine<'_>, record: &Stored<K, V>, at: Option<&At>, is_used: bool) -> Result<bool, Refusal> {
-        if at.is_some() {
-            return self.publish(mine, record, at, is_used);
+    fn store(&self, mine: &mut Mine<'_>, record: &Stored<K, V>, at: Option<&At>) -> Result<bool, Refusal> {
+        if at.is_none() {
+            self.make_room(mine)?;
         }
-        self.make_room(mine)?;
-        let told = self.publish(mine, record, at, is_used);
-        if told != Ok(true) {
+        let told = self.publish(mine, record, at);
+        if at.is_none() && told != Ok(true) {
             self.uncount();
         }
         told
     }
 
     /// The same of an entry that is counted.
-    fn publish(&self, mine: &mut Mine<'_>, record: &Stored<K, V>, at: Option<&At>, is_used: bool) -> Result<bool, Refusal> {
+    fn publish(&self, mine: &mut Mine<'_>, record: &Stored<K, V>, at: Option<&At>) -> Result<bool, Refusal> {
         let mut held = mine.hold()?;
         self.records.write(&mut held, record);
-        self.visited[held.slot() as usize].store(is_used, Relaxed);
         let number = record.0.number;
         Ok(match at {
             Some(at) => held.replace(number, at, ())?.is_ok(),
@@ -432,28 +440,40 @@ impl<K: RecordKey, V: Record, H> Cache<K, V, H> {
         self.length.0.fetch_sub(1, Relaxed);
     }
 
-    /// Counts an entry that is to come, for which another one goes if there are as many as may be.
+    /// Counts an entry that is to come. As many go as are too many then, which this call alone takes on; those that can't go are counted again.
     fn make_room(&self, mine: &mut Mine<'_>) -> Result<(), Refusal> {
-        let (length, capacity) = (&self.length.0, u64::from(self.capacity));
-        if length.load(Relaxed) >= capacity && mine.epoch() == self.table.last_epoch() {
+        let (length, most) = (&self.length.0, u64::from(self.capacity));
+        if length.load(Relaxed) >= most && mine.epoch() == self.table.last_epoch() {
             drop(mine.hold()?); // nothing goes in vain
         }
-        if length.load(Relaxed) < capacity || !self.evict(mine)? {
-            length.fetch_add(1, Relaxed);
-        }
-        while length.load(Relaxed) > capacity && self.evict(mine) == Ok(true) {
-            self.uncount();
+        let counted = |now: u64| (now != most).then(|| most.min(now + 1));
+        let (Ok(before) | Err(before)) = length.fetch_update(Relaxed, Relaxed, counted);
+        for left in (1..=(before + 1).saturating_sub(most)).rev() {
+            match self.evict(mine) {
+                Ok(true) => {}
+                Ok(false) => {
+                    length.fetch_add(left, Relaxed);
+                    break;
+                }
+                Err(why) => {
+                    length.fetch_add(left - 1, Relaxed); // the one that was to come doesn't
+                    return Err(why.into());
+                }
+            }
         }
         Ok(())
     }
 
-    /// Takes the next entry out that wasn't found since the hand came by, or has expired, and whether there was one in two rounds. It
+    /// Takes the next entry out that wasn't found since the hand came by, or has expired, and whether there was one in three rounds. It
     /// is still counted.
     fn evict(&self, mine: &mut Mine<'_>) -> Result<bool, OutOfSteps> {
-        let (slots, mut now) = (self.table.slots(), None);
-        for _ in 0..2 * u64::from(slots) {
-            let slot = u32::try_from(self.hand.0.fetch_add(1, Relaxed) % u64::from(slots)).expect("below the slots");
-            let Head { number, expires } = self.records.words.copy_of(slot);
+        let (slots, turn, mut now) = (u64::from(self.table.slots()), &self.turns[mine.number()].0.slot, None);
+        for _ in 0..3 * slots {
+            let next = Some(turn.load(Relaxed)).filter(|next| next % 8 != 0);
+            let next = next.unwrap_or_else(|| self.hand.0.fetch_add(8, Relaxed));
+            turn.store(next + 1, Relaxed);
+            let slot = u32::try_from(next % slots).expect("below the slots");
+            let Head { number, expires, .. } = self.records.words.copy_of(slot);
             let is_over = expires != 0 && expires <= *now.get_or_insert_with(|| self.now());
             if !is_over && self.marks(slot, false) {
                 continue;
@@ -474,6 +494,15 @@ impl<K: RecordKey, V: Record, H> Cache<K, V, H> {
             self.uncount();
         }
         Ok(is_out)
+    }
+}
+
+/// The epoch from which on calls renew after an opening or a renewal, if they do.
+fn first_due(renews: bool, last_epoch: u64) -> u64 {
+    if renews {
+        last_epoch - last_epoch / 8
+    } else {
+        u64::MAX
     }
 }
 

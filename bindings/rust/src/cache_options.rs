@@ -246,14 +246,13 @@ fn most_entries(handles: usize) -> u32 {
     MAX_SLOTS - u32::try_from(own).expect("it is no more than the slots")
 }
 
-/// How many bytes a cache of so many entries takes at most, at any moment from its opening on. All but the records and a byte for each
-/// slot is what a renewal wants: the old words, a fresh set, which takes as much again while it is opened, its entries, and the slots
-/// of the old ones.
+/// How many bytes a cache of so many entries takes at most, at any moment from its opening on. All but the records is what a renewal
+/// wants: the old words, a fresh set, which takes as much again while it is opened, its entries, and the slots of the old ones.
 fn most_bytes<K: RecordKey, V: Record>(entries: u32, handles: usize) -> usize {
     let Shape { slots, buckets, .. } = Shape::for_keys(entries, handles);
     let (slots, buckets) = (slots as usize, buckets as usize);
     let words = 8 * (2 + buckets + 5 * slots + slots.div_ceil(64));
     let records = 8_usize.saturating_mul(slots).saturating_mul(Cache::<K, V>::WORDS);
-    let all = records.saturating_add(3 * words + 54 * slots + 3_200 * handles + 32 * MOST + 1_024);
+    let all = records.saturating_add(3 * words + 53 * slots + 3_200 * handles + 32 * MOST + 1_024);
     all.saturating_add(all / 256) // large blocks are of whole pages
 }

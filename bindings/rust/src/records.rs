@@ -498,6 +498,12 @@ impl Words {
         self.of_place(slot as usize)
     }
 
+    /// This word of the record of a slot, for who writes it while the slot's entry is there.
+    #[inline]
+    pub(crate) fn word(&self, slot: u32, place: usize) -> &AtomicU64 {
+        &self.of(slot)[place]
+    }
+
     #[inline]
     fn of_place(&self, place: usize) -> &[AtomicU64] {
         let from = place * self.each;

@@ -525,6 +525,57 @@ fn loans_that_are_kept_in_a_renewal() {
     assert_eq!(mine.get(7), Ok(Some(value_of(7, 19_999))));
 }
 
+/// After a renewal the next one comes at the same epoch, so after about as many puts of keys that are there; an epoch has some tens of them.
+#[test]
+fn renewals_at_one_epoch() {
+    let cache: Cache<u64, u64> = CacheOptions::new().with_last_epoch(8).open_for(100, 1).expect("a cache");
+    let mut mine = cache.lend_wait();
+    // how many puts there are before a renewal, which a walk tells of
+    let mut puts = || {
+        let mut cursor = Cursor::first();
+        mine.put(0, 0).expect("room");
+        mine.next(&mut cursor).expect("it begins");
+        let is_renewed = |key: &u64| {
+            mine.put(key % 100, *key).expect("room");
+            mine.next(&mut cursor.clone()) == Err(WalkError::Reshaped)
+        };
+        (0..10_000).find(is_renewed).expect("it is renewed")
+    };
+    puts(); // of keys that aren't there yet, too
+    let as_many = puts();
+    for _ in 0..4 {
+        assert!(puts().abs_diff(as_many) < 9);
+    }
+}
+
+/// Two threads put a key each where there is room for one more: one entry goes, and no two. The clock, which is asked just before, lets
+/// them meet.
+#[test]
+fn two_for_one_place() {
+    static AT_THE_CLOCK: AtomicU64 = AtomicU64::new(0);
+    let clock = || {
+        if AT_THE_CLOCK.fetch_add(1, Relaxed) < 2 {
+            while AT_THE_CLOCK.load(Relaxed) < 2 {
+                std::hint::spin_loop();
+            }
+        }
+        seconds(1)
+    };
+    let cache: Cache<u64, u64> = CacheOptions::new().with_clock(clock).open_for(8, 2).expect("a cache");
+    for _ in 0..1_000 {
+        cache.lend_wait().clear().expect("steps");
+        for key in 0..7 {
+            assert_eq!(cache.put(key, key), Ok(None));
+        }
+        AT_THE_CLOCK.store(0, Relaxed);
+        thread::scope(|scope| {
+            let other = scope.spawn(|| cache.put_for(100, 0, seconds(9)));
+            assert_eq!((cache.put_for(101, 0, seconds(9)), other.join().expect("it ends")), (Ok(None), Ok(None)));
+        });
+        assert_eq!(cache.statistics().length, 8);
+    }
+}
+
 /// Entries keep their values and their expiry, and go as before; a walk says that it has to begin anew.
 #[test]
 fn what_a_renewal_keeps() {
