@@ -113,14 +113,8 @@ struct cached {
     Value value;
 };
 
-/* On a line of the cache of its own. */
-template <class T>
-struct alignas(64) apart {
-    T it{};
-};
-
-/* What the loans of one handle have done, and the next one of the eight slots that it has of the hand. */
-struct cache_turns : cache_statistics {
+/* What the loans of one handle have done, and the next one of the eight slots that it has of the hand, on a line of the cache of its own. */
+struct alignas(64) cache_turns : cache_statistics {
     std::uint64_t slot = 0;
 };
 
@@ -201,7 +195,7 @@ struct cache_table {
 
     cache_table(map_type &&records, const shape &wanted, std::uint32_t entries, const cache_options<Hash> &how)
         : map(std::move(records)), lender(map.lending()), opened(wanted), capacity(entries), options(how),
-          turns(std::make_unique<apart<cache_turns>[]>(map.handles())) {
+          turns(std::make_unique<cache_turns[]>(map.handles())) {
         is_renewed();
     }
 
@@ -256,11 +250,11 @@ struct cache_table {
     const shape opened;
     const std::uint32_t capacity;
     const cache_options<Hash> options;
-    std::unique_ptr<apart<cache_turns>[]> turns; /* of each handle, written by its loan alone */
+    std::unique_ptr<cache_turns[]> turns; /* of each handle, written by its loan alone */
     cache_loads<Key, Value> loads[16];
-    apart<std::atomic<std::uint64_t>> hand;   /* the slot from which on it gives eight next, and whole rounds */
-    apart<std::atomic<std::uint64_t>> length; /* of the entries that there are, and of those that are about to come */
-    std::atomic<std::uint64_t> due_from;      /* the epoch from which on a call is to renew next */
+    std::atomic<std::uint64_t> due_from; /* the epoch from which on a call is to renew next */
+    alignas(64) std::atomic<std::uint64_t> hand{0};   /* the slot from which on it gives eight next, and whole rounds */
+    alignas(64) std::atomic<std::uint64_t> length{0}; /* of the entries that there are, and of those that are about to come */
 };
 
 } // namespace detail
@@ -443,9 +437,8 @@ private:
     std::uint64_t word_of(const Key &key) const noexcept { return table->map.all->hash(key); }
 
     /* Whether there is a handle for a call: another one if it was given back, or a thread waits for all of them. */
-    bool is_ready() { return (mine && !table->lender.is_renewing()) || borrows(); }
-    bool borrows() {
-        if (!table) return false;
+    bool is_ready() {
+        if (!table || (mine && !table->lender.is_renewing())) return table != nullptr;
         mine = record_loan();
         mine = table->map.lend_wait();
         return static_cast<bool>(mine);
@@ -455,18 +448,23 @@ private:
     bool is_ready_to_store() {
         if (!is_ready()) return false;
         if (!table->is_due(mine.epoch())) return true;
-        const std::size_t renewals = table->lender.renewed();
-        mine = record_loan();
-        static_cast<void>(table->renew(detail::after(std::chrono::milliseconds(1)), renewals));
+        static_cast<void>(renews(detail::after(std::chrono::milliseconds(1))));
         return is_ready();
     }
 
+    /* Renews without a handle, once, together with those that do so at the same epoch. */
+    result<void> renews(const detail::deadline &until) {
+        const std::size_t before = table->lender.renewed();
+        mine = record_loan();
+        return table->renew(until, before);
+    }
+
     void count(std::uint64_t cache_statistics::*which) noexcept {
-        std::uint64_t &number = table->turns[mine.handle.number()].it.*which; // which no other thread writes
+        std::uint64_t &number = table->turns[mine.handle.number()].*which; // which no other thread writes
         __atomic_store_n(&number, number + 1, __ATOMIC_RELAXED);
     }
 
-    void is_shorter() noexcept { table->length.it.fetch_sub(1, std::memory_order_relaxed); }
+    void is_shorter() noexcept { table->length.fetch_sub(1, std::memory_order_relaxed); }
 
     /* The value of a key, whose entry is marked as used; none if it is absent, or has expired and is taken out. */
     found find(const Key &key) {
@@ -504,9 +502,7 @@ private:
                 continue;
             }
             if (told != refusal::epoch_spent || table->options.is_renewed_by_program || !waits) return told.error();
-            const std::size_t renewals = table->lender.renewed();
-            mine = record_loan();
-            const result<void> renewed = table->renew(std::nullopt, renewals);
+            const result<void> renewed = renews(std::nullopt);
             if (!renewed) return renewed.error();
         }
         return refusal::out_of_steps;
@@ -537,7 +533,7 @@ private:
 
     /* Counts an entry that is to come. As many go as are too many then, which this call alone takes on; those that can't go are counted again. */
     void make_room() {
-        std::atomic<std::uint64_t> &length = table->length.it;
+        std::atomic<std::uint64_t> &length = table->length;
         const std::uint64_t most = table->capacity;
         std::uint64_t now = length.load(std::memory_order_relaxed);
         while (now != most && !length.compare_exchange_weak(now, std::min(now + 1, most), std::memory_order_relaxed)) {}
@@ -565,9 +561,9 @@ private:
        counted. */
     bool evict() {
         const std::uint64_t slots = table->opened.slots;
-        std::uint64_t now = 0, &next = table->turns[mine.handle.number()].it.slot;
+        std::uint64_t now = 0, &next = table->turns[mine.handle.number()].slot;
         for (std::uint64_t passed = 0; passed < 3 * slots; passed++) {
-            if (next % 8 == 0) next = table->hand.it.fetch_add(8, std::memory_order_relaxed);
+            if (next % 8 == 0) next = table->hand.fetch_add(8, std::memory_order_relaxed);
             const auto slot = static_cast<std::uint32_t>(next++ % slots);
             const std::uint64_t *head = words_of(slot);
             const std::uint64_t word = __atomic_load_n(head, __ATOMIC_ACQUIRE), until = __atomic_load_n(head + 1, __ATOMIC_ACQUIRE);
@@ -697,8 +693,8 @@ public:
         told sum;
         for (std::size_t i = 0; i < handles(); i++)
             for (auto each : {&told::hits, &told::misses, &told::evictions, &told::expiries, &told::loads})
-                sum.*each += __atomic_load_n(&(all->turns[i].it.*each), __ATOMIC_RELAXED);
-        if (all) sum.length = all->length.it.load(std::memory_order_relaxed);
+                sum.*each += __atomic_load_n(&(all->turns[i].*each), __ATOMIC_RELAXED);
+        if (all) sum.length = all->length.load(std::memory_order_relaxed);
         return sum;
     }
 
