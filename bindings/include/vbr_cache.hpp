@@ -252,7 +252,7 @@ struct cache_table {
     const cache_options<Hash> options;
     std::unique_ptr<cache_turns[]> turns; /* of each handle, written by its loan alone */
     cache_loads<Key, Value> loads[16];
-    std::atomic<std::uint64_t> due_from; /* the epoch from which on a call is to renew next */
+    std::atomic<std::uint64_t> due_from{0}; /* the epoch from which on a call is to renew next */
     alignas(64) std::atomic<std::uint64_t> hand{0};   /* the slot from which on it gives eight next, and whole rounds */
     alignas(64) std::atomic<std::uint64_t> length{0}; /* of the entries that there are, and of those that are about to come */
 };

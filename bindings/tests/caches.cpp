@@ -676,7 +676,7 @@ static void by_threads(long calls) {
 // Two threads put a key each where there is room for one more: one entry goes, and no two. The clock, which is asked just before, lets them meet.
 static std::atomic<int> at_the_clock{0};
 static std::chrono::nanoseconds meeting_clock() {
-    if (at_the_clock.fetch_add(1) < 2) while (at_the_clock < 2) {}
+    if (at_the_clock.fetch_add(1) < 2) while (at_the_clock < 2) std::this_thread::yield();
     return 1ns;
 }
 

@@ -556,7 +556,7 @@ fn two_for_one_place() {
     let clock = || {
         if AT_THE_CLOCK.fetch_add(1, Relaxed) < 2 {
             while AT_THE_CLOCK.load(Relaxed) < 2 {
-                std::hint::spin_loop();
+                thread::yield_now();
             }
         }
         seconds(1)
