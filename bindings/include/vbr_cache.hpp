@@ -478,7 +478,7 @@ private:
             if (take_out(word, there.at) == true) count(&cache_statistics::expiries);
             return std::optional<Value>();
         }
-        marks(there.at.slot(), true);
+        if (!there.record.value.is_used) marks(there.at.slot(), true);
         return std::optional<Value>(there.record.value.value);
     }
 
@@ -548,14 +548,8 @@ private:
         return &records.words[slot * records.each];
     }
 
-    /* Marks the entry of a slot as used, or not: whether it was marked otherwise. If another entry has come to the slot meanwhile it is that
-       one which is marked, once; no copy of a record goes by its mark. */
-    bool marks(std::uint32_t slot, bool is_used) noexcept {
-        std::uint64_t *mark = words_of(slot) + 2;
-        if (__atomic_load_n(mark, __ATOMIC_RELAXED) == is_used) return false;
-        __atomic_store_n(mark, is_used, __ATOMIC_RELAXED);
-        return true;
-    }
+    /* Marks the entry of a slot as used, or not. If another entry has come to the slot meanwhile it is that one which is marked, once. */
+    void marks(std::uint32_t slot, bool is_used) noexcept { __atomic_store_n(words_of(slot) + 2, is_used, __ATOMIC_RELAXED); }
 
     /* Takes the next entry out that wasn't found since the hand came by, or has expired: whether there was one in three rounds. It is still
        counted. */
@@ -569,7 +563,10 @@ private:
             const std::uint64_t word = __atomic_load_n(head, __ATOMIC_ACQUIRE), until = __atomic_load_n(head + 1, __ATOMIC_ACQUIRE);
             if (until != 0 && now == 0) now = table->now();
             const bool is_over = until != 0 && until <= now;
-            if (!is_over && marks(slot, false)) continue;
+            if (!is_over && __atomic_load_n(head + 2, __ATOMIC_RELAXED)) {
+                marks(slot, false);
+                continue;
+            }
             const result<std::optional<map_incarnation>> at = mine.handle->get_entry(word);
             if (!at.has_value() || !*at || (*at)->slot() != slot) continue; // the slot is free, or in a hand
             if (mine.handle->remove_entry(word, **at) != true) continue;

@@ -361,20 +361,15 @@ impl<K: RecordKey, V: Record, H> Cache<K, V, H> {
             }
             return Ok(None);
         }
-        self.marks(at.slot(), true);
+        if head.is_used == 0 {
+            self.mark(at.slot(), true);
+        }
         Ok(Some(value))
     }
 
-    /// Marks the entry of a slot as used, or not, and whether it was marked otherwise. If another entry has come to the slot meanwhile it is
-    /// that one which is marked, once; no copy of a record goes by its mark.
-    #[inline]
-    fn marks(&self, slot: u32, is_used: bool) -> bool {
-        let (mark, is_used) = (self.records.words.word(slot, Head::IS_USED), u64::from(is_used));
-        let is_news = mark.load(Relaxed) != is_used;
-        if is_news {
-            mark.store(is_used, Relaxed);
-        }
-        is_news
+    /// Marks the entry of a slot as used, or not. If another entry has come to the slot meanwhile it is that one which is marked, once.
+    fn mark(&self, slot: u32, is_used: bool) {
+        self.records.words.word(slot, Head::IS_USED).store(u64::from(is_used), Relaxed);
     }
 
     /// Does with a key what `ask` says of the value that it has, evicts if there is no slot, and returns that value.
@@ -473,9 +468,10 @@ impl<K: RecordKey, V: Record, H> Cache<K, V, H> {
             let next = next.unwrap_or_else(|| self.hand.0.fetch_add(8, Relaxed));
             turn.store(next + 1, Relaxed);
             let slot = u32::try_from(next % slots).expect("below the slots");
-            let Head { number, expires, .. } = self.records.words.copy_of(slot);
+            let Head { number, expires, is_used } = self.records.words.copy_of(slot);
             let is_over = expires != 0 && expires <= *now.get_or_insert_with(|| self.now());
-            if !is_over && self.marks(slot, false) {
+            if !is_over && is_used != 0 {
+                self.mark(slot, false);
                 continue;
             }
             let stands = mine.get_entry(number)?.filter(|at| at.slot() == slot); // or the slot is free, or held
