@@ -44,6 +44,8 @@ struct Workload {
     // Where the part of a thread begins, of the calls of all.
     uint64_t begin_of(unsigned thread) const { return operations * thread / threads; }
 };
+static_assert(Workload{1000000, 0, 0, 0, 1, 1000000, 0}.buckets() == 1u << 20, "of a fill");
+static_assert(Workload{10000, 90, 5, 5, 1, 1, 0}.buckets() == 4096, "of a mix");
 
 // The key of number i: keys have no structure, so that each hash set may take a key as its own hash.
 inline uint64_t key_of(uint64_t i) {
