@@ -147,11 +147,11 @@ def plain(text):
 
 
 def faults_of_list():
-    """The formulas of PROVED that aren't what their definitions say."""
+    """The formulas of PROVED that aren't what their definitions say: (path, line, what)."""
     known = definitions()
     for formula, name, given in PROVED:
         if name not in known or not is_defined(formula, name, given, known):
-            yield f"{formula} isn't what {name} says"
+            yield "tools/lib/budgets.py", 1, f"{formula} isn't what {name} says"
 
 
 def faults(texts):

@@ -1,15 +1,13 @@
 """The form of contracts, and what the code does that contracts don't say. tools/docs-check reads both:
 
 - a function has at most eight clauses, and no line of a contract is over a hundred columns wide. So is no line of a view
-  or of an invariant (`ghost view`, `ghost invariant`). Crates that don't keep this yet are in OPEN, and leave it once they do;
+  or of an invariant (`ghost view`, `ghost invariant`);
 - on the words that threads share, each function of `vbr_slots` calls what ON_SHARED_WORDS says of it, and nothing else
   does anything to them. A contract speaks of a step as an event: that a step which loads is a load in the code too is
   seen here. An `|` with 0 in its place, say, would meet the same contract."""
 import re
 
 CLAUSES, COLUMNS = 8, 100
-# Crates whose contracts are still longer or wider.
-OPEN = []
 
 # What is called on the shared words, in its order: the calls of the kit's `atomic_table`. `split_seat` and `join_seat` are a
 # load each, by its README.
@@ -79,18 +77,8 @@ def form_faults(path, text):
 
 
 def check_form(texts):
-    """The faults of the crates that keep the form, and which others are open: ([(path, line, what)], [crate])."""
-    faults, wide = [], set()
-    for path, text in texts.items():
-        found = re.match(r"crates/([^/]+)/src/.*\.rt$", path)
-        for line, what in form_faults(path, text) if found else ():
-            wide.add(found.group(1))
-            if found.group(1) not in OPEN:
-                faults.append((path, line, what))
-    for crate in OPEN:
-        if crate not in wide:
-            faults.append(("tools/lib/contracts.py", 1, f"the contracts of {crate} keep the form now: take it out of OPEN"))
-    return faults, [it for it in OPEN if it in wide]
+    """The contracts of these files that don't keep the form: (path, line, what)."""
+    return [(path, *it) for path, text in texts.items() for it in form_faults(path, text)]
 
 
 def bodies(text):

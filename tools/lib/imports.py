@@ -22,8 +22,9 @@ def stands(name, code):
     return re.search(WORD.format(re.escape(name)), code) is not None
 
 
-def unused(path, text):
-    """The imported names of a source file that it doesn't use."""
-    code = re.sub(r"//.*", "", IMPORT.sub("", text))
-    names = (name for clause in GHOST.findall(text) for name in imported(clause))
-    return [name for name in names if not stands(name, code)]
+def faults(texts):
+    """The imported names that source files don't use: (path, line, what)."""
+    for path, text in texts.items():
+        code = re.sub(r"//.*", "", IMPORT.sub("", text))
+        unused = (it for clause in GHOST.findall(text) for it in imported(clause) if not stands(it, code))
+        yield from ((path, 1, f"a `ghost use` imports {it}, which nothing in it uses") for it in unused)

@@ -47,15 +47,15 @@ def files_of(crate):
 
 
 def faults():
-    """What is wrong with first lines: (path, what)."""
+    """What is wrong with first lines: (path, line, what)."""
     for crate in crates.all_crates():
         for file in files_of(crate):
             if not file.head:
-                yield file.full, "its first line has no comment: what are its lemmas about?"
+                yield file.full, 1, "its first line has no comment: what are its lemmas about?"
             elif not file.head.endswith(".") or re.search(r"\w\. [A-Z`]", file.head):
-                yield file.full, "its first line isn't one sentence"
+                yield file.full, 1, "its first line isn't one sentence"
             elif len(file.head.split()) > WORDS or len(file.lines[0]) > COLUMNS:
-                yield file.full, f"its first sentence has {len(file.head.split())} words on a line of {len(file.lines[0])} columns: {WORDS} and {COLUMNS} are enough"
+                yield file.full, 1, f"its first sentence has {len(file.head.split())} words on a line of {len(file.lines[0])} columns: {WORDS} and {COLUMNS} are enough"
 
 
 def listed(crate):
