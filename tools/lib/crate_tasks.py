@@ -1,11 +1,10 @@
 """The tests and programs of the crates, as tasks of side_by_side.py."""
-import os
 import sys
 
 import side_by_side
 from crates import ROOT
+from kit import RT
 
-RT = os.environ.get("RT", "rt")
 # a test that isn't proved runs with checks, which takes longer
 SECONDS = "300"
 # so many lines are compiled while one is proved

@@ -7,8 +7,8 @@ ROOT = os.path.dirname(os.path.dirname(os.path.dirname(os.path.abspath(__file__)
 
 
 class Crate:
-    def __init__(self, name, is_static, named):
-        self.name, self.is_static, self.named, self.deps = name, is_static, named, []
+    def __init__(self, name, named):
+        self.name, self.named, self.deps = name, named, []
         self.folder = f"{ROOT}/crates/{name}"
         self.is_program = os.path.isfile(f"{self.folder}/src/main.rt")
 
@@ -86,9 +86,8 @@ def all_crates():
     found = {}
     for line in text_of(f"{ROOT}/crates.txt").split("\n"):
         head, _, deps = line.partition("#")[0].partition(":")
-        words = head.split()
-        if words:
-            found[words[0]] = Crate(words[0], "staticlib" in words[1:], deps.split())
+        for name in head.split()[:1]:  # what else stands there is its kind
+            found[name] = Crate(name, deps.split())
     for it in found.values():
         it.deps = [found[name] for name in it.named if name in found]
     return found
