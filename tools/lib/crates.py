@@ -70,6 +70,13 @@ def text_of(path):
         return it.read()
 
 
+def write_text(path, text):
+    """Writes a file, with the folders that it is in."""
+    os.makedirs(os.path.dirname(path) or ".", exist_ok=True)
+    with open(path, "w", encoding="utf-8") as it:
+        it.write(text)
+
+
 def sum_of(parts):
     """A sum that tells whether something of this has changed."""
     return hashlib.sha256("\0".join(map(str, parts)).encode()).hexdigest()

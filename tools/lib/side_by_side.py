@@ -8,7 +8,7 @@ import subprocess
 import sys
 import time
 
-from crates import ROOT
+from crates import ROOT, text_of
 
 LOGS = f"{ROOT}/target/log"
 # The priority of what runs beside the first: so much nicer.
@@ -34,8 +34,7 @@ class Task:
         return f"{LOGS}/{self.name}.log"
 
     def text(self):
-        with open(self.log(), encoding="utf-8", errors="replace") as it:
-            return it.read()
+        return text_of(self.log())
 
     def start(self, jobs, is_first):
         os.makedirs(LOGS, exist_ok=True)
