@@ -183,8 +183,8 @@ enum class [[nodiscard]] refusal : std::int32_t {
                                         nothing is given, and the cursor stays; begin anew, from VBR_CURSOR_BEGIN */
     hash_taken = -100,               /* of a record map alone: another key with the same hash is there; nothing was done */
     too_long = -101,                 /* of a small_string alone: the text has more bytes than there is room for; none was made */
-    too_few_bytes = -102,            /* of a cache alone: an entry and its handles take more bytes; nothing was done */
-    load_under_way = -103            /* of a cache alone: another loader loads the key, and isn't waited for; nothing was done */
+    too_few_bytes = -102,            /* of a cache alone: an entry and the handles take more bytes; nothing was done */
+    load_under_way = -103            /* of a cache alone: a loader of the key is under way, which isn't waited for; nothing was done */
 };
 
 /* A refusal in words.
@@ -1341,7 +1341,7 @@ public:
 
     /* Closes a handle; the last one of a set ends it, with a report, as vbr_close does. Returns the report if it was the last, and the
        set is closed; none if other handles of its set are open. It leaves the handle empty, and its slots given back, as by
-       vbr_give_slots_back, and its pass. After VBR_NO_MEMORY it is still full: close it again, drop it, or go on with it.
+       vbr_give_slots_back, and its pass. After refusal::no_memory it is still full: close it again, drop it, or go on with it.
 
            std::optional<vbr::report> told = mine.close().value(); // the report of the last one */
     result<std::optional<report_type>> close() {

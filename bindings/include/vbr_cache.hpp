@@ -1,4 +1,10 @@
-/* A cache with keys and values of any size, in fixed memory, for C++17 and later: a record map of vbr_record_map.hpp that evicts.
+/* A cache with keys and values of any size, in fixed memory: a record map that evicts. It keeps as many entries as it was opened for. Of
+   two keys with one hash the one that comes later takes the other's place.
+
+   Its calls take no lock, but for those that load a key, and those that change one while loads are under way.
+
+   This header is for C++17 and later. Keys and values are those of vbr_record_map.hpp: trivially copyable, and a text or bytes as a
+   small_string or small_bytes.
 
        using users = vbr::cache<vbr::small_string<31>, user>;
        users cache = users::open_bytes(1 << 20, 8).value();          // in a mebibyte at most, for 8 threads at a time
@@ -6,34 +12,39 @@
        users::key_type who = users::key_type::from("ada").value();   // or refusal::too_long
        std::optional<user> there = mine.get_or_load(who, from_database).value(); // none: the loader gave none
 
-   Keys and values are those of a record map: trivially copyable, and a text or bytes as a small_string or small_bytes. Of two keys with one
-   hash the one that comes later takes the other's place.
-
-   An insert into a full cache evicts by CLOCK (Corbato 1968). A hand goes from slot to slot. An entry that was found since the hand came
-   by, or was given another value, is marked as not used and stays. Another one goes, and so does one that has expired. A new entry counts
+   An insert into a full cache evicts by CLOCK (Corbato 1968). A hand goes from slot to slot. An entry that was found or given another
+   value since the hand came by is marked as not used, and stays. Another one goes, and so does one that has expired. A new entry counts
    as not used, so what is asked for once goes at the next round.
 
-   All threads share one hand, which an atomic addition advances by eight slots. A handle looks at these in turn, and goes on where it was.
-   Four threads with a hand each had 0.1 to 0.4 fewer hits in 100, among 2,000 entries of 20,000 keys by Zipf 0.7 and 0.99, with scans and
-   without (30 November 2026).
+   All threads share one hand, which an atomic addition advances by eight slots. A handle looks at these in turn, and goes on where it
+   was. Four threads with a hand each had 0.1 to 0.4 fewer hits in 100, among 2,000 entries of 20,000 keys by Zipf 0.7 and 0.99, with
+   scans and without (30 November 2026).
 
-   A hit loads, and stores the mark only if the hand has come by since; besides it counts itself on a line of the cache of the loan's own.
-   The mark is a word of the entry's record.
-   All memory is taken at the opening and by renewals, and `bytes` is the most that there is at any moment.
+   A hit is a `get` of a record map and one load more, of whether a renewal waits. It writes its count, on a cache line of the handle's
+   own, and the mark, in the record, if the hand has come by since. A call that stores a value takes a slot, writes the record there, and
+   puts it in the place of the entry that it read. If the key was absent and the cache is full, another entry goes first. An entry that
+   has a time to live costs each call that meets it a look at the clock.
 
-   An entry may have a time to live. When that is over it is a miss, and the call that meets it takes it out.
+   All memory is taken at the opening and by renewals, and `bytes` is the most that there is at any moment. There is a slot for each
+   entry, and 64 for each handle. A renewal has about four times the words of a map with these slots, and the records once. A record has
+   three words beside the value, and the key if it is hashed.
 
-   Inserts use up epochs, as vbr(3) says. From 7/8 of the last epoch on a call that stores a value renews the cache, unless the program does.
-   Entries go along, and so does which of them were used lately. All loans have to be back for it. So a loan that begins a call meanwhile gives
-   its handle back and borrows another one; no call of the loan tells. Nobody waits more than a millisecond for that until the last epoch is
-   spent, years later in most caches. From then on calls that store a value wait for the other loans: whoever keeps one and makes no call
-   holds them up, and so does a thread that has two.
+   An entry may have a time to live. When that is over it is as if it were absent, and a `get` or the hand that meets it takes it out.
 
-   All calls give a vbr::result. Those of a loan that has none are refused by refusal::no_handle. Each call of the map that they make has
-   the ample budget; they are refused by refusal::out_of_steps if that was spent, or if others were faster most_attempts times. A call that
-   stores a value is refused by refusal::no_slot only if no entry can go, since other loans keep all slots; by refusal::epoch_spent
-   if the program renews; and by refusal::no_memory if there is none for a renewal. A refused call has changed no value, though another entry
-   may have been evicted. */
+   Calls that store a value use up epochs, as in each map. From 7/8 of the last epoch on such a call renews the cache, unless the program
+   does. It goes once over all entries, and calls wait meanwhile. Entries and counts go along, and so does which entries were used lately.
+
+   For a renewal each loan has to be given back, or to begin a call. Until the last epoch is spent, years later in most caches, nobody
+   waits more than a millisecond for that. From then on calls that store a value wait for the other loans: whoever keeps one and makes no
+   call holds them up, and so does a thread that has two.
+
+   A call that stores a value is refused by refusal::no_slot only if no entry can go, since other loans keep all slots; and by
+   refusal::epoch_spent if the program renews the cache and has not. The key is as it was then, though another entry may have been
+   evicted.
+
+   All calls give a vbr::result. Those of a loan that has none are refused by refusal::no_handle, and those that find no memory for a
+   renewal by refusal::no_memory. Each call of the map that they make has the ample budget; they are refused by refusal::out_of_steps if
+   that was spent, or if others were faster most_attempts times. */
 #ifndef VBR_CACHE_HPP
 #define VBR_CACHE_HPP
 
@@ -45,8 +56,13 @@
 
 namespace vbr {
 
-/* What `compute` is to do with a key: it keeps what it has, there or not; it gets this value, with the time to live of the cache or one of its
-   own, and is inserted if it is absent; it gets this value and expires when it would have; or it is taken out if it is there.
+/* What `compute` is to do with a key:
+
+   - keep: it stays as it is, there or not
+   - put: it gets this value, with the time to live of the cache, and is inserted if it is absent
+   - put_for: the same, with a time to live of its own
+   - update: it gets this value, and expires when it would have; if it is absent, as with `put`
+   - remove: it is taken out if it is there
 
        return tries ? to::update(*tries + 1) : to::put_for(1, 60s); */
 template <class Value>
@@ -74,20 +90,26 @@ private:
        how.clock = vbr::steady_time; */
 inline std::chrono::nanoseconds steady_time() noexcept { return std::chrono::steady_clock::now().time_since_epoch(); }
 
-/* How a cache is opened.
+/* How a cache is opened:
+
+   - time_to_live: it is that of entries which aren't given another one, and begins anew with each value that is put
+   - clock: it gives the time since any moment, always the same one. It is asked only if an entry that is stored or met has a time to
+     live, and makes no call of the cache
+   - is_renewed_by_program: after the last epoch calls that store a value are refused until the program has renewed the cache; the others
+     are answered as always
+   - last_epoch, seed: as those of a shape
+   - hash: of keys of more than 64 bits
 
        users::options how;
        how.time_to_live = 10min; */
 template <class Hash>
 struct cache_options {
-    std::optional<std::chrono::nanoseconds> time_to_live = std::nullopt; /* of an entry that isn't given another one; it begins anew with
-                                                                            each value that is put. None: for ever */
-    std::chrono::nanoseconds (*clock)() = steady_time; /* the time since any moment, always the same one. It is asked only if an entry has a
-                                                          time to live, and makes no call of the cache */
-    bool is_renewed_by_program = false; /* calls that find the epoch spent are then refused */
-    std::uint64_t last_epoch = max_epoch; /* as of a shape */
+    std::optional<std::chrono::nanoseconds> time_to_live = std::nullopt;
+    std::chrono::nanoseconds (*clock)() = steady_time;
+    bool is_renewed_by_program = false;
+    std::uint64_t last_epoch = max_epoch;
     std::optional<std::uint64_t> seed = std::nullopt;
-    Hash hash = Hash(); /* of keys of more than 64 bits */
+    Hash hash = Hash();
 };
 
 /* What the calls of a cache have done since its opening.
@@ -98,7 +120,7 @@ struct cache_statistics {
     std::uint64_t hits = 0;      /* look-ups that gave a value: of `get`, and of `get_or_load` before it loads or waits */
     std::uint64_t misses = 0;    /* those that gave none */
     std::uint64_t evictions = 0; /* entries that went for others */
-    std::uint64_t expiries = 0;  /* entries that were taken out or replaced since they had expired */
+    std::uint64_t expiries = 0;  /* entries that were taken out, or replaced, since they had expired */
     std::uint64_t loads = 0;     /* loaders that were begun */
     std::uint64_t length = 0;    /* how many entries there are, also such as have expired and nobody met since */
 };
@@ -259,10 +281,12 @@ struct cache_table {
 
 } // namespace detail
 
-/* The right of one thread at a time to make calls on a cache, or none. It is tested by `if (loan)`; if it has none its calls are
-   refused by refusal::no_handle. It has a handle, which goes back where this ends, and also while a loader of it runs or it waits for
-   another one, and for a renewal. It borrows another one afterwards, and waits for it. So a loader may take its time, and make
-   calls by the same loan.
+/* A handle of a cache on loan, which makes all calls. It goes back at the end of this, and may go to another thread before.
+
+   The loan keeps no handle while a loader of it runs, while it waits for another one, and during a renewal: it gives its handle back, and
+   borrows another one afterwards, and no call tells. So a call may wait for a free handle. A loader may make calls by the same loan.
+
+   There may be none: it is tested by `if (loan)`, and its calls are refused by refusal::no_handle then.
 
        users::loan mine = cache.lend_wait(); */
 template <class Key, class Value, class Hash>
@@ -291,8 +315,8 @@ public:
 
     explicit operator bool() const noexcept { return table != nullptr; }
 
-    /* The value of a key: a copy, whole, of what it had at a moment of the call. The entry counts as used. One that has expired is taken
-       out, and is a miss. It is a look-up, a copy and one load, and takes no slot.
+    /* The value of a key: a copy, whole, of what it had at a moment of the call; none if it is absent. The entry counts as used. One that
+       has expired is taken out, and is a miss.
 
            std::optional<user> has = mine.get(who).value(); */
     found get(const Key &key) {
@@ -301,7 +325,7 @@ public:
         return there;
     }
 
-    /* Whether a key is there and hasn't expired. It isn't counted, and is no use of the entry; it costs a `get`.
+    /* Whether a key is there and hasn't expired. It is no use of the entry, and isn't counted. It costs a `get`.
 
            if (*mine.has(who)) there++; */
     result<bool> has(const Key &key) {
@@ -311,8 +335,8 @@ public:
         return *there && !table->is_over((*there)->until);
     }
 
-    /* Gives a key this value, with the time to live of the cache, whether it was there or not, and returns the one that it had. If the
-       cache is full another entry goes before. It takes a slot and writes the record.
+    /* Gives a key this value, with the time to live of the cache, and returns the one that it had; none if it was absent, and is
+       inserted. If the cache is full another entry goes before.
 
            std::optional<user> before = mine.put(who, user{5, 1}).value(); // what who had */
     found put(const Key &key, const Value &value) { return compute(key, [&](const auto &) { return change::put(value); }); }
@@ -324,35 +348,39 @@ public:
         return compute(key, [&](const auto &) { return change::put_for(value, time); });
     }
 
-    /* Adds a key with its value, as `put`: true if it was absent. Else its value and its time stay.
+    /* Adds a key with its value, as `put` does, and says whether it was absent. Else its value and its time stay.
 
            bool added = mine.insert(who, user{5, 3}).value(); */
     result<bool> insert(const Key &key, const Value &value) {
         return had(false, compute(key, [&](const auto &there) { return there ? change::keep() : change::put(value); }));
     }
 
-    /* Gives a key that is there this value, as `put`, and returns the one that it had; none, and nothing is changed, if it is absent.
+    /* Gives a key that is there this value, as `put` does, and returns the one that it had; none, and nothing is changed, if it is
+       absent.
 
            std::optional<user> replaced = mine.replace(who, user{5, 4}).value(); */
     found replace(const Key &key, const Value &value) {
         return compute(key, [&](const auto &there) { return there ? change::put(value) : change::keep(); });
     }
 
-    /* Takes a key out, and returns its value. It takes no slot.
+    /* Takes a key out, and returns its value; none if it was absent. It takes no slot.
 
            std::optional<user> taken = mine.remove(who).value(); */
     found remove(const Key &key) { return compute(key, [](const auto &) { return change::remove(); }); }
 
-    /* Gives an entry this time to live from now on: true if it is there. It costs a `put`.
+    /* Gives an entry this time to live from now on, and says whether it is there. It counts as used, and costs a `put` of its value.
 
            bool is_there = mine.touch(who, 10min).value(); */
     result<bool> touch(const Key &key, std::chrono::nanoseconds time) {
         return had(true, compute(key, [&](const auto &there) { return there ? change::put_for(*there, time) : change::keep(); }));
     }
 
-    /* Does with a key what `ask` says of the value that it has, or of none, and returns that value: `keep`, `put`, `put_for`, `update` or
-       `remove`. It is done only if the key still has the entry that `ask` was told of. Else `ask` is asked again, of what is there then,
-       at most most_attempts times.
+    /* Does with a key what a function says of the value that it has, or of none, and returns that value.
+
+       The change is made only if the key still has the entry that the function was told of. Else it is asked again, of what is there
+       then. So no change is lost.
+
+       `ask` is the function, which says `keep`, `put`, `put_for`, `update` or `remove`. It is asked at most most_attempts times.
 
            using to = visits::change;
            auto next_try = [](const std::optional<int> &tries) { // three in a minute
@@ -368,16 +396,19 @@ public:
         return change_by(key, word, ask, true);
     }
 
-    /* The value of a key, as `get`; if it is absent, the one that `loader` returns, a Value or an option, which is put with the time to live
-       of the cache. None, or an exception, which goes to the caller: the loader failed, and nothing is put.
+    /* The value of a key, as `get`; if it is absent, the one that the loader returns, which is put with the time to live of the cache. If
+       the loader fails nothing is put.
 
-       If several threads miss one key at a time one of them runs its loader, and the others wait and get its value. If it fails, one of
-       those that wait runs its own. The loan has no handle meanwhile. Two loaders that load each other's key wait for ever. A loader
-       that asks for the key that it loads is refused by refusal::load_under_way.
+       If several threads miss one key at a time, one of them runs its loader, and the others wait for it. If it fails, one of those that
+       wait runs its own. The loan has no handle meanwhile, so a loader may take its time. Two loaders that load each other's key wait for
+       ever; one that asks for the key that it loads is refused.
 
-       If the key is there again when the loader has ended, the call returns what is there. If it was changed or taken out while the loader ran,
-       by other calls than a load, the value is returned and not kept, and a call that begins after that change doesn't wait for it. So once
-       `remove` returns nobody finds what was loaded before. A value isn't kept either where its put would be refused.
+       If the key is there again when the loader has ended, the call returns what is there. If it was changed or taken out while the
+       loader ran, by other calls than a load, the value is returned and not kept, and a call that begins after that change doesn't wait
+       for it. So once `remove` returns nobody finds what was loaded before. A value isn't kept either if its put would be refused.
+
+       A loader returns a value or an option, and fails by none, which is returned, or by an exception, which goes to the caller. Those that
+       wait get the value that was loaded, kept or not.
 
            std::optional<user> there = mine.get_or_load(who, from_database).value(); // none: the loader gave none */
     template <class Loader>
@@ -385,7 +416,7 @@ public:
         return load(key, loader, true);
     }
 
-    /* The same, and it waits for no loader of another thread: if one loads the key it is refused by refusal::load_under_way.
+    /* The same, and it waits for no loader of another thread: if one loads the key, the call is refused for that.
 
            if (mine.try_get_or_load(who, from_database) == vbr::refusal::load_under_way) elsewhere++; */
     template <class Loader>
@@ -393,8 +424,8 @@ public:
         return load(key, loader, false);
     }
 
-    /* Takes all entries out that are there all the while. Others may put some meanwhile. It makes a call for each bucket and a remove for
-       each entry; if it is refused some were taken out.
+    /* Takes out all entries that are there as it begins; those that others put meanwhile may stay. What is being loaded isn't kept. It
+       goes once over the entries, with a remove for each. If it is refused some were taken out.
 
            vbr::result<void> cleared = mine.clear(); */
     result<void> clear() {
@@ -411,7 +442,9 @@ public:
         }
     }
 
-    /* Calls `visit` with the key and the value of all entries that haven't expired, as `for_each` of a record map. It is no use of them.
+    /* Calls `visit` with the key and the value of all entries, as `for_each` of a record map.
+
+       It is no use of the entries, and passes over those that have expired.
 
            vbr::result<void> walked = mine.for_each([&](const users::key_type &, const user &each) { sum += each.visits; }); */
     template <class Visit>
@@ -607,7 +640,7 @@ private:
 };
 
 /* A cache, which lends its handles to threads. It is moved and never copied. Its loans end before it: one that ends while a loan has a
-   handle ends the program by abort, with a sentence on standard error. A loan without a name lasts to the end of its line.
+   handle ends the program by abort, with a sentence on standard error.
 
        users cache = users::open_bytes(1 << 20, 8).value(); */
 template <class Key, class Value, class Hash = detail::usual_hash<Key>>
@@ -629,9 +662,10 @@ public:
     cache(cache &&) noexcept = default;
     cache &operator=(cache &&) noexcept = default;
 
-    /* Opens an empty one that takes at most so many bytes, ever: what it asks of the heap, at the opening and in renewals. It has as many entries
-       as there is room for, and lends so many handles, from 1 to max_many_handles. It is refused by refusal::too_few_bytes if there is no
-       room for one entry, and else as a record map is; where a vector or the records find no memory it throws std::bad_alloc.
+    /* Opens an empty cache that takes at most so many bytes of the heap at any moment: it has as many entries as there is room for. It
+       lends so many handles, one for each thread that makes calls at the same time. It is refused by refusal::too_few_bytes if there is
+       no room for one entry, and else as a record map is; if a vector or the records find no memory it throws std::bad_alloc. There may
+       be 1 to max_many_handles handles.
 
            users cache = users::open_bytes(1 << 20, 8).value(); */
     static result<cache> open_bytes(std::size_t bytes, std::size_t handles, const options &how = options()) {
@@ -642,7 +676,8 @@ public:
         return open_for(fits, handles, how);
     }
 
-    /* The same for so many entries, at least one, in whatever memory they take.
+    /* Opens an empty cache that keeps so many entries, in whatever memory they take, and lends so many handles. It is refused as a record
+       map is, and so if it is for no entry.
 
            users minutes = users::open_for(1000, 8, how).value(); */
     static result<cache> open_for(std::uint32_t entries, std::size_t handles, const options &how = options()) {
@@ -667,14 +702,14 @@ public:
         return all ? loan(all.get(), all->map.lend_for(limit)) : loan();
     }
 
-    /* Lets it go on at epoch 1 with its entries, as soon as all loans are back, which make no call meanwhile, or give their handle back
-       for it. A thread that has a loan itself waits for ever. It takes the memory that `bytes` counts. Where there is none it is refused
-       by refusal::no_memory, and all stays as it was.
+    /* Lets the cache go on at epoch 1, with its entries, once all loans are back: each is given back, or begins a call. A thread that has
+       a loan itself waits for ever. It goes over all entries. If there is no memory for it the cache stays as it was. It is refused by
+       refusal::no_memory then.
 
            vbr::result<void> renewed = cache.renew(); */
     result<void> renew() { return all ? all->renew(std::nullopt, all->lender.renewed()) : refusal::no_handle; }
 
-    /* The same, or refused by refusal::on_loan where not all loans were back until the time was over.
+    /* The same, or refused if not all loans were back when the time was over.
 
            vbr::result<void> in_vain = cache.renew_for(10ms); // refusal::on_loan: mine is out */
     template <class Rep, class Period>
@@ -682,7 +717,8 @@ public:
         return all ? all->renew(detail::after(limit), all->lender.renewed()) : refusal::no_handle;
     }
 
-    /* What its calls have done. It takes five loads for each handle, of no one moment unless no call is under way.
+    /* What its calls have done. Each handle counts for itself, and this adds the counts up, with five loads for each. They are of no one
+       moment while calls are under way.
 
            vbr::cache_statistics told = cache.statistics(); */
     cache_statistics statistics() const noexcept {
@@ -695,8 +731,11 @@ public:
         return sum;
     }
 
-    /* The most entries that there are at one time, but for one more of each call under way; the most bytes; how many handles it lends, and how
-       many are on loan. 0 without any.
+    /* How many entries it keeps: as many as there are at a time once it is full, but for one more of each call under way.
+
+       How many bytes of the heap it takes at most at any moment, in its opening and its renewals too.
+
+       And how many handles it lends, and how many are on loan. All are 0 of one that lends nothing.
 
            if (cache.bytes() > 1 << 20 || cache.capacity() < 1000 || cache.handles() != 8 || cache.on_loan() != 1) return 1; */
     std::uint32_t capacity() const noexcept { return all ? all->capacity : 0; }

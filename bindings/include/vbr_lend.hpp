@@ -488,8 +488,9 @@ public:
 
     /* Lends a free handle as soon as there is one: if each is lent, the thread sleeps until one is given back.
 
-       A thread that has a loan itself may wait for ever. Threads that wait have no order: one that comes later may be lent a handle
-       before. It lends none if the lender has no handles, or is closed meanwhile.
+       A thread that has a loan itself may wait for ever, and a loan without a name lasts to the end of its statement. Threads that wait
+       have no order: one that comes later may be lent a handle before. It lends none if the lender has no handles, or is closed
+       meanwhile.
 
            vbr::loan waited = lender.lend_wait(); */
     loan_type lend_wait() { return loan_type(all.get(), awaited()); }
@@ -557,7 +558,7 @@ public:
            vbr::result<void> renewed = lender.renew(shape); */
     result<void> renew(const shape &wanted) { return all ? all->renew(wanted, std::nullopt) : refusal::no_handle; }
 
-    /* The same, or refused with on_loan if not all loans were back when the time was over.
+    /* The same, or refused if not all loans were back when the time was over.
 
            vbr::result<void> in_vain = lender.renew_for(shape, 10ms); // refusal::on_loan: a loan is still out */
     template <class Rep, class Period>

@@ -175,7 +175,11 @@ private:
     detail::siphash key;
 };
 
-/* What `compute` is to do with a key: it keeps what it has, there or not; it is put there with this value; or it is taken out if it is there.
+/* What `compute` is to do with a key:
+
+   - keep: it stays as it is, there or not
+   - put: it gets this value, and is inserted if it is absent
+   - remove: it is taken out if it is there
 
        return there ? to::put({there->balance - 10, there->payments + 1}) : to::keep(); */
 template <class Value>
@@ -654,7 +658,7 @@ public:
            vbr::result<void> renewed = map.renew(vbr::shape::for_keys(2000, 8)); */
     result<void> renew(const shape &wanted) { return renew_until(wanted, std::nullopt); }
 
-    /* The same, or refused by refusal::on_loan if not all loans were back when the time was over.
+    /* The same, or refused if not all loans were back when the time was over.
 
            vbr::result<void> in_vain = map.renew_for(shape, 10ms); // refusal::on_loan: mine is out */
     template <class Rep, class Period>

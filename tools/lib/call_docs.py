@@ -1,9 +1,10 @@
 """What comments in Rust and in C++ have of the comments in C: the sections of a call, with the names that its answers have there.
 
 A source of the crate, or of a header for C++, has lines for it; pass.rs.in and vbr.hpp.in say how they are written. They are of the call
-without what stands between <c> and </c>. What C++ and Rust have and C has not is said once in cpp_and_rust.in. The function that follows
-says which names there are: those of its result stand for answers, and those of its error for refusals. A file of the crate that isn't made otherwise has such a line as a comment that isn't one of rustdoc,
-ahead of what is made of it, and `// %end` after that."""
+without what stands between <c> and </c>. What C++ and Rust have and C has not is said once, in cpp_and_rust.in and of caches in caches.in.
+The function that follows says which names there are: those of its result stand for answers, and those of its error for refusals. A file of
+the crate that isn't made otherwise has such a line as a comment that isn't one of rustdoc, ahead of what is made of it, and `// %end` after
+that."""
 import functools
 import re
 import sys
@@ -15,7 +16,7 @@ from crates import ROOT, text_of
 
 MOST, CPP_MOST = 126, 138  # columns of bindings/rust/rustfmt.toml, and of comments in vbr.hpp
 HEADERS = "vbr.h", "vbr_lend.h", "vbr_records.h", "vbr_shared.h"
-BESIDES = f"{ROOT}/bindings/interface/cpp_and_rust.in"
+BESIDES = [f"{ROOT}/bindings/interface/{it}.in" for it in ("cpp_and_rust", "caches")]
 MARK = re.compile(r"^( *)%(doc|errors|answer) ([\w.]+)(?:: (.*))?\n", re.M)
 IN_PLACE = re.compile(r"^( *)// (%(?:doc|errors|answer) .*)\n(?: *///.*\n)*\1// %end\n", re.M)
 DEFINE = re.compile(r"(/\*(?:(?!\*/).)*\*/)\n#define (VBR_\w+) ", re.S)
@@ -23,7 +24,8 @@ TYPE = re.compile(r"(/\*(?:(?!\*/).)*\*/)\ntypedef struct (\w+) \{\n(.*?)^\}", r
 FIELD = re.compile(r"(\w+);\s*/\* (.*?) \*/")
 SAID = re.compile(r"^%said (\w+)\n(.*?)(?=^%said |\Z)", re.M | re.S)
 IN_CPP = re.compile(r"^( *?)(/\* |   )%doc ([\w.]+)(?:: ([\w ]+))?\n((?:.+\n)*)(?=\n(?:.*\n)*?.*\*/\n *(?:template <.*>\n *)?(?:static )?(?:result<(bool|std::optional)|(found) )?)", re.M)
-FIELD_IN_CPP = re.compile(r"(?<=/\* )%doc (vbr_\w+\.\w+)(?= \*/)")
+FIELD_IN_CPP = re.compile(r"%doc ([\w.]+)(?=(?:;.*)? \*/)")
+ITEM_IN_CPP = re.compile(r"^( *   - \w+: )%doc (\w+)$", re.M)
 HEAD = re.compile(r"^ *(?:%number |pub (?:(?:const |unsafe )?fn|const|type|struct|enum) ([^{;]*))", re.M)
 # The answers that aren't refusals, by the result that has them. A call that gives a number or nothing has them in words.
 ANSWERS = {"bool": ("`true`", "`false`"), "Option": ("`Some`", "`None`"), "Result": ("`Ok(())`", "`Err` of the slot")}
@@ -57,7 +59,7 @@ def comments():
         found[name] = sections.sections(comment)
         found.update({f"{name}.{field}": (as_sentence(text), {}) for field, text in FIELD.findall(fields)})
     found.update({name: sections.sections(sections.first_comment(it)) for name, it in zip(HEADERS, headers)})
-    found.update({name: sections.sections(text) for name, text in SAID.findall(text_of(BESIDES))})
+    found.update({name: sections.sections(text) for path in BESIDES for name, text in SAID.findall(text_of(path))})
     return found, sections.answers_said(headers[0])
 
 
@@ -221,7 +223,7 @@ def renewed(text, path):
 
 
 class CppWords:
-    """The answers of a call as a member gives them: true and false, or a value and none. It has the names of C else."""
+    """The answers of a call as a member gives them: true and false, or a value and none; and refusals. It has the names of C else."""
 
     def __init__(self, answer, where):
         self.answer, self.where = answer, where
@@ -232,7 +234,7 @@ class CppWords:
         return [" ".join(it for it in parts if it)]
 
     def of(self, text):
-        return text.replace("a null pointer", "none")
+        return re.sub(r"\bVBR_[A-Z_]+", lambda it: f"refusal::{it[0][4:].lower()}" if it[0] in REFUSALS else it[0], text.replace("a null pointer", "none"))
 
 
 def with_name(name, sentence):
@@ -258,8 +260,9 @@ def in_cpp(text, path):
         filled = [interface.fill(one, CPP_MOST, f"{indent}{'   ' if number else begin}", f"{indent}   ") for number, one in enumerate(said)]
         return "\n\n".join(filled) + "\n"
 
-    def of_field(it):
-        sentence = sections_of(it[1])[0]
-        return f"{sentence[0].lower()}{sentence[1:-1]}"
+    def of_field(name):
+        sentence = sections_of(name)[0]
+        return " ".join(f"{sentence[0].lower()}{sentence[1:-1]}".split())
 
-    return FIELD_IN_CPP.sub(of_field, IN_CPP.sub(made, text))
+    text = ITEM_IN_CPP.sub(lambda it: interface.fill(of_field(it[2]), CPP_MOST, it[1], " " * it[1].index("-") + "  "), IN_CPP.sub(made, text))
+    return FIELD_IN_CPP.sub(lambda it: of_field(it[1]), text)

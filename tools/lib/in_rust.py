@@ -1,9 +1,10 @@
 """The crate for Rust, as far as it is made of bindings/interface: its files of calls, which have a form with a budget beside one without it,
 and in library.rs the declarations of the library, and which of its calls are those of sets, and which those of maps."""
+import functools
 import glob
 import re
 
-from call_docs import IN_PLACE, MOST, renewed, with_docs
+from call_docs import IN_PLACE, MOST, laid_out, renewed, with_docs
 from crates import ROOT, text_of
 from interface import name_of, text_of_kind, type_of
 
@@ -11,21 +12,33 @@ TYPES = {"uint64_t": "u64", "size_t": "usize", "uint32_t": "u32", "int64_t": "i6
 TYPES.update({"vbr_handle": "Raw", "vbr_map_handle": "Raw", "vbr_shared_handle": "SharedRaw", "vbr_cursor": "Cursor", "vbr_incarnation": "Stands", "vbr_report": "ReportNumbers"})
 # The files, each with its source in bindings/interface, whose calls it has, and of which kind it is, if its source is for both.
 FILES = {"pass": ("pass", "PassOf"), "changing": ("changing", "PassOf"), "holding": ("holding", "PassOf"), "set": ("kinds", "Pass", "set"), "map": ("kinds", "MapPass", "map")}
+FILES.update({"cache": ("cache", "Cache"), "cache_lent": ("cache_lent", "CacheLent"), "cache_loads": ("cache_loads", "Cache"), "cache_options": ("cache_options", "CacheOptions")})
 # What the comment of the form with a budget says of it, and where it has what the other form says.
 WITHIN = {"within": "with a budget of its own", "within_keys": "each key with this budget", "within_calls": "each of whose calls has this budget"}
 SECTIONS = {"Errors": "The same as for {}.", "Panics": "As {} does."}
 CALL = re.compile(r"((?: +///.*\n)+)( +)%(within\w*) ?(.*)\n((?: +%       .*\n)*)((?: +#\[.*\n)*) +pub fn (\w+)_within\(([^;{]*?),?\s*steps: Steps,?\s*\)([^{]*) \{\n")
+BY_LOAN = re.compile(r"^    %by_loan (\w+): (.*)\n", re.M)
+METHOD = r"((?: +///.*\n)+)((?: +#\[.*\n)*) +pub fn {}(<\w+>)?\(&(?:mut )?self, (.*)\) -> (.*) \{{\n"
+EXAMPLE = re.compile(r"^( *//[/!]) ```(.*)\n((?:\1.*\n)*?)\1 ```\n", re.M)
 LIBRARY = f"{ROOT}/bindings/rust/src/library.rs"
 MADE = "    // tools/interface makes these of the headers.\n"
 
 
-def example(opening, lines):
-    """The lines of an example, which opens so, unless it does by itself."""
-    if not any(" handle = " in it for it in lines):
-        lines = [opening, *lines]
-    used = set(re.findall(r"(?<![:\w'])(?!Ok\b|Err\b|Some\b|None\b)[A-Z][a-z]\w*", " ".join(lines)))
-    why = "Box<dyn std::error::Error>" if re.search(r"\?[;.](?!remove\(0\);)", " ".join(lines)) else "vbr::OpenError"
-    return [f"# use vbr::{{{', '.join(sorted(used))}}};", *lines, f"# Ok::<(), {why}>(())"]
+@functools.lru_cache(maxsize=None)
+def exported():
+    """The types and numbers of the crate."""
+    return set(re.findall(r"\b[A-Z]\w*", " ".join(re.findall(r"^pub use .*?;", text_of(f"{ROOT}/bindings/rust/src/lib.rs"), re.M | re.S))))
+
+
+def framed(it):
+    """An example with the hidden lines that it lacks: the names that it uses, unless it says so itself, and its end, if it asks for answers."""
+    begin, how, body = it.groups()
+    code = re.sub(r"//.*", "", re.sub(f"^{begin}", "", body, flags=re.M))
+    used = sorted(set(re.findall(r"(?<![:\w'])[A-Z]\w*", code)) & exported()) if "use vbr::" not in code else []
+    names = f"{{{', '.join(used)}}}" if len(used) > 1 else "".join(used)
+    before = [*["# use std::time::Duration;"] * ("Duration::" in code and "use std::time" not in code), *[f"# use vbr::{names};"] * bool(used)]
+    after = ["# Ok::<(), Box<dyn std::error::Error>>(())"] * ("?" in code and "Ok::<(), " not in code)
+    return it[0] if how else "".join([f"{begin} ```\n", *[f"{begin} {one}\n" for one in before], body, *[f"{begin} {one}\n" for one in after], f"{begin} ```\n"])
 
 
 def both_forms(it, owner):
@@ -34,13 +47,31 @@ def both_forms(it, owner):
     link, given, refusal = f"[`{owner}::{name}`]", " ".join(given.split()), "Refusal::" * ("Refusal>" in returns)
     opening = (re.search(r"/// (let (?:mut )?handle = .*)", comment) or [""] * 2)[1]
     lines = [f"assert_eq!(handle.{name}_within({wanted}, Steps::new(1)), Err({refusal}OutOfSteps));"] if wanted else re.findall(" %       (.*)", more)
-    said = [f"As {link}, {WITHIN[mark]}.", "", "```", *example(opening.replace("let mut ", "let ") if given.startswith("&self") else opening, lines), "```"]
+    if not any(" handle = " in it for it in lines):
+        lines = [opening.replace("let mut ", "let ") if given.startswith("&self") else opening, *lines]
+    said = [f"As {link}, {WITHIN[mark]}.", "", "```", *lines, "```"]
     for section, text in SECTIONS.items():
         said += ["", f"# {section}", "", text.format(link)] if f"/// # {section}\n" in comment else []
     passed, marks = re.findall(r"(?:^|, )(?:mut )?(\w+): ", given), f"{indent}#[inline]\n{marks}"
     body = f"{indent}    self.{name}_within({', '.join([*passed, 'self.steps()'])}){'' if returns else ';'}\n{indent}}}\n\n"
     within = "".join(f"{indent}/// {line}".rstrip() + "\n" for line in said) + marks + head(indent, f"{name}_within", f"{given}, steps: Steps", returns)
     return comment + marks + head(indent, name, re.sub(r"mut (?=\w+: )", "", given), returns) + body + within
+
+
+def by_loan(asked):
+    """The calls of what lends, by a loan for each alone, as the file of the loan has them: their sentences, examples and heads."""
+    lent, owner = FILES[asked[1]]
+    path = f"bindings/interface/{lent}.rs.in"
+    text, made = with_docs(text_of_kind(text_of(f"{ROOT}/{path}"), None), path), []
+    for name in asked[2].split():
+        comment, marks, types, given, returns = re.search(METHOD.format(name), text).groups()
+        link, passed = f"[`{owner}::{name}`]", re.findall(r"(?:^|, )(?:mut )?(\w+): ", given)
+        example = re.sub(r" +/// let (?:mut )?mine = .*\n", "", EXAMPLE.search(comment)[0]).replace("mine.", f"{asked[1].split('_')[0]}.")
+        said = [f"{comment.partition('    ///' + chr(10))[0]}    ///\n", laid_out("    ", [f"As {link}, by a loan for this call alone."]), f"    ///\n{example}    ///\n"]
+        said.append(laid_out("    ", ["# Errors", f"The same as for {link}."]))
+        begin = head("    ", f"{name}{types or ''}", f"&self, {given.replace('mut ', '')}", f" -> {returns}")
+        made.append("".join([*said, marks.replace("    #[inline]\n", ""), f"{begin}        self.lend_wait().{name}({', '.join(passed)})\n    }}\n"]))
+    return "\n".join(made)
 
 
 def head(indent, name, given, returns):
@@ -67,7 +98,8 @@ def source(prototypes, name, owner, kind=None):
     path = f"bindings/interface/{name}.rs.in"
     text = with_docs(text_of_kind(text_of(f"{ROOT}/{path}"), kind), path)
     text = re.sub(r"^    %number (\w+)", lambda it: number(of[f"vbr_{it[1]}"]), text, flags=re.M)
-    first, rest = CALL.sub(lambda it: both_forms(it, owner), text).split("\n", 1)
+    text = BY_LOAN.sub(by_loan, CALL.sub(lambda it: both_forms(it, owner), text))
+    first, rest = EXAMPLE.sub(framed, text).split("\n", 1)
     return f"{first}\n// tools/interface makes this file of {path}.\n{rest}"
 
 

@@ -1,15 +1,14 @@
-"""Whether what the comments of the interface say by hand stands in one place: in the sources of C, in cpp_and_rust.in, in those of C++, or in
-the crate. Two of these that have so many words after one another alike say a thing twice.
+"""Whether what the comments of the interface say by hand stands in one place: in the sources of C, in cpp_and_rust.in and caches.in, in those
+of C++, or in the crate. Two of these that have so many words after one another alike say a thing twice.
 
-Only what users read is compared: no private parts. It finds copies, and nothing that is said again in other words. The caches are left out,
-since they have no common source yet."""
+Only what users read is compared: no private parts. It finds copies, and nothing that is said again in other words."""
 import glob
 import re
 
 from crates import ROOT, text_of
 
 ALIKE = 10  # so many words after one another
-PLACES = {"C": ["interface/vbr*.h.in"], "both": ["interface/cpp_and_rust.in"], "C++": ["interface/vbr*.hpp.in"], "Rust": ["interface/*.rs.in", "rust/src/*.rs"]}
+PLACES = {"C": ["interface/vbr*.h.in"], "both": ["interface/cpp_and_rust.in", "interface/caches.in"], "C++": ["interface/vbr*.hpp.in"], "Rust": ["interface/*.rs.in", "rust/src/*.rs"]}
 MADE = re.compile(r"^( *)// %(?:doc|errors|answer) .*\n(?: *///.*\n)*?\1// %end\n", re.M)
 PRIVATE = re.compile(r"^namespace detail \{.*?^\} // namespace detail$|^private:.*?^\};", re.M | re.S)
 RUST = re.compile(r"(?:^ *//!.*\n)+|(?:^ *///.*\n)+(?=(?: *#\[.*\n)* *(?:pub (?!\(crate\))|[A-Z]\w*[ ,({]))", re.M)
@@ -26,7 +25,7 @@ def comments(path):
     text = without_marks(MADE.sub("", text_of(path)))
     if path.endswith((".rs", ".rs.in")):
         found = [re.sub(r"```.*?```", "\n\n", re.sub(r"^ *//[/!] ?", "", it, flags=re.M), flags=re.S) for it in RUST.findall(text)]
-    elif path.endswith("cpp_and_rust.in"):
+    elif path.endswith(("cpp_and_rust.in", "caches.in")):
         found = [text]
     else:
         found = re.findall(r"/\*(.*?)\*/", PRIVATE.sub("", text), re.S)
@@ -51,4 +50,4 @@ def faults():
 
 
 def is_by_hand(path):
-    return "cache" not in path and "tools/interface makes this file" not in text_of(path)
+    return "tools/interface makes this file" not in text_of(path)

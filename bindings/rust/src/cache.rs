@@ -1,4 +1,5 @@
 //! Caches: maps of records with a bound on their entries, which evict.
+// tools/interface makes this file of bindings/interface/cache.rs.in.
 use crate::cache_loads::Loads;
 use crate::cache_options::{CacheOpenError, CacheOptions};
 use crate::record_entry::{At, Numbers};
@@ -11,8 +12,12 @@ use std::hash::{BuildHasher, RandomState};
 use std::sync::atomic::{AtomicU64, Ordering::Relaxed};
 use std::time::{Duration, Instant};
 
-/// A cache in fixed memory, without a lock on its calls: it keeps as many entries as it was opened for, and evicts. Keys and values
-/// have any size, as those of a [`RecordMap`](crate::RecordMap): numbers, structs by [`record!`](crate::record), strings by
+/// A cache with keys and values of any size, in fixed memory: a record map that evicts. It keeps as many entries as it was
+/// opened for. Of two keys with one hash the one that comes later takes the other's place.
+///
+/// Its calls take no lock, but for those that load a key, and those that change one while loads are under way.
+///
+/// Keys and values are those of a [`RecordMap`](crate::RecordMap): numbers, structs by [`record!`](crate::record), strings by
 /// [`SmallStr`](crate::SmallStr), bytes by [`SmallBytes`](crate::SmallBytes).
 ///
 /// ```
@@ -42,34 +47,45 @@ use std::time::{Duration, Instant};
 ///
 /// # What goes
 ///
-/// An insert into a full cache evicts by CLOCK (Corbató 1968). A hand goes from slot to slot. An entry that was found since the hand
-/// came by, or given a value, stays, and is marked as not used; another one goes, and so does one that has expired. A new entry counts as not
-/// used, so what is asked for once goes at the next round. Of two keys with one hash the one that comes later takes the other's place.
+/// An insert into a full cache evicts by CLOCK (Corbato 1968). A hand goes from slot to slot. An entry that was found or
+/// given another value since the hand came by is marked as not used, and stays. Another one goes, and so does one that has
+/// expired. A new entry counts as not used, so what is asked for once goes at the next round.
 ///
-/// All threads share one hand, which an atomic addition advances by eight slots. A handle looks at these in turn, and goes on where it was.
-/// Four threads with a hand each had 0.4 to 0.8 fewer hits in a hundred (Zipf 0.7 and 0.99, room for a tenth of the keys,
-/// 30 November 2026): an entry then meets a hand sooner after it comes. In the same draws by one thread the cache had 1.0 to 1.2 hits
-/// more in a hundred than an exact LRU (`tests/caches.rs`).
+/// All threads share one hand, which an atomic addition advances by eight slots. A handle looks at these in turn, and goes on
+/// where it was.
+///
+/// Four threads with a hand each had 0.4 to 0.8 fewer hits in a hundred (Zipf 0.7 and 0.99, room for a tenth of the keys, 30 November
+/// 2026): an entry then meets a hand sooner after it comes. In the same draws by one thread the cache had 1.0 to 1.2 hits more in a
+/// hundred than an exact LRU (`tests/caches.rs`).
+///
+/// An entry may have a time to live. When that is over it is as if it were absent, and a `get` or the hand that meets it
+/// takes it out.
 ///
 /// # Cost
 ///
-/// A look-up, a copy and two loads make a hit: of values of 64 bytes among 1,024 keys it took 224 instructions, and a get of a
-/// [`RecordMap`](crate::RecordMap) 189. A put into the full cache took 1,331, and a put and a remove of the map 1,082 (valgrind,
-/// 30 November 2026). A hit of an entry with a time to live asks the clock besides.
+/// A hit is a `get` of a record map and one load more, of whether a renewal waits. It writes its count, on a cache line of
+/// the handle's own, and the mark, in the record, if the hand has come by since. A call that stores a value takes a slot,
+/// writes the record there, and puts it in the place of the entry that it read. If the key was absent and the cache is full,
+/// another entry goes first. An entry that has a time to live costs each call that meets it a look at the clock.
+///
+/// Of values of 64 bytes among 1,024 keys a hit took 224 instructions, and a get of a [`RecordMap`](crate::RecordMap) 189. A put into the
+/// full cache took 1,331, and a put and a remove of the map 1,082 (valgrind, 30 November 2026).
 ///
 /// # Renewals
 ///
-/// Inserts use up epochs, as in each map ([the limits](crate#what-to-know-before-you-take-it)). From 7/8 of the last epoch on a call
-/// that stores a value renews the cache, unless [the program does](CacheOptions::renewed_by_program). It goes once over all entries,
-/// and calls wait meanwhile. [`CacheLent`] says what a thread with a loan meets. Entries and counts go along, and so does which
+/// Calls that store a value use up epochs, as in each map. From 7/8 of the last epoch on such a call renews the cache, unless
+/// the program does. It goes once over all entries, and calls wait meanwhile. Entries and counts go along, and so does which
 /// entries were used lately.
+///
+/// [`CacheLent`] says what a thread with a loan meets, and [`CacheOptions::renewed_by_program`] how a program renews itself.
 ///
 /// # Memory
 ///
-/// All is taken at the opening and by renewals, and [`Cache::bytes`] is the most that there is at any moment. A map has a slot for each
-/// entry and 64 for each handle; there are three times its words for a renewal, 53 bytes for each slot, and the records once. A record
-/// has three words beside those of the value, and those of the key if it is hashed. So an entry takes some 230 bytes more than its
-/// value, some 70 of them between renewals, and a handle some 17,000 and 64 values.
+/// All memory is taken at the opening and by renewals, and `bytes` is the most that there is at any moment. There is a slot
+/// for each entry, and 64 for each handle. A renewal has about four times the words of a map with these slots, and the
+/// records once. A record has three words beside the value, and the key if it is hashed.
+///
+/// So an entry takes some 230 bytes more than its value, some 70 of them between renewals, and a handle some 17,000 and 64 values.
 pub struct Cache<K: RecordKey, V: Record, H = RandomState> {
     pub(crate) table: Map<u64, ()>,
     pub(crate) records: Records<Stored<K, V>>,
@@ -162,7 +178,7 @@ impl<K: RecordKey, V: Record, H> Cache<K, V, H> {
         })
     }
 
-    /// How many entries it keeps: as many as there are at a time once it is full, but for one more of each call that is under way.
+    /// How many entries it keeps: as many as there are at a time once it is full, but for one more of each call under way.
     ///
     /// ```
     /// # use vbr::Cache;
@@ -183,7 +199,7 @@ impl<K: RecordKey, V: Record, H> Cache<K, V, H> {
     /// # use vbr::Cache;
     /// let cache: Cache<u64, [u8; 1_000]> = Cache::open_for(10_000, 4)?;
     /// assert!((10_000_000..13_000_000).contains(&cache.bytes()));
-    /// # Ok::<(), vbr::OpenError>(())
+    /// # Ok::<(), Box<dyn std::error::Error>>(())
     /// ```
     pub fn bytes(&self) -> usize {
         self.bytes
@@ -194,13 +210,14 @@ impl<K: RecordKey, V: Record, H> Cache<K, V, H> {
     /// ```
     /// # use vbr::Cache;
     /// assert_eq!(Cache::<u64, u64>::open_for(100, 3)?.handle_count(), 3);
-    /// # Ok::<(), vbr::OpenError>(())
+    /// # Ok::<(), Box<dyn std::error::Error>>(())
     /// ```
     pub fn handle_count(&self) -> usize {
         self.table.handle_count()
     }
 
-    /// What its calls have done. Each handle counts for itself, and this adds up: while calls are under way it is off by what these do.
+    /// What its calls have done. Each handle counts for itself, and this adds the counts up, with five loads for each. They
+    /// are of no one moment while calls are under way.
     ///
     /// ```
     /// # use vbr::Cache;
@@ -223,7 +240,11 @@ impl<K: RecordKey, V: Record, H> Cache<K, V, H> {
         }
     }
 
-    /// Lends a free handle, or returns `None` if each was lent at some moment of the call, or the cache is being renewed. It never waits.
+    /// Lends a free handle.
+    ///
+    /// Returns the handle, or `None` if each was lent at some moment of the call, or they are being renewed.
+    ///
+    /// It never waits.
     ///
     /// ```
     /// # use vbr::Cache;
@@ -238,8 +259,10 @@ impl<K: RecordKey, V: Record, H> Cache<K, V, H> {
         self.table.lend().map(|lent| CacheLent::of(self, lent))
     }
 
-    /// Lends a free handle as soon as there is one, as [`Table::lend_wait`](crate::Table::lend_wait) does. A thread that has a loan itself
-    /// may wait for ever, and a loan without a name lasts to the end of its statement.
+    /// Lends a free handle as soon as there is one: if each is lent, the thread sleeps until one is given back.
+    ///
+    /// A thread that has a loan itself may wait for ever, and a loan without a name lasts to the end of its statement.
+    /// Threads that wait have no order: one that comes later may be lent a handle before.
     ///
     /// ```
     /// # use vbr::Cache;
@@ -251,14 +274,14 @@ impl<K: RecordKey, V: Record, H> Cache<K, V, H> {
     ///     }
     /// });
     /// assert_eq!(cache.statistics().length, 4);
-    /// # Ok::<(), vbr::OpenError>(())
+    /// # Ok::<(), Box<dyn std::error::Error>>(())
     /// ```
     #[inline]
     pub fn lend_wait(&self) -> CacheLent<'_, K, V, H> {
         CacheLent::of(self, self.table.lend_wait())
     }
 
-    /// As [`Cache::lend_wait`], or `None` if each handle was lent until the time was over.
+    /// Lends a free handle, as `lend_wait` does, or none if each was lent until the time was over.
     ///
     /// ```
     /// # use std::time::Duration;
@@ -267,15 +290,16 @@ impl<K: RecordKey, V: Record, H> Cache<K, V, H> {
     /// let mine = cache.lend_timeout(Duration::from_secs(1)).expect("the one handle");
     /// assert!(cache.lend_timeout(Duration::from_millis(1)).is_none());
     /// # drop(mine);
-    /// # Ok::<(), vbr::OpenError>(())
+    /// # Ok::<(), Box<dyn std::error::Error>>(())
     /// ```
     #[inline]
     pub fn lend_timeout(&self, limit: Duration) -> Option<CacheLent<'_, K, V, H>> {
         self.table.lend_timeout(limit).map(|lent| CacheLent::of(self, lent))
     }
 
-    /// Renews the cache: lets it go on at epoch 1, with its entries. It waits until all loans are back, or begin a call: so a thread
-    /// that has one itself waits for ever. It goes over all entries.
+    /// Lets the cache go on at epoch 1, with its entries, once all loans are back: each is given back, or begins a call. A
+    /// thread that has a loan itself waits for ever. It goes over all entries. If there is no memory for it the cache stays
+    /// as it was.
     ///
     /// ```
     /// # use vbr::Cache;
@@ -288,12 +312,12 @@ impl<K: RecordKey, V: Record, H> Cache<K, V, H> {
     ///
     /// # Errors
     ///
-    /// [`RenewError::Memory`]. The cache is as it was then.
+    /// [`RenewError::Memory`].
     pub fn renew(&self) -> Result<(), RenewError> {
         self.renew_once(self.table.lender.renewals(), None)
     }
 
-    /// As [`Cache::renew`], or [`RenewError::Lent`] if not all loans were back when the time was over.
+    /// The same, or refused if not all loans were back when the time was over.
     ///
     /// ```
     /// # use std::time::Duration;
@@ -302,12 +326,12 @@ impl<K: RecordKey, V: Record, H> Cache<K, V, H> {
     /// let mine = cache.lend_wait();
     /// assert_eq!(cache.renew_timeout(Duration::from_millis(1)), Err(RenewError::Lent));
     /// # drop(mine);
-    /// # Ok::<(), vbr::OpenError>(())
+    /// # Ok::<(), Box<dyn std::error::Error>>(())
     /// ```
     ///
     /// # Errors
     ///
-    /// [`RenewError::Memory`] and [`RenewError::Lent`]. The cache is as it was then.
+    /// The same as for [`Cache::renew`], and [`RenewError::Lent`]. The cache is as it was then.
     pub fn renew_timeout(&self, limit: Duration) -> Result<(), RenewError> {
         self.renew_once(self.table.lender.renewals(), Instant::now().checked_add(limit))
     }
@@ -515,14 +539,16 @@ fn nanoseconds(time: Duration) -> u64 {
 }
 
 impl<K: RecordKey, V: Record> Cache<K, V> {
-    /// Opens an empty cache which takes at most so many bytes, at any moment, with as many entries as there is room for; it lends so many
-    /// handles, one for each thread that makes calls at the same time. [`CacheOptions`] has other forms of it.
+    /// Opens an empty cache that takes at most so many bytes of the heap at any moment: it has as many entries as there is
+    /// room for. It lends so many handles, one for each thread that makes calls at the same time.
+    ///
+    /// [`CacheOptions`] has other forms of it.
     ///
     /// ```
     /// # use vbr::Cache;
     /// let cache: Cache<u64, [u8; 4_096]> = Cache::open_bytes(64 << 20, 4)?; // pages, in 64 MiB
     /// assert!(cache.bytes() <= 64 << 20 && cache.capacity() > 15_000);
-    /// # Ok::<(), vbr::CacheOpenError>(())
+    /// # Ok::<(), Box<dyn std::error::Error>>(())
     /// ```
     ///
     /// # Errors
@@ -532,13 +558,13 @@ impl<K: RecordKey, V: Record> Cache<K, V> {
         CacheOptions::new().open_bytes(bytes, handles)
     }
 
-    /// Opens an empty cache which keeps so many entries, and lends so many handles.
+    /// Opens an empty cache that keeps so many entries, in whatever memory they take, and lends so many handles.
     ///
     /// ```
     /// # use vbr::Cache;
     /// let cache: Cache<u64, u64> = Cache::open_for(1_000, 2)?;
     /// assert_eq!((cache.capacity(), cache.handle_count()), (1_000, 2));
-    /// # Ok::<(), vbr::OpenError>(())
+    /// # Ok::<(), Box<dyn std::error::Error>>(())
     /// ```
     ///
     /// # Errors
@@ -560,29 +586,36 @@ impl<K: RecordKey, V: Record, H: BuildHasher> Cache<K, V, H> {
 
 /// Calls of the cache itself, each by a loan for it alone.
 impl<K: RecordKey, V: Record, H: BuildHasher> Cache<K, V, H> {
-    /// The value of a key, whole, as [`CacheLent::get`] gives it.
+    /// The value of a key: a copy, whole, of what it had at a moment of the call; none if it is absent. The entry counts as
+    /// used. One that has expired is taken out, and is a miss.
+    ///
+    /// As [`CacheLent::get`], by a loan for this call alone.
     ///
     /// ```
     /// # use vbr::Cache;
-    /// let cache: Cache<u64, u64> = Cache::open_for(100, 1)?;
-    /// cache.put(5, 70)?;
-    /// assert_eq!((cache.get(5)?, cache.get(6)?), (Some(70), None));
+    /// let cache: Cache<u64, [u64; 4]> = Cache::open_for(100, 1)?;
+    /// cache.put(5, [7; 4])?;
+    /// assert_eq!((cache.get(5)?, cache.get(6)?), (Some([7; 4]), None));
     /// # Ok::<(), Box<dyn std::error::Error>>(())
     /// ```
     ///
     /// # Errors
     ///
-    /// [`OutOfSteps`].
+    /// The same as for [`CacheLent::get`].
     pub fn get(&self, key: K) -> Result<Option<V>, OutOfSteps> {
         self.lend_wait().get(key)
     }
 
-    /// Gives a key this value, and returns the one that it had, as [`CacheLent::put`] does.
+    /// Gives a key this value, with the time to live of the cache, and returns the one that it had; none if it was absent,
+    /// and is inserted. If the cache is full another entry goes before.
+    ///
+    /// As [`CacheLent::put`], by a loan for this call alone.
     ///
     /// ```
     /// # use vbr::Cache;
-    /// let cache: Cache<u64, u64> = Cache::open_for(100, 1)?;
-    /// assert_eq!((cache.put(5, 70)?, cache.put(5, 71)?), (None, Some(70)));
+    /// let cache: Cache<u64, u64> = Cache::open_for(1, 1)?;
+    /// assert_eq!((cache.put(5, 70)?, cache.put(5, 71)?, cache.put(6, 72)?), (None, Some(70), None));
+    /// assert_eq!((cache.get(5)?, cache.get(6)?), (None, Some(72)));
     /// # Ok::<(), Box<dyn std::error::Error>>(())
     /// ```
     ///
@@ -593,25 +626,30 @@ impl<K: RecordKey, V: Record, H: BuildHasher> Cache<K, V, H> {
         self.lend_wait().put(key, value)
     }
 
-    /// As [`Cache::put`], with a time to live of its own, as [`CacheLent::put_for`] does.
+    /// The same, with a time to live of its own. If that isn't above zero the entry has expired at once.
+    ///
+    /// As [`CacheLent::put_for`], by a loan for this call alone.
     ///
     /// ```
+    /// # use std::time::Duration;
     /// # use vbr::Cache;
     /// let cache: Cache<u64, u64> = Cache::open_for(100, 1)?;
-    /// # use std::time::Duration;
-    /// cache.put_for(5, 70, Duration::from_secs(60))?;
-    /// assert_eq!(cache.get(5)?, Some(70));
+    /// cache.put_for(5, 70, Duration::from_millis(1))?;
+    /// std::thread::sleep(Duration::from_millis(1));
+    /// assert_eq!(cache.get(5)?, None);
     /// # Ok::<(), Box<dyn std::error::Error>>(())
     /// ```
     ///
     /// # Errors
     ///
-    /// The same as for [`CacheLent::put`].
+    /// The same as for [`CacheLent::put_for`].
     pub fn put_for(&self, key: K, value: V, time: Duration) -> Result<Option<V>, Refusal> {
         self.lend_wait().put_for(key, value, time)
     }
 
-    /// Takes a key out, and returns the value that it had, as [`CacheLent::remove`] does.
+    /// Takes a key out, and returns its value; none if it was absent. It takes no slot.
+    ///
+    /// As [`CacheLent::remove`], by a loan for this call alone.
     ///
     /// ```
     /// # use vbr::Cache;
@@ -623,18 +661,28 @@ impl<K: RecordKey, V: Record, H: BuildHasher> Cache<K, V, H> {
     ///
     /// # Errors
     ///
-    /// [`OutOfSteps`]. Nothing was changed then.
+    /// The same as for [`CacheLent::remove`].
     pub fn remove(&self, key: K) -> Result<Option<V>, OutOfSteps> {
         self.lend_wait().remove(key)
     }
 
-    /// Does with a key what `change` says of what is there, as [`CacheLent::compute`] does. `change` makes no call of the cache.
+    /// Does with a key what a function says of the value that it has, or of none, and returns that value.
+    ///
+    /// As [`CacheLent::compute`], by a loan for this call alone.
     ///
     /// ```
-    /// # use vbr::Cache;
+    /// # use std::time::Duration;
+    /// # use vbr::{Cache, CacheChange};
     /// let cache: Cache<u64, u64> = Cache::open_for(100, 1)?;
-    /// cache.compute(5, |count| vbr::CacheChange::Put(count.unwrap_or(0) + 1))?;
-    /// assert_eq!(cache.get(5)?, Some(1));
+    /// /// Three tries in a minute.
+    /// let next_try = |tries: Option<u64>| match tries {
+    ///     None => CacheChange::PutFor(1, Duration::from_secs(60)),
+    ///     Some(3) => CacheChange::Keep,
+    ///     Some(tries) => CacheChange::Update(tries + 1),
+    /// };
+    /// for before in [None, Some(1), Some(2), Some(3), Some(3)] {
+    ///     assert_eq!(cache.compute(5, next_try)?, before);
+    /// }
     /// # Ok::<(), Box<dyn std::error::Error>>(())
     /// ```
     ///
@@ -645,13 +693,18 @@ impl<K: RecordKey, V: Record, H: BuildHasher> Cache<K, V, H> {
         self.lend_wait().compute(key, change)
     }
 
-    /// The value of a key; if it is absent, the one that `loader` returns, as [`CacheLent::get_or_load`] has it.
+    /// The value of a key, as `get`; if it is absent, the one that the loader returns, which is put with the time to live of
+    /// the cache. If the loader fails nothing is put.
+    ///
+    /// As [`CacheLent::get_or_load`], by a loan for this call alone.
     ///
     /// ```
-    /// # use vbr::Cache;
-    /// let cache: Cache<u64, u64> = Cache::open_for(100, 1)?;
-    /// assert_eq!(cache.get_or_load(5, || Err("no answer")), Err(vbr::LoadError::Failed("no answer")));
-    /// assert_eq!(cache.get_or_load(5, || Ok::<_, ()>(70)), Ok(70));
+    /// # use vbr::{Cache, LoadError};
+    /// let cache: Cache<u64, u64> = Cache::open_for(100, 4)?;
+    /// let square = |number: u64| move || number.checked_mul(number).ok_or("it is too large");
+    /// assert_eq!(cache.get_or_load(5, square(5)), Ok(25));
+    /// assert_eq!(cache.get_or_load(5, || Err("it is there")), Ok(25));
+    /// assert_eq!(cache.get_or_load(u64::MAX, square(u64::MAX)), Err(LoadError::Failed("it is too large")));
     /// # Ok::<(), Box<dyn std::error::Error>>(())
     /// ```
     ///
@@ -662,12 +715,19 @@ impl<K: RecordKey, V: Record, H: BuildHasher> Cache<K, V, H> {
         self.lend_wait().get_or_load(key, loader)
     }
 
-    /// The same without waiting for another thread's loader, as [`CacheLent::try_get_or_load`] has it.
+    /// The same, and it waits for no loader of another thread: if one loads the key, the call is refused for that.
+    ///
+    /// As [`CacheLent::try_get_or_load`], by a loan for this call alone.
     ///
     /// ```
-    /// # use vbr::Cache;
-    /// let cache: Cache<u64, u64> = Cache::open_for(100, 1)?;
-    /// assert_eq!(cache.try_get_or_load(5, || Ok::<_, ()>(70)), Ok(70));
+    /// # use vbr::{Cache, LoadError};
+    /// let cache: Cache<u64, u64> = Cache::open_for(100, 2)?;
+    /// let told = cache.get_or_load(5, || {
+    ///     let elsewhere = std::thread::scope(|scope| scope.spawn(|| cache.try_get_or_load(5, || Ok::<_, ()>(71))).join());
+    ///     assert_eq!(elsewhere.expect("it doesn't panic"), Err(LoadError::UnderWay));
+    ///     Ok::<_, ()>(70)
+    /// });
+    /// assert_eq!(told, Ok(70));
     /// # Ok::<(), Box<dyn std::error::Error>>(())
     /// ```
     ///
@@ -690,7 +750,7 @@ impl<K: RecordKey, V: Record, H> fmt::Debug for Cache<K, V, H> {
     }
 }
 
-/// What the calls of a [`Cache`] have done since its opening, by [`Cache::statistics`].
+/// What the calls of a cache have done since its opening.
 ///
 /// ```
 /// # use vbr::{Cache, CacheStatistics};
@@ -702,20 +762,20 @@ impl<K: RecordKey, V: Record, H> fmt::Debug for Cache<K, V, H> {
 ///     cache.get_or_load(key, || Ok::<_, ()>(70)).expect("a loader that doesn't fail");
 /// }
 /// assert_eq!(hit_ratio(cache.statistics()), 0.5);
-/// # Ok::<(), vbr::OpenError>(())
+/// # Ok::<(), Box<dyn std::error::Error>>(())
 /// ```
 #[derive(Clone, Copy, Debug, Default, PartialEq, Eq, Hash)]
 #[non_exhaustive]
 pub struct CacheStatistics {
-    /// How many look-ups gave a value: of `get`, and of `get_or_load` before it loads or waits.
+    /// Look-ups that gave a value: of `get`, and of `get_or_load` before it loads or waits.
     pub hits: u64,
-    /// How many gave none.
+    /// Those that gave none.
     pub misses: u64,
-    /// How many entries went for others.
+    /// Entries that went for others.
     pub evictions: u64,
-    /// How many entries were taken out, or replaced, since they had expired.
+    /// Entries that were taken out, or replaced, since they had expired.
     pub expiries: u64,
-    /// How many loaders were begun.
+    /// Loaders that were begun.
     pub loads: u64,
     /// How many entries there are, also such as have expired and nobody met since.
     pub length: u64,

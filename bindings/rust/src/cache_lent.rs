@@ -1,4 +1,5 @@
 //! Calls of caches.
+// tools/interface makes this file of bindings/interface/cache_lent.rs.in.
 use crate::cache::{Cache, Count, Head, Mine};
 use crate::cache_loads::LoadError;
 use crate::{Cursor, OutOfSteps, Record, RecordKey, Refusal, Steps, WalkError};
@@ -6,25 +7,17 @@ use std::fmt;
 use std::hash::{BuildHasher, RandomState};
 use std::time::{Duration, Instant};
 
-/// A loan of a [`Cache`], which makes all calls: a handle, which goes back when this is dropped. It may go to another thread, and is not
-/// `Sync`.
+/// A handle of a cache on loan, which makes all calls. It goes back at the end of this, and may go to another thread before.
 ///
-/// A look-up hashes the key, unless that is kept as itself, finds the entry, copies the record, asks by one load whether the entry still
-/// stands there, and marks it as used unless it is marked. It writes nothing then but its count of hits, on a cache line of the handle's
-/// own. A call that stores a value takes a slot, writes the record there, and puts it in the place of the entry that it read. If the key
-/// was absent and the cache is full, another entry goes first.
+/// The loan keeps no handle while a loader of it runs, while it waits for another one, and during a renewal: it gives its
+/// handle back, and borrows another one afterwards, and no call tells. So a call may wait for a free handle.
 ///
-/// Each step of a call has the budget of the handle ([`CacheLent::set_steps`]). A change begins again once for each update of the key
-/// by others that came in between.
+/// For a renewal each loan has to be given back, or to begin a call. Until the last epoch is spent, years later in most
+/// caches, nobody waits more than a millisecond for that. From then on calls that store a value wait for the other loans:
+/// whoever keeps one and makes no call holds them up, and so does a thread that has two.
 ///
-/// # What becomes of the loan in a renewal, and while a loader runs
-///
-/// The handle isn't kept while a loader of this loan runs, nor while it waits for another one, nor while the cache is renewed: it
-/// is given back, and another one is taken afterwards. So a call may wait for a handle that is free, as [`Cache::lend_wait`] does.
-///
-/// For a renewal each loan has to be given back or to begin a call. Until the last epoch is spent, which takes years in most caches,
-/// nobody waits for more than a millisecond for that; from then on a call that stores a value waits for the other loans. A thread
-/// that keeps a loan all that time and makes no call holds it up, and so does one that has two loans itself.
+/// [`Cache::lend_wait`] lends it. It isn't `Sync`. Each step of a call has the budget of the handle ([`CacheLent::set_steps`]), and a change
+/// begins again once for each update of the key by others that came in between.
 ///
 /// ```
 /// # use vbr::{Cache, CacheChange, CacheLent, Refusal};
@@ -73,7 +66,7 @@ pub enum CacheChange<V> {
     Put(V),
     /// The same, with a time to live of its own.
     PutFor(V, Duration),
-    /// It gets this value, and expires when it would have; if it is absent, as with `Put`.
+    /// It gets this value, and expires when it would have; if it is absent, as with `put`.
     Update(V),
     /// It is taken out if it is there.
     Remove,
@@ -108,16 +101,19 @@ impl<'c, K: RecordKey, V: Record, H> CacheLent<'c, K, V, H> {
     /// let mut mine = cache.lend_wait();
     /// mine.set_steps(Steps::new(1));
     /// assert_eq!(mine.get(5), Err(OutOfSteps));
-    /// # Ok::<(), vbr::OpenError>(())
+    /// # Ok::<(), Box<dyn std::error::Error>>(())
     /// ```
     pub fn set_steps(&mut self, steps: Steps) {
         self.steps = Some(steps);
         self.mine().set_steps(steps);
     }
 
-    /// Returns the next entry of a walk, a key and its value; `None` at the end. A key that is there all the while is given, once, with a
-    /// value that it had at a moment of the call. It is no use of the entry, and an entry that has expired is passed over. It makes two
-    /// look-ups for each entry.
+    /// The next entry of a walk, a key with a value that it had at a moment of the call; none at the end. A key that is there
+    /// for the whole walk is given once.
+    ///
+    /// It is no use of the entries, and passes over those that have expired.
+    ///
+    /// It makes two look-ups for each entry.
     ///
     /// ```
     /// # use vbr::{Cache, Cursor};
@@ -150,7 +146,8 @@ impl<'c, K: RecordKey, V: Record, H> CacheLent<'c, K, V, H> {
         }
     }
 
-    /// Takes out all entries that are there as it begins. Those that are put in meanwhile may stay. It goes once over the entries.
+    /// Takes out all entries that are there as it begins; those that others put meanwhile may stay. What is being loaded
+    /// isn't kept. It goes once over the entries, with a remove for each. If it is refused some were taken out.
     ///
     /// ```
     /// # use vbr::Cache;
@@ -163,7 +160,7 @@ impl<'c, K: RecordKey, V: Record, H> CacheLent<'c, K, V, H> {
     ///
     /// # Errors
     ///
-    /// [`OutOfSteps`]. Some were taken out then.
+    /// [`OutOfSteps`].
     pub fn clear(&mut self) -> Result<(), OutOfSteps> {
         let (cache, mut cursor) = (self.cache, Cursor::first());
         cache.loads.outdate(|_| true);
@@ -187,9 +184,8 @@ impl<'c, K: RecordKey, V: Record, H> CacheLent<'c, K, V, H> {
 }
 
 impl<K: RecordKey, V: Record, H: BuildHasher> CacheLent<'_, K, V, H> {
-    /// The value of a key, a copy that is whole, and that the key had at a moment of the call; none if the key is absent. The entry counts
-    /// as used. One that has expired is taken out, and is a miss. Nothing that other threads write is written if it was used since the
-    /// hand came by.
+    /// The value of a key: a copy, whole, of what it had at a moment of the call; none if it is absent. The entry counts as
+    /// used. One that has expired is taken out, and is a miss.
     ///
     /// ```
     /// # use vbr::Cache;
@@ -202,7 +198,7 @@ impl<K: RecordKey, V: Record, H: BuildHasher> CacheLent<'_, K, V, H> {
     ///
     /// # Errors
     ///
-    /// [`OutOfSteps`]. It isn't counted then.
+    /// [`OutOfSteps`]. It is counted as neither a hit nor a miss then.
     #[inline]
     pub fn get(&mut self, key: K) -> Result<Option<V>, OutOfSteps> {
         let (cache, number) = (self.cache, self.cache.number_of(key));
@@ -212,7 +208,9 @@ impl<K: RecordKey, V: Record, H: BuildHasher> CacheLent<'_, K, V, H> {
         Ok(value)
     }
 
-    /// Whether a key is there, and hasn't expired. It is no use of the entry, isn't counted, and reads nothing of the value.
+    /// Whether a key is there and hasn't expired. It is no use of the entry, and isn't counted.
+    ///
+    /// It reads nothing of the value.
     ///
     /// ```
     /// # use vbr::Cache;
@@ -233,8 +231,8 @@ impl<K: RecordKey, V: Record, H: BuildHasher> CacheLent<'_, K, V, H> {
         Ok(found.is_some_and(|((head, kept), _)| kept == key.kept() && !cache.is_over(head.expires)))
     }
 
-    /// Gives a key this value, with the time to live of the cache, and returns the one that it had; `None` if it was absent, and then it
-    /// is inserted. Another entry goes if the cache is full.
+    /// Gives a key this value, with the time to live of the cache, and returns the one that it had; none if it was absent,
+    /// and is inserted. If the cache is full another entry goes before.
     ///
     /// ```
     /// # use vbr::Cache;
@@ -247,12 +245,12 @@ impl<K: RecordKey, V: Record, H: BuildHasher> CacheLent<'_, K, V, H> {
     ///
     /// # Errors
     ///
-    /// As for [`CacheLent::compute`]. Nothing was changed then but for entries that were evicted.
+    /// The same as for [`CacheLent::compute`].
     pub fn put(&mut self, key: K, value: V) -> Result<Option<V>, Refusal> {
         self.compute(key, |_| CacheChange::Put(value))
     }
 
-    /// As [`CacheLent::put`], with a time to live of its own.
+    /// The same, with a time to live of its own. If that isn't above zero the entry has expired at once.
     ///
     /// ```
     /// # use std::time::Duration;
@@ -272,7 +270,7 @@ impl<K: RecordKey, V: Record, H: BuildHasher> CacheLent<'_, K, V, H> {
         self.compute(key, |_| CacheChange::PutFor(value, time))
     }
 
-    /// Adds a key with a value, and says whether it was absent; one that is there keeps its value and its expiry.
+    /// Adds a key with its value, as `put` does, and says whether it was absent. Else its value and its time stay.
     ///
     /// ```
     /// # use vbr::Cache;
@@ -290,8 +288,8 @@ impl<K: RecordKey, V: Record, H: BuildHasher> CacheLent<'_, K, V, H> {
         Ok(before.is_none())
     }
 
-    /// Gives a key that is there another value, with the time to live of the cache, and returns the one that it had; `None` if it was
-    /// absent, and then nothing was changed.
+    /// Gives a key that is there this value, as `put` does, and returns the one that it had; none, and nothing is changed, if
+    /// it is absent.
     ///
     /// ```
     /// # use vbr::Cache;
@@ -309,8 +307,8 @@ impl<K: RecordKey, V: Record, H: BuildHasher> CacheLent<'_, K, V, H> {
         self.compute(key, |before| before.map_or(CacheChange::Keep, |_| CacheChange::Put(value)))
     }
 
-    /// Gives a key that is there another time to live, from now on, and says whether it was there. The entry counts as used. It costs as
-    /// much as a [`CacheLent::replace`] by the same value, which it is.
+    /// Gives an entry this time to live from now on, and says whether it is there. It counts as used, and costs a `put` of
+    /// its value.
     ///
     /// ```
     /// # use std::time::Duration;
@@ -330,7 +328,7 @@ impl<K: RecordKey, V: Record, H: BuildHasher> CacheLent<'_, K, V, H> {
         Ok(self.compute(key, touched)?.is_some())
     }
 
-    /// Takes a key out, and returns the value that it had; `None` if it was absent, or had expired. It takes no slot.
+    /// Takes a key out, and returns its value; none if it was absent. It takes no slot.
     ///
     /// ```
     /// # use vbr::Cache;
@@ -349,12 +347,12 @@ impl<K: RecordKey, V: Record, H: BuildHasher> CacheLent<'_, K, V, H> {
         self.compute(key, |_| CacheChange::Remove).map_err(|_| OutOfSteps)
     }
 
-    /// Does with a key what `change` says, which is asked with the value that the key has, or with `None` if it is absent or has expired,
-    /// and returns that value.
+    /// Does with a key what a function says of the value that it has, or of none, and returns that value.
     ///
-    /// The change is made only if the key still has the entry that `change` was told of. If another call came in between, `change` is
-    /// asked again, with what that left. So no change is lost. It is asked while a handle is on loan, so it makes no call of the
-    /// cache.
+    /// The change is made only if the key still has the entry that the function was told of. Else it is asked again, of what
+    /// is there then. So no change is lost.
+    ///
+    /// `change` is the function. It is asked while a handle is on loan, so it makes no call of the cache.
     ///
     /// ```
     /// # use std::time::Duration;
@@ -375,9 +373,14 @@ impl<K: RecordKey, V: Record, H: BuildHasher> CacheLent<'_, K, V, H> {
     ///
     /// # Errors
     ///
-    /// [`Refusal::OutOfSteps`]. If a value was to be stored also [`Refusal::EpochSpent`], if the cache is renewed by the program, or
-    /// there is no memory for a renewal; and [`Refusal::NoSlot`], if no entry can go, since other handles keep all slots, or removes had
-    /// too few steps to free theirs. The key is as it was then.
+    /// [`Refusal::OutOfSteps`]; and if a value was to be stored [`Refusal::NoSlot`] and [`Refusal::EpochSpent`].
+    ///
+    /// A call that stores a value is refused by [`Refusal::NoSlot`] only if no entry can go, since other loans keep all
+    /// slots; and by [`Refusal::EpochSpent`] if the program renews the cache and has not. The key is as it was then, though
+    /// another entry may have been evicted.
+    ///
+    /// The slots of entries that were taken out may also be missing since removes had too few steps to free them, and the last epoch may be
+    /// spent since there is no memory for a renewal.
     pub fn compute(&mut self, key: K, mut change: impl FnMut(Option<V>) -> CacheChange<V>) -> Result<Option<V>, Refusal> {
         let (cache, number) = (self.cache, self.cache.number_of(key));
         cache.loads.outdate(|it| it == number);
@@ -394,16 +397,20 @@ impl<K: RecordKey, V: Record, H: BuildHasher> CacheLent<'_, K, V, H> {
         }
     }
 
-    /// The value of a key; if it is absent, the one that `loader` returns, which is put in with the time to live of the cache.
+    /// The value of a key, as `get`; if it is absent, the one that the loader returns, which is put with the time to live of
+    /// the cache. If the loader fails nothing is put.
     ///
-    /// If several threads miss one key at a time, one of them runs its loader, and the others wait until it has ended, and look again. If
-    /// it failed or panicked, one of those that waited runs its own. The loan has no handle while the loader runs or the thread waits. So a
-    /// loader may take its time, and make calls of the cache for other keys. Two that wait for each other's key wait for ever.
+    /// If several threads miss one key at a time, one of them runs its loader, and the others wait for it. If it fails, one
+    /// of those that wait runs its own. The loan has no handle meanwhile, so a loader may take its time. Two loaders that
+    /// load each other's key wait for ever; one that asks for the key that it loads is refused.
     ///
-    /// A value is put in if the key is still absent then; otherwise the call returns what is there. If the key was changed or taken
-    /// out while the loader ran, by other calls than a load, the value is returned and not kept, and a call that begins after that
-    /// change doesn't wait for it. So once [`CacheLent::remove`] returns, nobody finds what was loaded before. It isn't kept either
-    /// if it is refused, and if more than 256 other keys are being loaded; then the load isn't shared.
+    /// If the key is there again when the loader has ended, the call returns what is there. If it was changed or taken out
+    /// while the loader ran, by other calls than a load, the value is returned and not kept, and a call that begins after
+    /// that change doesn't wait for it. So once `remove` returns nobody finds what was loaded before. A value isn't kept
+    /// either if its put would be refused.
+    ///
+    /// Those that wait look again then. A loader may make calls of the cache for other keys, and fails by an error or a panic. Of more than
+    /// 256 loads at a time the others aren't shared, and what they bring isn't kept.
     ///
     /// ```
     /// # use vbr::{Cache, LoadError};
@@ -413,18 +420,18 @@ impl<K: RecordKey, V: Record, H: BuildHasher> CacheLent<'_, K, V, H> {
     /// assert_eq!(mine.get_or_load(5, square(5)), Ok(25));
     /// assert_eq!(mine.get_or_load(5, || Err("it is there")), Ok(25));
     /// assert_eq!(mine.get_or_load(u64::MAX, square(u64::MAX)), Err(LoadError::Failed("it is too large")));
-    /// # Ok::<(), vbr::OpenError>(())
+    /// # Ok::<(), Box<dyn std::error::Error>>(())
     /// ```
     ///
     /// # Errors
     ///
-    /// [`LoadError::Failed`], if `loader` fails; [`LoadError::UnderWay`], if a loader of this thread loads the key;
-    /// [`LoadError::OutOfSteps`]. Nothing was put in then.
+    /// [`LoadError::Failed`], if the loader fails; [`LoadError::UnderWay`], if a loader of this thread loads the key;
+    /// [`LoadError::OutOfSteps`]. Nothing was put then.
     pub fn get_or_load<E>(&mut self, key: K, loader: impl FnOnce() -> Result<V, E>) -> Result<V, LoadError<E>> {
         self.load(key, loader, true)
     }
 
-    /// As [`CacheLent::get_or_load`], and doesn't wait for the loader of another thread.
+    /// The same, and it waits for no loader of another thread: if one loads the key, the call is refused for that.
     ///
     /// ```
     /// # use vbr::{Cache, LoadError};
@@ -435,7 +442,7 @@ impl<K: RecordKey, V: Record, H: BuildHasher> CacheLent<'_, K, V, H> {
     ///     Ok::<_, ()>(70)
     /// });
     /// assert_eq!(told, Ok(70));
-    /// # Ok::<(), vbr::OpenError>(())
+    /// # Ok::<(), Box<dyn std::error::Error>>(())
     /// ```
     ///
     /// # Errors

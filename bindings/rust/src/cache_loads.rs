@@ -1,4 +1,5 @@
 //! Loads under way for a cache.
+// tools/interface makes this file of bindings/interface/cache_loads.rs.in.
 use crate::OutOfSteps;
 use std::error::Error;
 use std::fmt;
@@ -14,13 +15,15 @@ use std::thread::{self, ThreadId};
 /// let told = cache.get_or_load(5, || "five".parse::<u64>());
 /// assert!(matches!(&told, Err(LoadError::Failed(_))));
 /// assert_eq!(told.unwrap_err().to_string(), "the loader failed: invalid digit found in string");
-/// # Ok::<(), vbr::OpenError>(())
+/// # Ok::<(), Box<dyn std::error::Error>>(())
 /// ```
 #[derive(Clone, Copy, Debug, PartialEq, Eq, Hash)]
 pub enum LoadError<E> {
-    /// The loader failed, with this error. Nothing was put in. One of those that waited for it runs its own loader next.
+    /// The loader failed, with this error.
     Failed(E),
-    /// A loader of this key is under way: another thread's, and the call doesn't wait, or one that this call is made by.
+    /// A loader of the key is under way, which isn't waited for.
+    ///
+    /// It is another thread's, or the one that makes this call.
     UnderWay,
     /// The budget was spent, as [`Refusal::OutOfSteps`](crate::Refusal::OutOfSteps) says. No loader was run.
     OutOfSteps,

@@ -1,4 +1,5 @@
 //! How a cache is opened.
+// tools/interface makes this file of bindings/interface/cache_options.rs.in.
 use crate::cache::Cache;
 use crate::cache_loads::MOST;
 use crate::{OpenError, Record, RecordKey, Shape, ShapeError, MAX_EPOCH, MAX_MANY_HANDLES, MAX_SLOTS};
@@ -37,12 +38,12 @@ pub struct CacheOptions<H = RandomState> {
 /// let told = Cache::<u64, [u64; 4]>::open_bytes(100, 1);
 /// let Err(CacheOpenError::TooFewBytes { bytes: 100, least }) = told else { panic!("a cache in 100 bytes") };
 /// assert_eq!(Cache::<u64, [u64; 4]>::open_bytes(least, 1)?.capacity(), 1);
-/// # Ok::<(), CacheOpenError>(())
+/// # Ok::<(), Box<dyn std::error::Error>>(())
 /// ```
 #[derive(Clone, Copy, Debug, PartialEq, Eq, Hash)]
 #[non_exhaustive]
 pub enum CacheOpenError {
-    /// A cache of one entry takes more.
+    /// An entry and the handles take more bytes.
     TooFewBytes {
         /// How many it was to take.
         bytes: usize,
@@ -91,7 +92,7 @@ impl CacheOptions {
     /// # use vbr::{Cache, CacheOptions};
     /// let cache: Cache<u64, u64> = CacheOptions::new().open_for(100, 1)?;
     /// assert_eq!(cache.capacity(), 100);
-    /// # Ok::<(), vbr::OpenError>(())
+    /// # Ok::<(), Box<dyn std::error::Error>>(())
     /// ```
     pub fn new() -> CacheOptions {
         let hasher = RandomState::new();
@@ -100,7 +101,9 @@ impl CacheOptions {
 }
 
 impl<H> CacheOptions<H> {
-    /// The same, with a time after which an entry expires that wasn't given another one. It begins anew with each value that is put.
+    /// The same, with a time to live.
+    ///
+    /// It is that of entries which aren't given another one, and begins anew with each value that is put.
     ///
     /// ```
     /// # use std::time::Duration;
@@ -115,13 +118,15 @@ impl<H> CacheOptions<H> {
         CacheOptions { time_to_live: Some(time), ..self }
     }
 
-    /// The same, with another clock: a function that returns the time since any moment, always the same one. It is asked whenever an
-    /// entry with a time to live is stored or found, and makes no call of the cache.
+    /// The same, with another clock.
+    ///
+    /// It gives the time since any moment, always the same one. It is asked only if an entry that is stored or met has a time
+    /// to live, and makes no call of the cache.
     ///
     /// ```
-    /// # use std::sync::atomic::{AtomicU64, Ordering};
     /// # use std::time::Duration;
     /// # use vbr::{Cache, CacheOptions};
+    /// # use std::sync::atomic::{AtomicU64, Ordering};
     /// static SECOND: AtomicU64 = AtomicU64::new(0); // which another thread counts
     /// let clock = || Duration::from_secs(SECOND.load(Ordering::Relaxed));
     /// let cache: Cache<u64, u64> = CacheOptions::new().with_clock(clock).open_for(100, 1)?;
@@ -135,12 +140,11 @@ impl<H> CacheOptions<H> {
         CacheOptions { clock, ..self }
     }
 
-    /// The same, with another hasher for keys of more than 64 bits. Give it a key that nobody outside knows, if others choose the keys
-    /// of the cache: of two keys with one hash the one that comes later takes the other's place.
+    /// The same, with another hasher for keys of more than 64 bits. Give it a key that nobody outside knows, if others choose the keys.
     ///
     /// ```
-    /// # use std::hash::{BuildHasherDefault, DefaultHasher};
     /// # use vbr::{Cache, CacheOptions, SmallStr};
+    /// # use std::hash::{BuildHasherDefault, DefaultHasher};
     /// let hasher = BuildHasherDefault::<DefaultHasher>::new(); // the same in each run
     /// let ports: Cache<SmallStr<8>, u16, _> = CacheOptions::new().with_hasher(hasher).open_for(100, 1)?;
     /// ports.put(SmallStr::new("https")?, 443)?;
@@ -156,7 +160,7 @@ impl<H> CacheOptions<H> {
     /// ```
     /// # use vbr::{Cache, CacheOptions};
     /// let cache: Cache<u64, u64> = CacheOptions::new().with_seed(7).open_for(100, 1)?;
-    /// # Ok::<(), vbr::OpenError>(())
+    /// # Ok::<(), Box<dyn std::error::Error>>(())
     /// ```
     pub fn with_seed(self, seed: u64) -> CacheOptions<H> {
         CacheOptions { seed: Some(seed), ..self }
@@ -176,8 +180,10 @@ impl<H> CacheOptions<H> {
         CacheOptions { last_epoch, ..self }
     }
 
-    /// The same, with renewals by the program ([`Cache::renew`]). After the last epoch calls that store a value are refused until
-    /// then; the others are answered as always.
+    /// The same, with renewals by the program ([`Cache::renew`]).
+    ///
+    /// After the last epoch calls that store a value are refused until the program has renewed the cache; the others are
+    /// answered as always.
     ///
     /// ```
     /// # use vbr::{Cache, CacheOptions, Refusal};
@@ -200,7 +206,7 @@ impl<H: BuildHasher> CacheOptions<H> {
     /// # use vbr::{Cache, CacheOptions};
     /// let cache: Cache<u64, [u8; 100]> = CacheOptions::new().open_bytes(1_000_000, 2)?;
     /// assert!(cache.bytes() <= 1_000_000);
-    /// # Ok::<(), vbr::CacheOpenError>(())
+    /// # Ok::<(), Box<dyn std::error::Error>>(())
     /// ```
     ///
     /// # Errors
@@ -223,7 +229,7 @@ impl<H: BuildHasher> CacheOptions<H> {
     /// # use vbr::{Cache, CacheOptions};
     /// let cache: Cache<u64, [u8; 100]> = CacheOptions::new().open_for(1_000, 2)?;
     /// assert_eq!(cache.capacity(), 1_000);
-    /// # Ok::<(), vbr::OpenError>(())
+    /// # Ok::<(), Box<dyn std::error::Error>>(())
     /// ```
     ///
     /// # Errors

@@ -114,7 +114,7 @@ impl<K: Bits, V: Bits> PassOf<Entries<K, V>> {
     /// # use vbr::{Map, Refusal, Shape, Steps};
     /// let mut handle = Map::handles_with(Shape::for_keys(8, 1), &[(5, 70)])?.remove(0);
     /// assert_eq!(handle.replace_within(5, 71, Steps::new(1)), Err(Refusal::OutOfSteps));
-    /// # Ok::<(), vbr::OpenError>(())
+    /// # Ok::<(), Box<dyn std::error::Error>>(())
     /// ```
     ///
     /// # Errors
@@ -162,7 +162,7 @@ impl<K: Bits, V: Bits> PassOf<Entries<K, V>> {
     /// # use vbr::{Map, Refusal, Shape, Steps};
     /// let mut handle = Map::handles(Shape::for_keys(8, 1))?.remove(0);
     /// assert_eq!(handle.put_within(5, 70, Steps::new(1)), Err(Refusal::OutOfSteps));
-    /// # Ok::<(), vbr::OpenError>(())
+    /// # Ok::<(), Box<dyn std::error::Error>>(())
     /// ```
     ///
     /// # Errors
@@ -211,7 +211,7 @@ impl<K: Bits, V: Bits> PassOf<Entries<K, V>> {
     /// # use vbr::{Map, Refusal, Shape, Steps};
     /// let mut handle = Map::handles(Shape::for_keys(8, 1))?.remove(0);
     /// assert_eq!(handle.get_or_insert_within(5, 70, Steps::new(1)), Err(Refusal::OutOfSteps));
-    /// # Ok::<(), vbr::OpenError>(())
+    /// # Ok::<(), Box<dyn std::error::Error>>(())
     /// ```
     ///
     /// # Errors
@@ -265,7 +265,7 @@ impl<K: Bits, V: Bits> PassOf<Entries<K, V>> {
     /// # use vbr::{Map, Refusal, Shape, Steps};
     /// let mut handle = Map::handles_with(Shape::for_keys(8, 1), &[(5, 70)])?.remove(0);
     /// assert_eq!(handle.compare_exchange_within(5, 70, 71, Steps::new(1)), Err(Refusal::OutOfSteps));
-    /// # Ok::<(), vbr::OpenError>(())
+    /// # Ok::<(), Box<dyn std::error::Error>>(())
     /// ```
     ///
     /// # Errors
@@ -328,7 +328,7 @@ impl<K: Bits, V: Bits> PassOf<Entries<K, V>> {
     /// # use vbr::{Map, OutOfSteps, Shape, Steps};
     /// let mut handle = Map::handles_with(Shape::for_keys(8, 1), &[(5, 70)])?.remove(0);
     /// assert_eq!(handle.remove_if_within(5, 70, Steps::new(1)), Err(OutOfSteps));
-    /// # Ok::<(), vbr::OpenError>(())
+    /// # Ok::<(), Box<dyn std::error::Error>>(())
     /// ```
     ///
     /// # Errors
@@ -384,7 +384,7 @@ impl<K: Bits, V: Bits> PassOf<Entries<K, V>> {
     /// # use vbr::{Change, Map, Refusal, Shape, Steps};
     /// let mut handle = Map::handles(Shape::for_keys(8, 1))?.remove(0);
     /// assert_eq!(handle.compute_within(5, |_| Change::Put(70), Steps::new(1)), Err(Refusal::OutOfSteps));
-    /// # Ok::<(), vbr::OpenError>(())
+    /// # Ok::<(), Box<dyn std::error::Error>>(())
     /// ```
     ///
     /// # Errors
@@ -459,7 +459,7 @@ impl<K: Bits, V: Bits> PassOf<Entries<K, V>> {
     /// let mut handle = Map::handles_with(Shape::for_keys(8, 1), &[(5, 70)])?.remove(0);
     /// assert_eq!(handle.remove_when_within(5, |_| true, Steps::new(1)), Err(OutOfSteps));
     /// assert_eq!(handle.remove_when_within(5, |_| true, Steps::new(100)), Ok(Some(70)));
-    /// # Ok::<(), vbr::OpenError>(())
+    /// # Ok::<(), Box<dyn std::error::Error>>(())
     /// ```
     ///
     /// # Errors
@@ -521,7 +521,7 @@ impl<K: Bits, V: Bits> PassOf<Entries<K, V>> {
     /// # use vbr::{Map, Refusal, Shape, Steps};
     /// let mut handle = Map::handles_with(Shape::for_keys(8, 1), &[(5, 1_u64)])?.remove(0);
     /// assert_eq!(handle.fetch_update_within(5, |value| Some(value + 1), Steps::new(1)), Err(Refusal::OutOfSteps));
-    /// # Ok::<(), vbr::OpenError>(())
+    /// # Ok::<(), Box<dyn std::error::Error>>(())
     /// ```
     ///
     /// # Errors
@@ -639,7 +639,7 @@ impl<K: Bits> PassOf<Entries<K, u64>> {
     /// # use vbr::{Map, Refusal, Shape, Steps};
     /// let mut handle = Map::handles(Shape::for_keys(8, 1))?.remove(0);
     /// assert_eq!(handle.fetch_add_within(5, 2, Steps::new(1)), Err(Refusal::OutOfSteps));
-    /// # Ok::<(), vbr::OpenError>(())
+    /// # Ok::<(), Box<dyn std::error::Error>>(())
     /// ```
     ///
     /// # Errors

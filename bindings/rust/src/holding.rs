@@ -139,7 +139,7 @@ impl<T: Kind> PassOf<T> {
     /// # use vbr::{Refusal, Set, Shape, Steps};
     /// let mut handle = Set::<u64>::handles(Shape::for_keys(8, 1))?.remove(0);
     /// assert_eq!(handle.hold_within(Steps::new(1)).err(), Some(Refusal::OutOfSteps));
-    /// # Ok::<(), vbr::OpenError>(())
+    /// # Ok::<(), Box<dyn std::error::Error>>(())
     /// ```
     ///
     /// # Errors
@@ -188,7 +188,7 @@ impl<T: Kind> PassOf<T> {
     /// # use vbr::{OutOfSteps, Set, Shape, Steps};
     /// let handle = Set::handles_with(Shape::for_keys(8, 1), &[5])?.remove(0);
     /// assert_eq!(handle.get_entry_within(5, Steps::new(1)), Err(OutOfSteps));
-    /// # Ok::<(), vbr::OpenError>(())
+    /// # Ok::<(), Box<dyn std::error::Error>>(())
     /// ```
     ///
     /// # Errors
@@ -367,7 +367,7 @@ impl<T: Kind> PassOf<T> {
     /// let handle = Map::handles_with(Shape::for_keys(8, 1), &[(5, 70), (7, 71)])?.remove(0);
     /// assert_eq!(handle.iter_at_within(Steps::new(100)).count(), 2);
     /// assert_eq!(handle.iter_at_within(Steps::new(1)).next(), Some(Err(OutOfSteps)));
-    /// # Ok::<(), vbr::OpenError>(())
+    /// # Ok::<(), Box<dyn std::error::Error>>(())
     /// ```
     ///
     /// # Errors

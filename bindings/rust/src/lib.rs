@@ -271,7 +271,7 @@
 //! # Ok::<(), Box<dyn std::error::Error>>(())
 //! ```
 //!
-//! A loan without a name lasts to the end of its statement: in `match map.lend_wait().get(5)? { .. }` through all arms. A
+//! A loan that has no name lasts to the end of its statement: in `match map.lend_wait().get(5)? { .. }` through all arms. A
 //! second loan in an arm is then one beside the first, and the thread waits for ever if no other handle comes back; likewise in
 //! `if let` and `while let`. Keep the answer by a `let` before, or the loan, and make both calls by it. Or make the call of the
 //! map itself: [`get`](Map::get), [`put`](Map::put), [`insert`](Set::insert) of a set and so on lend a handle, call, and have it

@@ -123,7 +123,7 @@ impl<K: Bits, V: Bits> PassOf<Entries<K, V>> {
     /// # use vbr::{Map, Refusal, Shape, Steps};
     /// let mut handle = Map::handles(Shape::for_keys(8, 1))?.remove(0);
     /// assert_eq!(handle.try_insert_within(5, 70, Steps::new(1)), Err(Refusal::OutOfSteps));
-    /// # Ok::<(), vbr::OpenError>(())
+    /// # Ok::<(), Box<dyn std::error::Error>>(())
     /// ```
     ///
     /// # Errors
@@ -166,7 +166,7 @@ impl<K: Bits, V: Bits> PassOf<Entries<K, V>> {
     /// # use vbr::{Map, Shape, Steps};
     /// let mut handle = Map::handles_with(Shape::for_keys(8, 1), &[(5, 70)])?.remove(0);
     /// assert_eq!(handle.remove_within(5, Steps::new(9 + 11)), Ok(Some(70)));
-    /// # Ok::<(), vbr::OpenError>(())
+    /// # Ok::<(), Box<dyn std::error::Error>>(())
     /// ```
     ///
     /// # Errors
@@ -211,7 +211,7 @@ impl<K: Bits, V: Bits> PassOf<Entries<K, V>> {
     /// # use vbr::{Map, Shape, Steps};
     /// let handle = Map::handles_with(Shape::for_keys(8, 1), &[(5, 70)])?.remove(0);
     /// assert_eq!(handle.get_within(5, Steps::new(5 + 11)), Ok(Some(70)));
-    /// # Ok::<(), vbr::OpenError>(())
+    /// # Ok::<(), Box<dyn std::error::Error>>(())
     /// ```
     ///
     /// # Errors
@@ -264,7 +264,7 @@ impl<K: Bits, V: Bits> PassOf<Entries<K, V>> {
     /// let mut values = [Ok(None); 2];
     /// handle.get_all_within(&[5, 6], &mut values, Steps::new(1));
     /// assert_eq!(values, [Err(OutOfSteps); 2]);
-    /// # Ok::<(), vbr::OpenError>(())
+    /// # Ok::<(), Box<dyn std::error::Error>>(())
     /// ```
     ///
     /// # Panics

@@ -86,7 +86,7 @@ impl<T: Kind> PassOf<T> {
     /// let shape = Shape::for_keys(8, 1);
     /// assert_eq!(Set::<u64>::handles(shape)?[0].steps(), Steps::AMPLE);
     /// assert_eq!(Set::<u64>::handles(shape.with_steps(Steps::new(500)))?[0].steps(), Steps::new(500));
-    /// # Ok::<(), vbr::OpenError>(())
+    /// # Ok::<(), Box<dyn std::error::Error>>(())
     /// ```
     #[inline]
     pub fn steps(&self) -> Steps {
@@ -127,7 +127,7 @@ impl<T: Kind> PassOf<T> {
     /// let handle = Set::handles_with(Shape::for_keys(8, 1), &[5])?.remove(0);
     /// assert_eq!(handle.has_within(5, Steps::new(5 + 11)), Ok(true));
     /// assert_eq!(handle.has_within(5, Steps::new(1)), Err(OutOfSteps));
-    /// # Ok::<(), vbr::OpenError>(())
+    /// # Ok::<(), Box<dyn std::error::Error>>(())
     /// ```
     ///
     /// # Errors
@@ -174,7 +174,7 @@ impl<T: Kind> PassOf<T> {
     /// let mut answers = [Ok(false); 2];
     /// handle.has_all_within(&[5, 6], &mut answers, Steps::new(1));
     /// assert_eq!(answers, [Err(OutOfSteps); 2]);
-    /// # Ok::<(), vbr::OpenError>(())
+    /// # Ok::<(), Box<dyn std::error::Error>>(())
     /// ```
     ///
     /// # Panics
@@ -255,7 +255,7 @@ impl<T: Kind> PassOf<T> {
     /// let handle = Set::handles_with(Shape::for_keys(8, 1), &[2, 5, 9])?.remove(0);
     /// assert_eq!(handle.iter_within(Steps::new(100)).count(), 3);
     /// assert_eq!(handle.iter_within(Steps::new(1)).next(), Some(Err(OutOfSteps)));
-    /// # Ok::<(), vbr::OpenError>(())
+    /// # Ok::<(), Box<dyn std::error::Error>>(())
     /// ```
     ///
     /// # Errors
@@ -328,7 +328,7 @@ impl<T: Kind> PassOf<T> {
     /// let mut cursor = Cursor::first();
     /// assert_eq!(handle.next_within(&mut cursor, Steps::new(1)), Err(WalkError::OutOfSteps));
     /// assert_eq!(handle.next_within(&mut cursor, Steps::new(100)), Ok(Some(5)));
-    /// # Ok::<(), vbr::OpenError>(())
+    /// # Ok::<(), Box<dyn std::error::Error>>(())
     /// ```
     ///
     /// # Errors

@@ -267,11 +267,9 @@ impl<K: RecordKey, V: Record, H> RecordMap<K, V, H> {
     // %doc lend_wait
     /// Lends a free handle as soon as there is one: if each is lent, the thread sleeps until one is given back.
     ///
-    /// A thread that has a loan itself may wait for ever. Threads that wait have no order: one that comes later may be lent a
-    /// handle before.
+    /// A thread that has a loan itself may wait for ever, and a loan without a name lasts to the end of its statement.
+    /// Threads that wait have no order: one that comes later may be lent a handle before.
     // %end
-    ///
-    /// A loan without a name lasts to the end of its statement.
     ///
     /// ```
     /// # use vbr::{RecordMap, Shape};
@@ -340,7 +338,9 @@ impl<K: RecordKey, V: Record, H> RecordMap<K, V, H> {
         self.records.renew(&self.table, shape)
     }
 
-    /// As [`RecordMap::renew`], or [`RenewError::Lent`] if a loan was still out when the time was over.
+    // %doc renew_for
+    /// The same, or refused if not all loans were back when the time was over.
+    // %end
     ///
     /// ```
     /// # use std::time::Duration;

@@ -120,7 +120,7 @@ impl<K: Bits> PassOf<Keys<K>> {
     /// # use vbr::{Refusal, Set, Shape, Steps};
     /// let mut handle = Set::handles(Shape::for_keys(8, 1))?.remove(0);
     /// assert_eq!(handle.insert_within(5, Steps::new(1)), Err(Refusal::OutOfSteps));
-    /// # Ok::<(), vbr::OpenError>(())
+    /// # Ok::<(), Box<dyn std::error::Error>>(())
     /// ```
     ///
     /// # Errors
@@ -162,7 +162,7 @@ impl<K: Bits> PassOf<Keys<K>> {
     /// # use vbr::{Set, Shape, Steps};
     /// let mut handle = Set::handles_with(Shape::for_keys(8, 1), &[5])?.remove(0);
     /// assert_eq!(handle.remove_within(5, Steps::new(9 + 11)), Ok(true));
-    /// # Ok::<(), vbr::OpenError>(())
+    /// # Ok::<(), Box<dyn std::error::Error>>(())
     /// ```
     ///
     /// # Errors

@@ -349,12 +349,12 @@ impl<T: Kind> Table<T> {
     // %doc lend_wait
     /// Lends a free handle as soon as there is one: if each is lent, the thread sleeps until one is given back.
     ///
-    /// A thread that has a loan itself may wait for ever. Threads that wait have no order: one that comes later may be lent a
-    /// handle before.
+    /// A thread that has a loan itself may wait for ever, and a loan without a name lasts to the end of its statement.
+    /// Threads that wait have no order: one that comes later may be lent a handle before.
     // %end
     ///
-    /// A loan without a name lasts to the end of its statement: in `match set.lend_wait().has(5)? { .. }` lend none in an arm. Calls of
-    /// the set itself ([`Table::has`], [`Table::call`]) leave no loan behind.
+    /// So in `match set.lend_wait().has(5)? { .. }` lend none in an arm. Calls of the set itself ([`Table::has`], [`Table::call`]) leave
+    /// no loan behind.
     ///
     /// ```
     /// # use vbr::{Set, Shape};
@@ -481,7 +481,9 @@ impl<T: Kind> Table<T> {
         self.lender.renew(shape, None, None)
     }
 
-    /// As [`Table::renew`], or [`RenewError::Lent`] if a loan was still out when the time was over.
+    // %doc renew_for
+    /// The same, or refused if not all loans were back when the time was over.
+    // %end
     ///
     /// ```
     /// # use std::time::Duration;
