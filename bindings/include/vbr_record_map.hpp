@@ -7,15 +7,18 @@
    gives the answer of one for the other. The hash has a key that is drawn, unless the program gives another hash, so nobody outside can
    choose keys that share it, or a bucket. Of n keys any two have one hash with a probability below n^2 / 2^65: 3 in a hundred million
    with a million keys. A key is trivially copyable and compared by its bytes (vbr::is_by_bits). The second key with a hash is refused by
-   refusal::hash_taken. The usual hash is SipHash-1-3. Whoever can compute a hash can choose keys that share it.
+   refusal::hash_taken. The usual hash is SipHash-1-3.
+
+   If others choose the keys, a hash of the program's own has a key that nobody outside knows: whoever can compute it can choose keys that
+   share it.
 
    A value is copied whole into a record that nobody else sees yet, and that record is never written again while the key has it. So a
    reader waits for nobody, and gets a copy that is whole, and that the key had at a moment of the call. Each change is made at one
    moment, of a value that was read: none is lost. Calls take no memory; an opening and a renewal do. A value is trivially copyable.
 
-   All calls give a vbr::result. Calls by a loan that has no handle are refused by refusal::no_handle. Each call of the map that they make
-   has the budget of the handle, which is that of the shape, or the ample one. vbr(3) says of out_of_steps, no_slot and epoch_spent when
-   they come, and what to do then: a program takes keys out, or renews the map. A refused call has changed nothing.
+   All calls give a vbr::result. Calls by a loan that has no handle are refused by refusal::no_handle. The budget of a handle is that of the
+   shape, or the ample one. vbr(3) says of out_of_steps, no_slot and epoch_spent when they come, and what to do then: a program takes keys
+   out, or renews the map. A refused call has changed nothing.
 
        using accounts = vbr::record_map<vbr::small_string<31>, account>;
        accounts map = accounts::open_for(1000, 8).value();           // for 1000 keys, and 8 threads at a time
@@ -286,8 +289,16 @@ using usual_hash = std::conditional_t<is_word<Key>, key_itself, keyed_hash<Key>>
 
 } // namespace detail
 
-/* A handle on loan from a record map, which makes all calls, or none; it goes back when this ends. It is tested by `if (loan)`; without a
-   handle its calls are refused by refusal::no_handle.
+/* A handle on loan from a record map, which makes all calls. It goes back at the end of this, and may go to another thread before.
+
+   A look-up hashes the key, unless it is kept as it is, finds the entry, copies the record, and asks by one load whether the entry still
+   stands there. A call that changes a key looks it up first. If there is something to store it takes a slot, writes the record there, and
+   puts the slot in the place of the entry that it read. A call that changes nothing takes no slot.
+
+   Each call of the map that these calls make has the budget of the handle. A change begins anew for each update of the key by others that
+   came in between, and a look-up only if the slot of its entry was handed out anew.
+
+   There may be no handle: it is tested by `if (loan)`.
 
        accounts::loan mine = map.lend_wait(); */
 template <class Key, class Value, class Hash, class Owner>
@@ -302,7 +313,7 @@ public:
     using change = vbr::change<Value>;
     using found = result<std::optional<Value>>; /* the value that a key had; none if it was absent */
 
-    /* How often a call that changes a key begins anew if others were faster, before it is refused by refusal::out_of_steps.
+    /* How often a change begins anew before it is refused by refusal::out_of_steps.
 
            static_assert(accounts::loan::most_attempts == 1000); */
     static constexpr int most_attempts = 1000;
@@ -325,7 +336,7 @@ public:
     explicit operator bool() const noexcept { return static_cast<bool>(handle); }
 
     /* Looks a key up and gives its value, as vbr_map_get does. Returns its value if the key is there; none if it is absent. It leaves the
-       map as it was: its steps are loads. It takes no slot.
+       map as it was: its steps are loads.
 
            std::optional<account> has = mine.get(who).value(); */
     found get(const Key &key) {
@@ -483,12 +494,14 @@ public:
         }
     }
 
-    /* Gives the handle's slots back, for the others, and says how many they were; 0 without a handle.
+    /* Puts the slots that the handle keeps to itself into the pool that all handles share, where any of them finds them, as
+       vbr_map_give_slots_back does. Returns how many it gave back, at most 64. It can't fail. It is 0 without a handle.
 
            std::uint32_t given = mine.give_slots_back(); */
     std::uint32_t give_slots_back() noexcept { return handle ? handle->give_slots_back() : 0; }
 
-    /* The epoch, up to that of the shape; a program renews the map before it is spent. 0 without a handle.
+    /* Returns the epoch that the handle read last in a call, as vbr_map_epoch does. It is 1 before its first call. Renew the map before
+       it reaches vbr_map_last_epoch. It is 0 without a handle.
 
            bool is_near = mine.epoch() + 1000 >= map.last_epoch(); */
     std::uint64_t epoch() const noexcept { return handle ? handle->epoch() : 0; }
@@ -605,9 +618,11 @@ public:
     record_map(record_map &&) noexcept = default;
     record_map &operator=(record_map &&) noexcept = default;
 
-    /* Opens an empty one of this shape with this many handles, from 1 to max_many_handles. It takes the memory of a map of this shape, and
-       of a record for each slot: the value, and a key of more than 64 bits, in whole words of 8 bytes. It is refused as open_map_many is;
-       if a vector or the records find no memory it throws std::bad_alloc. A hash gives equal keys equal numbers, each time.
+    /* Opens an empty one of this shape with this many handles, from 1 to max_many_handles. It is refused as open_map_many is; if a vector or
+       the records find no memory it throws std::bad_alloc. A hash gives equal keys equal numbers, each time.
+
+       The opening and renewals take memory: that of a map of this shape, and for each slot a record, which is the value, and the key if
+       it is hashed, in whole words of 8 bytes.
 
            accounts fixed = accounts::open(shape, 2, same_each_time).value(); */
     static result<record_map> open(const shape &wanted, std::size_t handles, const Hash &hash = Hash()) {

@@ -12,13 +12,15 @@ TYPES = {"uint64_t": "u64", "size_t": "usize", "uint32_t": "u32", "int64_t": "i6
 TYPES.update({"vbr_handle": "Raw", "vbr_map_handle": "Raw", "vbr_shared_handle": "SharedRaw", "vbr_cursor": "Cursor", "vbr_incarnation": "Stands", "vbr_report": "ReportNumbers"})
 # The files, each with its source in bindings/interface, whose calls it has, and of which kind it is, if its source is for both.
 FILES = {"pass": ("pass", "PassOf"), "changing": ("changing", "PassOf"), "holding": ("holding", "PassOf"), "set": ("kinds", "Pass", "set"), "map": ("kinds", "MapPass", "map")}
-FILES.update({"cache": ("cache", "Cache"), "cache_lent": ("cache_lent", "CacheLent"), "cache_loads": ("cache_loads", "Cache"), "cache_options": ("cache_options", "CacheOptions")})
+LOANS = {"record_lent": "RecordLent", "cache_lent": "CacheLent"}
+FILES.update({it: (it, LOANS.get(it)) for it in ("record_map", "record_lent", "cache", "cache_lent", "cache_loads", "cache_options")})
 # What the comment of the form with a budget says of it, and where it has what the other form says.
 WITHIN = {"within": "with a budget of its own", "within_keys": "each key with this budget", "within_calls": "each of whose calls has this budget"}
 SECTIONS = {"Errors": "The same as for {}.", "Panics": "As {} does."}
 CALL = re.compile(r"((?: +///.*\n)+)( +)%(within\w*) ?(.*)\n((?: +%       .*\n)*)((?: +#\[.*\n)*) +pub fn (\w+)_within\(([^;{]*?),?\s*steps: Steps,?\s*\)([^{]*) \{\n")
 BY_LOAN = re.compile(r"^    %by_loan (\w+): (.*)\n", re.M)
 METHOD = r"((?: +///.*\n)+)((?: +#\[.*\n)*) +pub fn {}(<\w+>)?\(&(?:mut )?self, (.*)\) -> (.*) \{{\n"
+LENT = re.compile(r" +/// let (?:mut )?mine = (\w+)\.lend_wait\(\);\n")
 EXAMPLE = re.compile(r"^( *//[/!]) ```(.*)\n((?:\1.*\n)*?)\1 ```\n", re.M)
 LIBRARY = f"{ROOT}/bindings/rust/src/library.rs"
 MADE = "    // tools/interface makes these of the headers.\n"
@@ -59,15 +61,15 @@ def both_forms(it, owner):
 
 
 def by_loan(asked):
-    """The calls of what lends, by a loan for each alone, as the file of the loan has them: their sentences, examples and heads."""
-    lent, owner = FILES[asked[1]]
-    path = f"bindings/interface/{lent}.rs.in"
-    text, made = with_docs(text_of_kind(text_of(f"{ROOT}/{path}"), None), path), []
+    """The calls of what lends, by a loan for each alone, as the file of the loan has them: their comments, examples and heads."""
+    path, made = f"bindings/interface/{asked[1]}.rs.in", []
+    text = with_docs(text_of_kind(text_of(f"{ROOT}/{path}"), None), path)
     for name in asked[2].split():
         comment, marks, types, given, returns = re.search(METHOD.format(name), text).groups()
-        link, passed = f"[`{owner}::{name}`]", re.findall(r"(?:^|, )(?:mut )?(\w+): ", given)
-        example = re.sub(r" +/// let (?:mut )?mine = .*\n", "", EXAMPLE.search(comment)[0]).replace("mine.", f"{asked[1].split('_')[0]}.")
-        said = [f"{comment.partition('    ///' + chr(10))[0]}    ///\n", laid_out("    ", [f"As {link}, by a loan for this call alone."]), f"    ///\n{example}    ///\n"]
+        link, passed = f"[`{LOANS[asked[1]]}::{name}`]", re.findall(r"(?:^|, )(?:mut )?(\w+): ", given)
+        example = LENT.sub("", EXAMPLE.search(comment)[0])
+        example = example.replace("mine.", f"{LENT.search(comment)[1]}.") if LENT.search(comment) else example
+        said = [comment[: EXAMPLE.search(comment).start()], laid_out("    ", [f"It is {link}, by a loan for this call alone."]), f"    ///\n{example}    ///\n"]
         said.append(laid_out("    ", ["# Errors", f"The same as for {link}."]))
         begin = head("    ", f"{name}{types or ''}", f"&self, {given.replace('mut ', '')}", f" -> {returns}")
         made.append("".join([*said, marks.replace("    #[inline]\n", ""), f"{begin}        self.lend_wait().{name}({', '.join(passed)})\n    }}\n"]))

@@ -42,8 +42,8 @@ use std::time::{Duration, Instant};
 /// # Calls and loans
 ///
 /// The cache lends its handles. A [`CacheLent`] makes all calls. The cache itself has the most frequent ones, which lend a handle each,
-/// and have it back when they return; a thread that makes many keeps a loan for them. A thread that has a loan itself may wait for ever in such a call, and
-/// so it may in a closure that the cache asks, but for a loader.
+/// and have it back when they return; a thread that makes many keeps a loan for them. A thread that has a loan itself may wait for ever
+/// in such a call, and so it may in a closure that the cache asks, but for a loader.
 ///
 /// # What goes
 ///
@@ -589,7 +589,7 @@ impl<K: RecordKey, V: Record, H: BuildHasher> Cache<K, V, H> {
     /// The value of a key: a copy, whole, of what it had at a moment of the call; none if it is absent. The entry counts as
     /// used. One that has expired is taken out, and is a miss.
     ///
-    /// As [`CacheLent::get`], by a loan for this call alone.
+    /// It is [`CacheLent::get`], by a loan for this call alone.
     ///
     /// ```
     /// # use vbr::Cache;
@@ -609,7 +609,7 @@ impl<K: RecordKey, V: Record, H: BuildHasher> Cache<K, V, H> {
     /// Gives a key this value, with the time to live of the cache, and returns the one that it had; none if it was absent,
     /// and is inserted. If the cache is full another entry goes before.
     ///
-    /// As [`CacheLent::put`], by a loan for this call alone.
+    /// It is [`CacheLent::put`], by a loan for this call alone.
     ///
     /// ```
     /// # use vbr::Cache;
@@ -628,7 +628,7 @@ impl<K: RecordKey, V: Record, H: BuildHasher> Cache<K, V, H> {
 
     /// The same, with a time to live of its own. If that isn't above zero the entry has expired at once.
     ///
-    /// As [`CacheLent::put_for`], by a loan for this call alone.
+    /// It is [`CacheLent::put_for`], by a loan for this call alone.
     ///
     /// ```
     /// # use std::time::Duration;
@@ -649,7 +649,7 @@ impl<K: RecordKey, V: Record, H: BuildHasher> Cache<K, V, H> {
 
     /// Takes a key out, and returns its value; none if it was absent. It takes no slot.
     ///
-    /// As [`CacheLent::remove`], by a loan for this call alone.
+    /// It is [`CacheLent::remove`], by a loan for this call alone.
     ///
     /// ```
     /// # use vbr::Cache;
@@ -668,7 +668,12 @@ impl<K: RecordKey, V: Record, H: BuildHasher> Cache<K, V, H> {
 
     /// Does with a key what a function says of the value that it has, or of none, and returns that value.
     ///
-    /// As [`CacheLent::compute`], by a loan for this call alone.
+    /// The change is made only if the key still has the entry that the function was told of. Else it is asked again, of what
+    /// is there then. So no change is lost.
+    ///
+    /// `change` is the function. It is asked while a handle is on loan, so it makes no call of the cache.
+    ///
+    /// It is [`CacheLent::compute`], by a loan for this call alone.
     ///
     /// ```
     /// # use std::time::Duration;
@@ -696,7 +701,19 @@ impl<K: RecordKey, V: Record, H: BuildHasher> Cache<K, V, H> {
     /// The value of a key, as `get`; if it is absent, the one that the loader returns, which is put with the time to live of
     /// the cache. If the loader fails nothing is put.
     ///
-    /// As [`CacheLent::get_or_load`], by a loan for this call alone.
+    /// If several threads miss one key at a time, one of them runs its loader, and the others wait for it. If it fails, one
+    /// of those that wait runs its own. The loan has no handle meanwhile, so a loader may take its time. Two loaders that
+    /// load each other's key wait for ever; one that asks for the key that it loads is refused.
+    ///
+    /// If the key is there again when the loader has ended, the call returns what is there. If it was changed or taken out
+    /// while the loader ran, by other calls than a load, the value is returned and not kept, and a call that begins after
+    /// that change doesn't wait for it. So once `remove` returns nobody finds what was loaded before. A value isn't kept
+    /// either if its put would be refused.
+    ///
+    /// Those that wait look again then. A loader may make calls of the cache for other keys, and fails by an error or a panic. Of more than
+    /// 256 loads at a time the others aren't shared, and what they bring isn't kept.
+    ///
+    /// It is [`CacheLent::get_or_load`], by a loan for this call alone.
     ///
     /// ```
     /// # use vbr::{Cache, LoadError};
@@ -717,7 +734,7 @@ impl<K: RecordKey, V: Record, H: BuildHasher> Cache<K, V, H> {
 
     /// The same, and it waits for no loader of another thread: if one loads the key, the call is refused for that.
     ///
-    /// As [`CacheLent::try_get_or_load`], by a loan for this call alone.
+    /// It is [`CacheLent::try_get_or_load`], by a loan for this call alone.
     ///
     /// ```
     /// # use vbr::{Cache, LoadError};

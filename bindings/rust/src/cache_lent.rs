@@ -16,8 +16,10 @@ use std::time::{Duration, Instant};
 /// caches, nobody waits more than a millisecond for that. From then on calls that store a value wait for the other loans:
 /// whoever keeps one and makes no call holds them up, and so does a thread that has two.
 ///
-/// [`Cache::lend_wait`] lends it. It isn't `Sync`. Each step of a call has the budget of the handle ([`CacheLent::set_steps`]), and a change
-/// begins again once for each update of the key by others that came in between.
+/// Each call of the map that these calls make has the budget of the handle. A change begins anew for each update of the key
+/// by others that came in between, and a look-up only if the slot of its entry was handed out anew.
+///
+/// [`CacheLent::set_steps`] gives another budget. A loan isn't `Sync`.
 ///
 /// ```
 /// # use vbr::{Cache, CacheChange, CacheLent, Refusal};

@@ -140,7 +140,10 @@ impl<H> CacheOptions<H> {
         CacheOptions { clock, ..self }
     }
 
-    /// The same, with another hasher for keys of more than 64 bits. Give it a key that nobody outside knows, if others choose the keys.
+    /// The same, with another hasher for keys of more than 64 bits.
+    ///
+    /// If others choose the keys, a hash of the program's own has a key that nobody outside knows: whoever can compute it can
+    /// choose keys that share it.
     ///
     /// ```
     /// # use vbr::{Cache, CacheOptions, SmallStr};

@@ -111,8 +111,12 @@ impl<K: fmt::Debug, V: fmt::Debug> fmt::Debug for RecordEntry<K, V> {
 pub enum RecordRefusal {
     /// It is refused as a call of a map is.
     Refused(Refusal),
-    /// Another key with the same hash is there, so this one can't be: take the other one out, or open a map with another hasher, or
-    /// with another key of it, and put all entries there. It comes of no key that is kept as itself.
+    // %doc hash_taken
+    /// Another key with the same hash is there.
+    // %end
+    ///
+    /// So this one can't be: take the other one out, or open a map with another hasher, or with another key of it, and put all entries
+    /// there. It comes of no key that is kept as itself.
     HashTaken,
 }
 

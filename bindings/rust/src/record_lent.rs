@@ -1,4 +1,5 @@
 //! Calls of maps of records.
+// tools/interface makes this file of bindings/interface/record_lent.rs.in.
 use crate::record_entry::{At, Numbers, RecordEntry, RecordRefusal};
 use crate::record_map::Found;
 use crate::{Change, Cursor, Held, Lent, OutOfSteps, Record, RecordKey, RecordMap, Refusal, Steps, WalkError};
@@ -6,15 +7,18 @@ use std::fmt;
 use std::hash::{BuildHasher, RandomState};
 use std::iter::FusedIterator;
 
-/// A handle on loan from a [`RecordMap`], which makes all calls. It goes back when it is dropped. It may go to another thread, and
-/// is not `Sync`.
+/// A handle on loan from a record map, which makes all calls. It goes back at the end of this, and may go to another thread
+/// before.
 ///
-/// A look-up hashes the key, unless that is kept as itself, finds the entry, copies the record, and asks whether the entry still
-/// stands there, by one load. A call that changes a key looks it up first. If there is something to store it takes a slot, writes
-/// the record there, and puts the slot in the place of the entry that it read. A call that changes nothing takes no slot.
+/// A look-up hashes the key, unless it is kept as it is, finds the entry, copies the record, and asks by one load whether the
+/// entry still stands there. A call that changes a key looks it up first. If there is something to store it takes a slot,
+/// writes the record there, and puts the slot in the place of the entry that it read. A call that changes nothing takes no
+/// slot.
 ///
-/// Each of these calls of the library has the budget of the handle ([`RecordLent::set_steps`]). A change begins again once for each
-/// update of the key by others that came in between, and a look-up only if the slot of its entry was handed out anew.
+/// Each call of the map that these calls make has the budget of the handle. A change begins anew for each update of the key
+/// by others that came in between, and a look-up only if the slot of its entry was handed out anew.
+///
+/// [`RecordLent::set_steps`] gives another budget. A loan isn't `Sync`.
 ///
 /// ```
 /// # use vbr::{RecordLent, RecordMap, RecordRefusal, Shape};
@@ -56,21 +60,23 @@ impl<'m, K: RecordKey, V: Record, H> RecordLent<'m, K, V, H> {
     /// let mut mine = map.lend_wait();
     /// mine.set_steps(Steps::new(1));
     /// assert_eq!(mine.get(5), Err(OutOfSteps));
-    /// # Ok::<(), vbr::OpenError>(())
+    /// # Ok::<(), Box<dyn std::error::Error>>(())
     /// ```
     #[inline]
     pub fn set_steps(&mut self, steps: Steps) {
         self.lent.set_steps(steps);
     }
 
-    /// The epoch that the handle read last, as [`PassOf::epoch`](crate::PassOf::epoch) gives it: near [`RecordMap::last_epoch`] it is
-    /// time to renew.
+    /// Returns the epoch that the handle read last in a call.
+    ///
+    /// It is 1 before its first call. Renew the map before it reaches [`last_epoch`](crate::PassOf::last_epoch). It makes no
+    /// step, so others may have advanced the epoch since.
     ///
     /// ```
     /// # use vbr::{RecordMap, Shape};
     /// let map: RecordMap<u64, f64> = RecordMap::open(Shape::for_keys(8, 1))?;
     /// assert_eq!(map.lend_wait().epoch(), 1);
-    /// # Ok::<(), vbr::OpenError>(())
+    /// # Ok::<(), Box<dyn std::error::Error>>(())
     /// ```
     #[inline]
     #[must_use]
@@ -78,8 +84,9 @@ impl<'m, K: RecordKey, V: Record, H> RecordLent<'m, K, V, H> {
         self.lent.epoch()
     }
 
-    /// Gives the slots that the handle keeps back to the others, and returns how many, as
-    /// [`PassOf::give_slots_back`](crate::PassOf::give_slots_back) does.
+    /// Puts the slots that the handle keeps to itself into the pool that all handles share, where any of them finds them.
+    ///
+    /// Returns how many it gave back, at most 64. It can't fail.
     ///
     /// ```
     /// # use vbr::{RecordMap, Shape};
@@ -94,10 +101,8 @@ impl<'m, K: RecordKey, V: Record, H> RecordLent<'m, K, V, H> {
         self.lent.give_slots_back()
     }
 
-    // %doc record_next
     /// The next entry of a walk, a key with a value that it had at a moment of the call; none at the end. A key that is there
     /// for the whole walk is given once.
-    // %end
     ///
     /// It is as [`PassOf::next`](crate::PassOf::next). The walk may go on by another loan.
     ///
@@ -198,11 +203,9 @@ impl<'m, K: RecordKey, V: Record, H> RecordLent<'m, K, V, H> {
 }
 
 impl<K: RecordKey, V: Record, H: BuildHasher> RecordLent<'_, K, V, H> {
-    // %doc vbr_map_has: sentence returns
     /// Looks a key up without its value.
     ///
     /// Returns `true` if the key is there; `false` if it is absent.
-    // %end
     ///
     /// Of a hashed key it reads the key in the record, and no value.
     ///
@@ -224,11 +227,9 @@ impl<K: RecordKey, V: Record, H: BuildHasher> RecordLent<'_, K, V, H> {
         self.map.has_kept(&self.lent, self.map.number_of(key), key)
     }
 
-    // %doc vbr_map_get: sentence returns leaves
     /// Looks a key up and gives its value.
     ///
     /// Returns its value if the key is there; `None` if it is absent. It leaves the map as it was: its steps are loads.
-    // %end
     ///
     /// ```
     /// # use vbr::{RecordMap, Shape};
@@ -247,9 +248,7 @@ impl<K: RecordKey, V: Record, H: BuildHasher> RecordLent<'_, K, V, H> {
         Ok(self.map.find(&self.lent, self.map.number_of(key), key)?.value())
     }
 
-    // %doc record_get_entry
     /// The value of a key, as `get` gives it, and which entry it is of.
-    // %end
     ///
     /// ```
     /// # use vbr::{RecordMap, Shape};
@@ -272,11 +271,9 @@ impl<K: RecordKey, V: Record, H: BuildHasher> RecordLent<'_, K, V, H> {
         })
     }
 
-    // %doc vbr_map_insert: sentence returns
     /// Adds a key with its value.
     ///
     /// Returns `true` if the key was absent, and is added; `false` if it was there, and keeps the value that it has.
-    // %end
     ///
     /// ```
     /// # use vbr::{RecordMap, Shape};
@@ -296,11 +293,9 @@ impl<K: RecordKey, V: Record, H: BuildHasher> RecordLent<'_, K, V, H> {
         Ok(before.is_none())
     }
 
-    // %doc vbr_map_put: sentence returns
     /// Gives a key this value, whether it is there or not.
     ///
     /// Returns the value that it had if the key was there, and has the new value; `None` if it was absent, and is inserted.
-    // %end
     ///
     /// ```
     /// # use vbr::{RecordMap, Shape};
@@ -318,12 +313,10 @@ impl<K: RecordKey, V: Record, H: BuildHasher> RecordLent<'_, K, V, H> {
         self.compute(key, |_| Change::Put(value))
     }
 
-    // %doc vbr_map_replace: sentence returns
     /// Gives a key that is there another value, so that no call finds it absent meanwhile.
     ///
     /// Returns the value that it had if the key was there, and has the new value; `None` if it was absent, and nothing was
     /// changed.
-    // %end
     ///
     /// ```
     /// # use vbr::{RecordMap, Shape};
@@ -343,14 +336,10 @@ impl<K: RecordKey, V: Record, H: BuildHasher> RecordLent<'_, K, V, H> {
         Ok(self.change(key, |before| before.map_or(Change::Keep, |_| Change::Put(value)))?.unwrap_or_default())
     }
 
-    // %doc replace_entry
     /// Gives a key this value if it still has the very entry that was read, and says whether it had; else nothing is changed.
     /// So no update that came in between is lost.
-    // %end
     ///
-    // %doc other_entries
     /// An entry of another map, or from before a renewal, is none that the map has.
-    // %end
     ///
     /// ```
     /// # use vbr::{RecordMap, Shape};
@@ -374,11 +363,9 @@ impl<K: RecordKey, V: Record, H: BuildHasher> RecordLent<'_, K, V, H> {
         Ok(self.written(entry.key, value)?.replace(entry.number, &entry.at, ())?.is_ok())
     }
 
-    // %doc vbr_map_remove: sentence returns
     /// Takes a key out with its value.
     ///
     /// Returns the value of the entry that this call took if the key was there, and is taken out; `None` if it was absent.
-    // %end
     ///
     /// It takes no slot.
     ///
@@ -404,16 +391,12 @@ impl<K: RecordKey, V: Record, H: BuildHasher> RecordLent<'_, K, V, H> {
         Ok(None)
     }
 
-    // %doc vbr_map_remove_entry: sentence returns
     /// Takes a key out with its value if it still has the very entry that was found.
     ///
     /// Returns `true` if the key had that entry, and is taken out. Returns `false` if it is absent, or was taken out and
     /// added again, or given a value, even the same one, since then; nothing was changed.
-    // %end
     ///
-    // %doc other_entries
     /// An entry of another map, or from before a renewal, is none that the map has.
-    // %end
     ///
     /// ```
     /// # use vbr::{RecordMap, Shape};
@@ -436,14 +419,12 @@ impl<K: RecordKey, V: Record, H: BuildHasher> RecordLent<'_, K, V, H> {
         self.lent.remove_entry(entry.number, &entry.at)
     }
 
-    // %doc compute
     /// Does with a key what a function says of the value that it has, or of none, and returns that value.
     ///
     /// The change is made only if the key still has what the function was given. Else it is called again, with what is there
     /// then. So each call on a key is given what the one before it left, and no change is lost.
-    // %end
     ///
-    /// `change` is the function that is asked.
+    /// `change` is the function. It is asked while a handle is on loan, so it makes no call of the map itself.
     ///
     /// ```
     /// # use vbr::{Change, RecordMap, Shape};

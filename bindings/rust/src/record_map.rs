@@ -1,4 +1,5 @@
 //! Maps of records: keys and values of any size.
+// tools/interface makes this file of bindings/interface/record_map.rs.in.
 use crate::record_entry::{At, Numbers, Opening, RecordEntry, RecordRefusal};
 use crate::{
     Change, Growth, Map, OpenError, OutOfSteps, PassOf, Record, RecordKey, RecordLent, Records, Refusal, RenewError, Shape,
@@ -8,16 +9,12 @@ use std::hash::{BuildHasher, RandomState};
 use std::sync::atomic::{AtomicU64, Ordering};
 use std::time::{Duration, Instant};
 
-// %doc record_map
 /// A map with keys and values of any size, in fixed memory, and without a lock. It is a map of numbers of 64 bits, and beside
 /// each of its slots a record, which has the value, and the key if that has more than 64 bits.
-// %end
 ///
-// %doc record_values
 /// A value is copied whole into a record that nobody else sees yet, and that record is never written again while the key has
 /// it. So a reader waits for nobody, and gets a copy that is whole, and that the key had at a moment of the call. Each change
 /// is made at one moment, of a value that was read: none is lost. Calls take no memory; an opening and a renewal do.
-// %end
 ///
 /// The two are a [`Map`] and [`Records`], and the type keeps the rules of both. Values are of any type of [`Record`]: structs by
 /// [`record!`](crate::record), numbers, arrays, [`SmallStr`](crate::SmallStr). Keys are of any type of [`RecordKey`]: of at most 64 bits
@@ -45,13 +42,11 @@ use std::time::{Duration, Instant};
 ///
 /// # Two keys with one hash
 ///
-// %doc record_keys
 /// A key of at most 64 bits is kept as it is. Of any other the map keeps 64 bits of its hash, and the record has the key,
 /// with which each call compares. Two keys with one hash aren't in the map at the same time: a call that would add the second
 /// one is refused, and no call gives the answer of one for the other. The hash has a key that is drawn, unless the program
 /// gives another hash, so nobody outside can choose keys that share it, or a bucket. Of n keys any two have one hash with a
 /// probability below n^2 / 2^65: 3 in a hundred million with a million keys.
-// %end
 ///
 /// The second key with a hash is refused by [`RecordRefusal::HashTaken`]. The usual hash is by [`RandomState`].
 ///
@@ -67,8 +62,10 @@ use std::time::{Duration, Instant};
 ///
 /// # Memory
 ///
-/// It is taken at the opening, and by renewals: that of a `Map`, and for each slot 8 bytes for each word of the value, and of the key
-/// if it is hashed. [`RecordMap::open`] has records for the slots of its shape. A map that is to grow is opened with more
+/// The opening and renewals take memory: that of a map of this shape, and for each slot a record, which is the value, and the
+/// key if it is hashed, in whole words of 8 bytes.
+///
+/// [`RecordMap::open`] has records for the slots of its shape. A map that is to grow is opened with more
 /// ([`RecordMap::open_up_to`]).
 pub struct RecordMap<K: RecordKey, V: Record, H = RandomState> {
     pub(crate) table: Map<u64, ()>,
@@ -103,7 +100,7 @@ impl<K: RecordKey, V: Record> RecordMap<K, V> {
     /// # use vbr::{RecordMap, Shape};
     /// let map: RecordMap<u64, [u64; 4]> = RecordMap::open(Shape::for_keys(1_000, 2))?; // 1,000 entries, two threads at a time
     /// assert_eq!((map.slots(), map.handle_count()), (1_128, 2));
-    /// # Ok::<(), vbr::OpenError>(())
+    /// # Ok::<(), Box<dyn std::error::Error>>(())
     /// ```
     ///
     /// # Errors
@@ -135,12 +132,14 @@ impl<K: RecordKey, V: Record> RecordMap<K, V> {
 }
 
 impl<K: RecordKey, V: Record, H: BuildHasher> RecordMap<K, V, H> {
-    /// As [`RecordMap::open_up_to`], with a hasher. Give it a key that nobody outside knows, if others choose the keys of the map: who can
-    /// choose two keys with one hash has the second one refused. Keys of at most 64 bits aren't hashed.
+    /// As [`RecordMap::open_up_to`], with a hasher for keys of more than 64 bits.
+    ///
+    /// If others choose the keys, a hash of the program's own has a key that nobody outside knows: whoever can compute it can
+    /// choose keys that share it.
     ///
     /// ```
-    /// # use std::hash::{BuildHasherDefault, DefaultHasher};
     /// # use vbr::{RecordMap, Shape, SmallStr};
+    /// # use std::hash::{BuildHasherDefault, DefaultHasher};
     /// let (shape, hasher) = (Shape::for_keys(8, 1), BuildHasherDefault::<DefaultHasher>::new()); // the same in each run
     /// let ports: RecordMap<SmallStr<8>, u16, _> = RecordMap::open_with_hasher(shape, shape.slots, hasher)?;
     /// assert!(ports.try_insert(SmallStr::new("https")?, 443)?);
@@ -166,14 +165,12 @@ impl<K: RecordKey, V: Record, H: BuildHasher> RecordMap<K, V, H> {
 
 /// What a map is, its loans, and its renewals.
 impl<K: RecordKey, V: Record, H> RecordMap<K, V, H> {
-    // %doc vbr_map_slots: sentence
     /// Returns how many slots the map was opened with.
-    // %end
     ///
     /// ```
     /// # use vbr::{RecordMap, Shape};
     /// assert_eq!(RecordMap::<u64, f64>::open(Shape::for_keys(1_000, 2))?.slots(), 1_128);
-    /// # Ok::<(), vbr::OpenError>(())
+    /// # Ok::<(), Box<dyn std::error::Error>>(())
     /// ```
     pub fn slots(&self) -> u32 {
         self.table.slots()
@@ -184,20 +181,18 @@ impl<K: RecordKey, V: Record, H> RecordMap<K, V, H> {
     /// ```
     /// # use vbr::{RecordMap, Shape};
     /// assert_eq!(RecordMap::<u64, f64>::open_up_to(Shape::for_keys(8, 1), 5_000)?.most_slots(), 5_000);
-    /// # Ok::<(), vbr::OpenError>(())
+    /// # Ok::<(), Box<dyn std::error::Error>>(())
     /// ```
     pub fn most_slots(&self) -> u32 {
         self.records.slots()
     }
 
-    // %doc vbr_map_last_epoch: sentence
     /// Returns the last epoch that the map was opened with.
-    // %end
     ///
     /// ```
     /// # use vbr::{RecordMap, Shape};
     /// assert_eq!(RecordMap::<u64, f64>::open(Shape::new(8, 2, 100))?.last_epoch(), 100);
-    /// # Ok::<(), vbr::OpenError>(())
+    /// # Ok::<(), Box<dyn std::error::Error>>(())
     /// ```
     pub fn last_epoch(&self) -> u64 {
         self.table.last_epoch()
@@ -208,7 +203,7 @@ impl<K: RecordKey, V: Record, H> RecordMap<K, V, H> {
     /// ```
     /// # use vbr::{RecordMap, Shape};
     /// assert_eq!(RecordMap::<u64, f64>::open(Shape::for_keys(8, 3))?.handle_count(), 3);
-    /// # Ok::<(), vbr::OpenError>(())
+    /// # Ok::<(), Box<dyn std::error::Error>>(())
     /// ```
     pub fn handle_count(&self) -> usize {
         self.table.handle_count()
@@ -237,17 +232,15 @@ impl<K: RecordKey, V: Record, H> RecordMap<K, V, H> {
     /// let mine = map.lend_wait();
     /// assert_eq!(map.key_count_timeout(Duration::from_millis(1)), None);
     /// # drop(mine);
-    /// # Ok::<(), vbr::OpenError>(())
+    /// # Ok::<(), Box<dyn std::error::Error>>(())
     /// ```
     pub fn key_count_timeout(&self, limit: Duration) -> Option<u64> {
         self.table.key_count_timeout(limit)
     }
 
-    // %doc vbr_lend: sentence returns
     /// Lends a free handle.
     ///
     /// Returns the handle, or `None` if each was lent at some moment of the call, or they are being renewed.
-    // %end
     ///
     /// It never waits.
     ///
@@ -264,12 +257,10 @@ impl<K: RecordKey, V: Record, H> RecordMap<K, V, H> {
         self.table.lend().map(|lent| RecordLent::of(self, lent))
     }
 
-    // %doc lend_wait
     /// Lends a free handle as soon as there is one: if each is lent, the thread sleeps until one is given back.
     ///
     /// A thread that has a loan itself may wait for ever, and a loan without a name lasts to the end of its statement.
     /// Threads that wait have no order: one that comes later may be lent a handle before.
-    // %end
     ///
     /// ```
     /// # use vbr::{RecordMap, Shape};
@@ -281,16 +272,14 @@ impl<K: RecordKey, V: Record, H> RecordMap<K, V, H> {
     ///     }
     /// });
     /// assert_eq!(map.key_count(), 4);
-    /// # Ok::<(), vbr::OpenError>(())
+    /// # Ok::<(), Box<dyn std::error::Error>>(())
     /// ```
     #[inline]
     pub fn lend_wait(&self) -> RecordLent<'_, K, V, H> {
         RecordLent::of(self, self.table.lend_wait())
     }
 
-    // %doc lend_for
     /// Lends a free handle, as `lend_wait` does, or none if each was lent until the time was over.
-    // %end
     ///
     /// ```
     /// # use std::time::Duration;
@@ -299,25 +288,21 @@ impl<K: RecordKey, V: Record, H> RecordMap<K, V, H> {
     /// let mine = map.lend_timeout(Duration::from_secs(1)).expect("the one handle");
     /// assert!(map.lend_timeout(Duration::from_millis(1)).is_none());
     /// # drop(mine);
-    /// # Ok::<(), vbr::OpenError>(())
+    /// # Ok::<(), Box<dyn std::error::Error>>(())
     /// ```
     #[inline]
     pub fn lend_timeout(&self, limit: Duration) -> Option<RecordLent<'_, K, V, H>> {
         self.table.lend_timeout(limit).map(|lent| RecordLent::of(self, lent))
     }
 
-    // %doc vbr_map_lender_renew: sentence
     /// Lets the handles go on over a fresh map of this shape, as [`HandleOf::renew_all`](crate::HandleOf::renew_all) does,
     /// once none is on loan.
-    // %end
     ///
-    // %doc lender_renew
     /// It lends none meanwhile, and waits for the loans, so a thread that has one itself waits for ever. Threads that wait
     /// for a handle keep waiting. A refusal leaves the set as it was, and it lends again.
     ///
     /// If another thread renews to the same shape while this one waits, one renewal serves both. So each thread may ask for
     /// one if a call was refused since the last epoch is spent, once it has no loan.
-    // %end
     ///
     /// The records go along, as [`Records::renew`] carries them.
     ///
@@ -338,9 +323,7 @@ impl<K: RecordKey, V: Record, H> RecordMap<K, V, H> {
         self.records.renew(&self.table, shape)
     }
 
-    // %doc renew_for
     /// The same, or refused if not all loans were back when the time was over.
-    // %end
     ///
     /// ```
     /// # use std::time::Duration;
@@ -350,7 +333,7 @@ impl<K: RecordKey, V: Record, H> RecordMap<K, V, H> {
     /// let mine = map.lend_wait();
     /// assert_eq!(map.renew_timeout(shape, Duration::from_millis(1)), Err(RenewError::Lent));
     /// # drop(mine);
-    /// # Ok::<(), vbr::OpenError>(())
+    /// # Ok::<(), Box<dyn std::error::Error>>(())
     /// ```
     ///
     /// # Errors
@@ -438,25 +421,35 @@ impl<K: RecordKey, V: Record, H> RecordMap<K, V, H> {
 
 /// Calls of the map itself, each by a loan for it alone.
 impl<K: RecordKey, V: Record, H: BuildHasher> RecordMap<K, V, H> {
-    /// Whether a key is there, as [`RecordLent::has`] answers it.
+    /// Looks a key up without its value.
+    ///
+    /// Returns `true` if the key is there; `false` if it is absent.
+    ///
+    /// Of a hashed key it reads the key in the record, and no value.
+    ///
+    /// It is [`RecordLent::has`], by a loan for this call alone.
     ///
     /// ```
-    /// # use vbr::{RecordMap, Shape};
-    /// let map: RecordMap<u64, f64> = RecordMap::open(Shape::for_keys(8, 1))?;
-    /// map.put(5, 0.5)?;
-    /// assert!(map.has(5)? && !map.has(6)?);
+    /// # use vbr::{RecordMap, Shape, SmallStr};
+    /// let map: RecordMap<SmallStr<8>, f64> = RecordMap::open(Shape::for_keys(8, 1))?;
+    /// map.put(SmallStr::new("port")?, 0.5)?;
+    /// assert!(map.has(SmallStr::new("port")?)? && !map.has(SmallStr::new("gate")?)?);
     /// # Ok::<(), Box<dyn std::error::Error>>(())
     /// ```
     ///
     /// # Errors
     ///
-    /// [`OutOfSteps`].
+    /// The same as for [`RecordLent::has`].
     #[doc(alias = "contains_key")]
     pub fn has(&self, key: K) -> Result<bool, OutOfSteps> {
         self.lend_wait().has(key)
     }
 
-    /// The value of a key, whole, as [`RecordLent::get`] gives it.
+    /// Looks a key up and gives its value.
+    ///
+    /// Returns its value if the key is there; `None` if it is absent. It leaves the map as it was: its steps are loads.
+    ///
+    /// It is [`RecordLent::get`], by a loan for this call alone.
     ///
     /// ```
     /// # use vbr::{RecordMap, Shape};
@@ -468,45 +461,57 @@ impl<K: RecordKey, V: Record, H: BuildHasher> RecordMap<K, V, H> {
     ///
     /// # Errors
     ///
-    /// [`OutOfSteps`].
+    /// The same as for [`RecordLent::get`].
     pub fn get(&self, key: K) -> Result<Option<V>, OutOfSteps> {
         self.lend_wait().get(key)
     }
 
-    /// The entry of a key, as [`RecordLent::get_entry`] gives it.
+    /// The value of a key, as `get` gives it, and which entry it is of.
+    ///
+    /// It is [`RecordLent::get_entry`], by a loan for this call alone.
     ///
     /// ```
     /// # use vbr::{RecordMap, Shape};
     /// let map: RecordMap<u64, [u64; 4]> = RecordMap::open(Shape::for_keys(8, 1))?;
     /// map.put(5, [7; 4])?;
-    /// assert_eq!(map.get_entry(5)?.map(|entry| *entry.value()), Some([7; 4]));
+    /// let entry = map.get_entry(5)?.expect("5 is there");
+    /// assert_eq!((*entry.key(), *entry.value()), (5, [7; 4]));
     /// # Ok::<(), Box<dyn std::error::Error>>(())
     /// ```
     ///
     /// # Errors
     ///
-    /// [`OutOfSteps`].
+    /// The same as for [`RecordLent::get_entry`].
     pub fn get_entry(&self, key: K) -> Result<Option<RecordEntry<K, V>>, OutOfSteps> {
         self.lend_wait().get_entry(key)
     }
 
-    /// Adds a key with a value, and says whether it was absent, as [`RecordLent::try_insert`] does.
+    /// Adds a key with its value.
+    ///
+    /// Returns `true` if the key was absent, and is added; `false` if it was there, and keeps the value that it has.
+    ///
+    /// It is [`RecordLent::try_insert`], by a loan for this call alone.
     ///
     /// ```
     /// # use vbr::{RecordMap, Shape};
     /// let map: RecordMap<u64, [u64; 4]> = RecordMap::open(Shape::for_keys(8, 1))?;
     /// assert!(map.try_insert(5, [7; 4])? && !map.try_insert(5, [8; 4])?);
+    /// assert_eq!(map.get(5)?, Some([7; 4]));
     /// # Ok::<(), Box<dyn std::error::Error>>(())
     /// ```
     ///
     /// # Errors
     ///
-    /// The same as for [`RecordLent::try_insert`]. Nothing was changed then.
+    /// The same as for [`RecordLent::try_insert`].
     pub fn try_insert(&self, key: K, value: V) -> Result<bool, RecordRefusal> {
         self.lend_wait().try_insert(key, value)
     }
 
-    /// Gives a key this value, and gives the one that it had, as [`RecordLent::put`] does.
+    /// Gives a key this value, whether it is there or not.
+    ///
+    /// Returns the value that it had if the key was there, and has the new value; `None` if it was absent, and is inserted.
+    ///
+    /// It is [`RecordLent::put`], by a loan for this call alone.
     ///
     /// ```
     /// # use vbr::{RecordMap, Shape};
@@ -517,12 +522,17 @@ impl<K: RecordKey, V: Record, H: BuildHasher> RecordMap<K, V, H> {
     ///
     /// # Errors
     ///
-    /// The same as for [`RecordLent::put`]. Nothing was changed then.
+    /// The same as for [`RecordLent::put`].
     pub fn put(&self, key: K, value: V) -> Result<Option<V>, RecordRefusal> {
         self.lend_wait().put(key, value)
     }
 
-    /// Gives a key that is there another value, as [`RecordLent::replace`] does.
+    /// Gives a key that is there another value, so that no call finds it absent meanwhile.
+    ///
+    /// Returns the value that it had if the key was there, and has the new value; `None` if it was absent, and nothing was
+    /// changed.
+    ///
+    /// It is [`RecordLent::replace`], by a loan for this call alone.
     ///
     /// ```
     /// # use vbr::{RecordMap, Shape};
@@ -534,30 +544,43 @@ impl<K: RecordKey, V: Record, H: BuildHasher> RecordMap<K, V, H> {
     ///
     /// # Errors
     ///
-    /// The same as for [`RecordLent::replace`]. Nothing was changed then.
+    /// The same as for [`RecordLent::replace`].
     pub fn replace(&self, key: K, value: V) -> Result<Option<V>, Refusal> {
         self.lend_wait().replace(key, value)
     }
 
-    /// Gives a key another value if it still has the entry that was read, as [`RecordLent::replace_entry`] does.
+    /// Gives a key this value if it still has the very entry that was read, and says whether it had; else nothing is changed.
+    /// So no update that came in between is lost.
+    ///
+    /// An entry of another map, or from before a renewal, is none that the map has.
+    ///
+    /// It is [`RecordLent::replace_entry`], by a loan for this call alone.
     ///
     /// ```
     /// # use vbr::{RecordMap, Shape};
     /// let map: RecordMap<u64, [u64; 4]> = RecordMap::open(Shape::for_keys(8, 1))?;
     /// map.put(5, [7; 4])?;
     /// let entry = map.get_entry(5)?.expect("5 is there");
-    /// assert!(map.replace_entry(&entry, [8; 4])? && !map.replace_entry(&entry, [9; 4])?);
+    /// assert!(map.replace_entry(&entry, [8; 4])?);
+    /// assert!(!map.replace_entry(&entry, [9; 4])?); // it has another entry
+    /// assert_eq!(map.get(5)?, Some([8; 4]));
     /// # Ok::<(), Box<dyn std::error::Error>>(())
     /// ```
     ///
     /// # Errors
     ///
-    /// The same as for [`RecordLent::replace_entry`]. Nothing was changed then.
+    /// The same as for [`RecordLent::replace_entry`].
     pub fn replace_entry(&self, entry: &RecordEntry<K, V>, value: V) -> Result<bool, Refusal> {
         self.lend_wait().replace_entry(entry, value)
     }
 
-    /// Takes a key out, and gives the value that it had, as [`RecordLent::remove`] does.
+    /// Takes a key out with its value.
+    ///
+    /// Returns the value of the entry that this call took if the key was there, and is taken out; `None` if it was absent.
+    ///
+    /// It takes no slot.
+    ///
+    /// It is [`RecordLent::remove`], by a loan for this call alone.
     ///
     /// ```
     /// # use vbr::{RecordMap, Shape};
@@ -569,43 +592,61 @@ impl<K: RecordKey, V: Record, H: BuildHasher> RecordMap<K, V, H> {
     ///
     /// # Errors
     ///
-    /// [`OutOfSteps`]. Nothing was changed then.
+    /// The same as for [`RecordLent::remove`].
     pub fn remove(&self, key: K) -> Result<Option<V>, OutOfSteps> {
         self.lend_wait().remove(key)
     }
 
-    /// Takes a key out if it still has the entry that was read, as [`RecordLent::remove_entry`] does.
+    /// Takes a key out with its value if it still has the very entry that was found.
+    ///
+    /// Returns `true` if the key had that entry, and is taken out. Returns `false` if it is absent, or was taken out and
+    /// added again, or given a value, even the same one, since then; nothing was changed.
+    ///
+    /// An entry of another map, or from before a renewal, is none that the map has.
+    ///
+    /// It is [`RecordLent::remove_entry`], by a loan for this call alone.
     ///
     /// ```
     /// # use vbr::{RecordMap, Shape};
     /// let map: RecordMap<u64, [u64; 4]> = RecordMap::open(Shape::for_keys(8, 1))?;
     /// map.put(5, [7; 4])?;
     /// let entry = map.get_entry(5)?.expect("5 is there");
-    /// assert!(map.remove_entry(&entry)? && !map.remove_entry(&entry)?);
+    /// map.put(5, [8; 4])?;
+    /// assert!(!map.remove_entry(&entry)?); // it was changed since
     /// # Ok::<(), Box<dyn std::error::Error>>(())
     /// ```
     ///
     /// # Errors
     ///
-    /// [`OutOfSteps`]. Nothing was changed then.
+    /// The same as for [`RecordLent::remove_entry`].
     pub fn remove_entry(&self, entry: &RecordEntry<K, V>) -> Result<bool, OutOfSteps> {
         self.lend_wait().remove_entry(entry)
     }
 
-    /// Does with a key what `change` says of what is there, as [`RecordLent::compute`] does. `change` is asked while a handle is on
-    /// loan, so it makes no call of the map itself.
+    /// Does with a key what a function says of the value that it has, or of none, and returns that value.
+    ///
+    /// The change is made only if the key still has what the function was given. Else it is called again, with what is there
+    /// then. So each call on a key is given what the one before it left, and no change is lost.
+    ///
+    /// `change` is the function. It is asked while a handle is on loan, so it makes no call of the map itself.
+    ///
+    /// It is [`RecordLent::compute`], by a loan for this call alone.
     ///
     /// ```
     /// # use vbr::{Change, RecordMap, Shape};
-    /// let map: RecordMap<u64, [u64; 4]> = RecordMap::open(Shape::for_keys(8, 1))?;
-    /// map.put(5, [7; 4])?;
-    /// assert_eq!(map.compute(5, |_| Change::Remove)?, Some([7; 4]));
+    /// let map: RecordMap<u64, [u64; 2]> = RecordMap::open(Shape::for_keys(8, 1))?;
+    /// let one_more = |before: Option<[u64; 2]>| Change::Put([before.map_or(1, |[count, _]| count + 1), 70]);
+    /// assert_eq!(map.compute(5, one_more)?, None);
+    /// assert_eq!(map.compute(5, one_more)?, Some([1, 70]));
+    /// assert_eq!(map.compute(5, |_| Change::Keep)?, Some([2, 70]));
+    /// assert_eq!(map.compute(5, |_| Change::Remove)?, Some([2, 70]));
+    /// assert!(!map.has(5)?);
     /// # Ok::<(), Box<dyn std::error::Error>>(())
     /// ```
     ///
     /// # Errors
     ///
-    /// The same as for [`RecordLent::compute`]. Nothing was changed then.
+    /// The same as for [`RecordLent::compute`].
     pub fn compute(&self, key: K, change: impl FnMut(Option<V>) -> Change<V>) -> Result<Option<V>, RecordRefusal> {
         self.lend_wait().compute(key, change)
     }
