@@ -23,7 +23,7 @@ DEFINE = re.compile(r"(/\*(?:(?!\*/).)*\*/)\n#define (VBR_\w+) ", re.S)
 TYPE = re.compile(r"(/\*(?:(?!\*/).)*\*/)\ntypedef struct (\w+) \{\n(.*?)^\}", re.M | re.S)
 FIELD = re.compile(r"(\w+);\s*/\* (.*?) \*/")
 SAID = re.compile(r"^%said (\w+)\n(.*?)(?=^%said |\Z)", re.M | re.S)
-IN_CPP = re.compile(r"^( *?)(/\* |   )%doc ([\w.]+)(?:: ([\w ]+))?\n((?:.+\n)*)(?=\n(?:.*\n)*?.*\*/\n *(?:template <.*>\n *)?(?:static )?(?:result<(bool|std::optional)|(found) )?)", re.M)
+IN_CPP = re.compile(r"^( *?)(/\* |   )%doc ([\w.]+)(?:: ([\w ]+))?\n((?:(?!.*\*/).+\n)*)(?=\n(?:.*\n)*?.*\*/\n *(?:template <.*>\n *)?(?:static )?(?:result<(bool|std::optional)|(found) )?)", re.M)
 FIELD_IN_CPP = re.compile(r"%doc ([\w.]+)(?=(?:;.*)? \*/)")
 ITEM_IN_CPP = re.compile(r"^( *   - \w+: )%doc (\w+)$", re.M)
 HEAD = re.compile(r"^ *(?:%number |pub (?:(?:const |unsafe )?fn|const|type|struct|enum) ([^{;]*))", re.M)
@@ -265,4 +265,6 @@ def in_cpp(text, path):
         return " ".join(f"{sentence[0].lower()}{sentence[1:-1]}".split())
 
     text = ITEM_IN_CPP.sub(lambda it: interface.fill(of_field(it[2]), CPP_MOST, it[1], " " * it[1].index("-") + "  "), IN_CPP.sub(made, text))
-    return FIELD_IN_CPP.sub(lambda it: of_field(it[1]), text)
+    text = FIELD_IN_CPP.sub(lambda it: of_field(it[1]), text)
+    left = re.search("%doc .*", text)
+    return fail(f"{path}: {left[0]} stands where nothing is made of it") if left else text

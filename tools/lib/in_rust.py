@@ -33,14 +33,16 @@ def exported():
 
 
 def framed(it):
-    """An example with the hidden lines that it lacks: the names that it uses, unless it says so itself, and its end, if it asks for answers."""
+    """An example with the hidden lines that it lacks: what it uses, unless it says so itself, and its end, if it asks for answers."""
     begin, how, body = it.groups()
-    code = re.sub(r"//.*", "", re.sub(f"^{begin}", "", body, flags=re.M))
+    if how:
+        return it[0]
+    code = re.sub(f"^{begin}|//.*", "", body, flags=re.M)
     used = sorted(set(re.findall(r"(?<![:\w'])[A-Z]\w*", code)) & exported()) if "use vbr::" not in code else []
-    names = f"{{{', '.join(used)}}}" if len(used) > 1 else "".join(used)
-    before = [*["# use std::time::Duration;"] * ("Duration::" in code and "use std::time" not in code), *[f"# use vbr::{names};"] * bool(used)]
-    after = ["# Ok::<(), Box<dyn std::error::Error>>(())"] * ("?" in code and "Ok::<(), " not in code)
-    return it[0] if how else "".join([f"{begin} ```\n", *[f"{begin} {one}\n" for one in before], body, *[f"{begin} {one}\n" for one in after], f"{begin} ```\n"])
+    uses = ["std::time::Duration"] * ("Duration::" in code and "use std::time" not in code)
+    uses += [f"vbr::{{{', '.join(used)}}}" if len(used) > 1 else f"vbr::{it}" for it in used[:1]]
+    end = [f"{begin} # Ok::<(), Box<dyn std::error::Error>>(())\n"] * ("?" in code and "Ok::<(), " not in code)
+    return "".join([f"{begin} ```\n", *[f"{begin} # use {it};\n" for it in uses], body, *end, f"{begin} ```\n"])
 
 
 def both_forms(it, owner):
@@ -60,20 +62,23 @@ def both_forms(it, owner):
     return comment + marks + head(indent, name, re.sub(r"mut (?=\w+: )", "", given), returns) + body + within
 
 
-def by_loan(asked):
-    """The calls of what lends, by a loan for each alone, as the file of the loan has them: their comments, examples and heads."""
-    path, made = f"bindings/interface/{asked[1]}.rs.in", []
-    text = with_docs(text_of_kind(text_of(f"{ROOT}/{path}"), None), path)
-    for name in asked[2].split():
-        comment, marks, types, given, returns = re.search(METHOD.format(name), text).groups()
-        link, passed = f"[`{LOANS[asked[1]]}::{name}`]", re.findall(r"(?:^|, )(?:mut )?(\w+): ", given)
-        example = LENT.sub("", EXAMPLE.search(comment)[0])
-        example = example.replace("mine.", f"{LENT.search(comment)[1]}.") if LENT.search(comment) else example
-        said = [comment[: EXAMPLE.search(comment).start()], laid_out("    ", [f"It is {link}, by a loan for this call alone."]), f"    ///\n{example}    ///\n"]
-        said.append(laid_out("    ", ["# Errors", f"The same as for {link}."]))
-        begin = head("    ", f"{name}{types or ''}", f"&self, {given.replace('mut ', '')}", f" -> {returns}")
-        made.append("".join([*said, marks.replace("    #[inline]\n", ""), f"{begin}        self.lend_wait().{name}({', '.join(passed)})\n    }}\n"]))
-    return "\n".join(made)
+def by_loan(name, loan, text):
+    """A call of what lends, by a loan for it alone, with the comment, the example and the head that the loan's call has in this text."""
+    comment, marks, types, given, returns = re.search(METHOD.format(name), text).groups()
+    example, lent, link = EXAMPLE.search(comment), LENT.search(comment), f"[`{loan}::{name}`]"
+    shown = LENT.sub("", example[0]).replace("mine.", f"{lent[1]}." if lent else "mine.")
+    said = [comment[: example.start()], laid_out("    ", [f"It is {link}, by a loan for this call alone."]), f"    ///\n{shown}    ///\n"]
+    said += [laid_out("    ", ["# Errors", f"The same as for {link}."]), marks.replace("    #[inline]\n", "")]
+    begin = head("    ", f"{name}{types or ''}", f"&self, {given.replace('mut ', '')}", f" -> {returns}")
+    passed = re.findall(r"(?:^|, )(?:mut )?(\w+): ", given)
+    return "".join([*said, begin, f"        self.lend_wait().{name}({', '.join(passed)})\n    }}\n"])
+
+
+def by_loans(it):
+    """Such calls, of the file of the loan that a line names."""
+    path = f"bindings/interface/{it[1]}.rs.in"
+    text = with_docs(text_of(f"{ROOT}/{path}"), path)
+    return "\n".join(by_loan(name, LOANS[it[1]], text) for name in it[2].split())
 
 
 def head(indent, name, given, returns):
@@ -100,7 +105,7 @@ def source(prototypes, name, owner, kind=None):
     path = f"bindings/interface/{name}.rs.in"
     text = with_docs(text_of_kind(text_of(f"{ROOT}/{path}"), kind), path)
     text = re.sub(r"^    %number (\w+)", lambda it: number(of[f"vbr_{it[1]}"]), text, flags=re.M)
-    text = BY_LOAN.sub(by_loan, CALL.sub(lambda it: both_forms(it, owner), text))
+    text = BY_LOAN.sub(by_loans, CALL.sub(lambda it: both_forms(it, owner), text))
     first, rest = EXAMPLE.sub(framed, text).split("\n", 1)
     return f"{first}\n// tools/interface makes this file of {path}.\n{rest}"
 
