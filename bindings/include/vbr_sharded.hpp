@@ -179,8 +179,8 @@ public:
         return call(key, [&](pass_type &mine) { return mine.has(key); });
     }
 
-    /* How many keys are in, about: the sum of count_about of each lender. It is exact while no loan is out, and so no call is under way. Else it
-       is off by at most the keys that the loans which are out during it add or take out.
+    /* How many keys are in, about: the sum of count_about of each lender. It is exact while no loan is out. Else it is off by at most the keys
+       that the loans which are out during it add or take out.
 
            std::int64_t about = pages.count_about(); // 1: 5 is in */
     std::int64_t count_about() const noexcept {

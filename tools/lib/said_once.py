@@ -24,11 +24,12 @@ def comments(path):
     """The comments of a file for those who call it, by paragraphs, without examples."""
     text = without_marks(MADE.sub("", text_of(path)))
     if path.endswith((".rs", ".rs.in")):
+        text = re.sub(r"^( *)%(number)?.*$", lambda it: f"{it[1]}{'pub ' if it[2] else '///'}", text, flags=re.M)  # what is made there
         found = [re.sub(r"```.*?```", "\n\n", re.sub(r"^ *//[/!] ?", "", it, flags=re.M), flags=re.S) for it in RUST.findall(text)]
     elif path.endswith(("cpp_and_rust.in", "caches.in")):
         found = [text]
     else:
-        found = re.findall(r"/\*(.*?)\*/", PRIVATE.sub("", text), re.S)
+        found = [re.sub(f"^{indent}", "", it, flags=re.M) for indent, it in re.findall(r"( *)/\*(.*?)\*/", PRIVATE.sub("", text), re.S)]
     return [it for each in found for it in re.split(r"\n[ \t]*\n|^.*%doc .*$|^ {7}.*$", each, flags=re.M) if "It is no part of the interface." not in each]
 
 

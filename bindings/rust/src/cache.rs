@@ -42,8 +42,8 @@ use std::time::{Duration, Instant};
 /// # Calls and loans
 ///
 /// The cache lends its handles. A [`CacheLent`] makes all calls. The cache itself has the most frequent ones, which lend a handle each,
-/// and have it back when they return; a thread that makes many keeps a loan for them. A thread that has a loan itself may wait for ever
-/// in such a call, and so it may in a closure that the cache asks, but for a loader.
+/// and have it back when they return; a thread that makes many keeps a loan for them. So a thread with a loan makes none of these, nor does
+/// a closure that the cache asks, but for a loader: they would wait for a second loan.
 ///
 /// # What goes
 ///
