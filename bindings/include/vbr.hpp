@@ -182,7 +182,7 @@ enum class [[nodiscard]] refusal : std::int32_t {
     reshaped = VBR_RESHAPED,         /* the walk began on another opening: the set was renewed since, or the handle was opened anew;
                                         nothing is given, and the cursor stays; begin anew, from VBR_CURSOR_BEGIN */
     hash_taken = -100,               /* of a record map alone: another key with the same hash is there; nothing was done */
-    too_long = -101,                 /* of a small_string alone: the text has more bytes than there is room for; none was made */
+    too_long = -101,                 /* of a small_string alone: there are more bytes than there is room for; none was made */
     too_few_bytes = -102,            /* of a cache alone: an entry and the handles take more bytes; nothing was done */
     load_under_way = -103            /* of a cache alone: a loader of the key is under way, which isn't waited for; nothing was done */
 };

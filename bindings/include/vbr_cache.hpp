@@ -1,10 +1,9 @@
-/* A cache with keys and values of any size, in fixed memory: a record map that evicts. It keeps as many entries as it was opened for. Of
-   two keys with one hash the one that comes later takes the other's place.
+/* A cache with keys and values of any size, in fixed memory: a record map that evicts, with the same keys and values. It keeps as many
+   entries as it was opened for. Of two keys with one hash the one that comes later takes the other's place.
 
    Its calls take no lock, but for those that load a key, and those that change one while loads are under way.
 
-   This header is for C++17 and later. Keys and values are those of vbr_record_map.hpp: trivially copyable, and a text or bytes as a
-   small_string or small_bytes.
+   This header is for C++17 and later. Keys and values are trivially copyable, and a text or bytes a small_string or small_bytes.
 
        using users = vbr::cache<vbr::small_string<31>, user>;
        users cache = users::open_bytes(1 << 20, 8).value();          // in a mebibyte at most, for 8 threads at a time
@@ -735,7 +734,7 @@ public:
 
        How many bytes of the heap it takes at most at any moment, in its opening and its renewals too.
 
-       And how many handles it lends, and how many are on loan. All are 0 of one that lends nothing.
+       How many handles it lends. So many as `on_loan` says are on loan. All are 0 of a cache that lends nothing.
 
            if (cache.bytes() > 1 << 20 || cache.capacity() < 1000 || cache.handles() != 8 || cache.on_loan() != 1) return 1; */
     std::uint32_t capacity() const noexcept { return all ? all->capacity : 0; }

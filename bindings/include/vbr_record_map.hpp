@@ -667,8 +667,9 @@ public:
        keep waiting. A refusal leaves the set as it was, and it lends again.
 
        If another thread renews to the same shape while this one waits, one renewal serves both. So each thread may ask for one if a call
-       was refused since the last epoch is spent, once it has no loan. Keys and values go along. It takes the memory of both maps, but of
-       records only if their number changes.
+       was refused since the last epoch is spent, once it has no loan.
+
+       The records go along. It takes the memory of both maps, but of records only if their number changes.
 
            vbr::result<void> renewed = map.renew(vbr::shape::for_keys(2000, 8)); */
     result<void> renew(const shape &wanted) { return renew_until(wanted, std::nullopt); }
@@ -686,7 +687,9 @@ public:
            std::int64_t about = map.count_about(); */
     std::int64_t count_about() const noexcept { return all ? all->lender.count_about() : 0; }
 
-    /* What it was opened with, how many handles it lends, and how many of them are on loan; 0 without any.
+    /* What it was opened with. All are 0 of a map that lends nothing.
+
+       How many handles it lends. So many as `on_loan` says are on loan.
 
            if (map.slots() != shape.slots || map.handles() != 8 || map.on_loan() != 1) return 1; */
     std::uint32_t slots() const noexcept { return all ? all->lender.slots() : 0; }

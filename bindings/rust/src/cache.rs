@@ -12,12 +12,12 @@ use std::hash::{BuildHasher, RandomState};
 use std::sync::atomic::{AtomicU64, Ordering::Relaxed};
 use std::time::{Duration, Instant};
 
-/// A cache with keys and values of any size, in fixed memory: a record map that evicts. It keeps as many entries as it was
-/// opened for. Of two keys with one hash the one that comes later takes the other's place.
+/// A cache with keys and values of any size, in fixed memory: a record map that evicts, with the same keys and values. It
+/// keeps as many entries as it was opened for. Of two keys with one hash the one that comes later takes the other's place.
 ///
 /// Its calls take no lock, but for those that load a key, and those that change one while loads are under way.
 ///
-/// Keys and values are those of a [`RecordMap`](crate::RecordMap): numbers, structs by [`record!`](crate::record), strings by
+/// As in a [`RecordMap`](crate::RecordMap) they are numbers, structs by [`record!`](crate::record), strings by
 /// [`SmallStr`](crate::SmallStr), bytes by [`SmallBytes`](crate::SmallBytes).
 ///
 /// ```
@@ -41,9 +41,12 @@ use std::time::{Duration, Instant};
 ///
 /// # Calls and loans
 ///
-/// The cache lends its handles. A [`CacheLent`] makes all calls. The cache itself has the most frequent ones, which lend a handle each,
-/// and have it back when they return; a thread that makes many keeps a loan for them. So a thread with a loan makes none of these, nor does
-/// a closure that the cache asks, but for a loader: they would wait for a second loan.
+/// The cache lends its handles. A [`CacheLent`] makes all calls, and the cache itself has the most frequent ones.
+///
+/// Its own calls lend a handle each, and have it back when they return; a thread that makes many keeps a loan for them. A
+/// thread that has a loan makes none of these, nor does a function that such a call asks: they would wait for a second loan.
+///
+/// A loader may make them, since the loan has no handle while it runs.
 ///
 /// # What goes
 ///

@@ -53,8 +53,10 @@ use std::time::{Duration, Instant};
 /// # Calls, loans and renewals
 ///
 /// The map lends its handles, as a [`Table`](crate::Table) does. [`RecordMap::lend_wait`] gives a [`RecordLent`], which makes all
-/// calls. Calls of the map itself lend a handle each, and have it back when they return; a thread that makes many keeps a loan for
-/// them. A closure that the map asks makes no call of the map: it would wait for a second loan.
+/// calls.
+///
+/// Its own calls lend a handle each, and have it back when they return; a thread that makes many keeps a loan for them. A
+/// thread that has a loan makes none of these, nor does a function that such a call asks: they would wait for a second loan.
 ///
 /// An insert takes a slot, and so does each new value. So these calls are refused as those of a map ([`Refusal`]): without a
 /// slot, and after the last epoch. [`RecordMap::call`] then renews the map and calls again; [`RecordMap::renew`] is for a clock. Both
@@ -198,7 +200,7 @@ impl<K: RecordKey, V: Record, H> RecordMap<K, V, H> {
         self.table.last_epoch()
     }
 
-    /// How many handles the map lends.
+    /// How many handles it lends.
     ///
     /// ```
     /// # use vbr::{RecordMap, Shape};
@@ -304,7 +306,9 @@ impl<K: RecordKey, V: Record, H> RecordMap<K, V, H> {
     /// If another thread renews to the same shape while this one waits, one renewal serves both. So each thread may ask for
     /// one if a call was refused since the last epoch is spent, once it has no loan.
     ///
-    /// The records go along, as [`Records::renew`] carries them.
+    /// The records go along.
+    ///
+    /// [`Records::renew`] carries them.
     ///
     /// ```
     /// # use vbr::{RecordMap, Shape};

@@ -25,7 +25,11 @@ pub struct SmallBytes<const N: usize> {
     bytes: [u8; N],
 }
 
-/// Why a text isn't made a [`SmallStr`](crate::SmallStr), or bytes a [`SmallBytes`]: they are more than there is room for.
+/// Why a text isn't made a [`SmallStr`](crate::SmallStr), or bytes a [`SmallBytes`].
+///
+// %doc too_long
+/// There are more bytes than there is room for.
+// %end
 ///
 /// ```
 /// # use vbr::SmallStr;
