@@ -411,8 +411,8 @@ impl<K: RecordKey, V: Record, H: BuildHasher> CacheLent<'_, K, V, H> {
     /// that change doesn't wait for it. So once `remove` returns nobody finds what was loaded before. A value isn't kept
     /// either if its put would be refused.
     ///
-    /// Those that wait look again then. A loader may make calls of the cache for other keys, and fails by an error or a panic. Of more than
-    /// 256 loads at a time the others aren't shared, and what they bring isn't kept.
+    /// A loader may make calls of the cache for other keys, and fails by an error or a panic. Those that waited for it look the key up again.
+    /// Of more than 256 loads at a time the others aren't shared, and what they bring isn't kept.
     ///
     /// ```
     /// # use vbr::{Cache, LoadError};
