@@ -347,7 +347,7 @@ public:
         return compute(key, [&](const auto &) { return change::put_for(value, time); });
     }
 
-    /* Adds a key with its value, as `put` does, and says whether it was absent. Else its value and its time stay.
+    /* Adds a key with its value, as `put` does, and says whether it was absent. A key that is there keeps its value and its time.
 
            bool added = mine.insert(who, user{5, 3}).value(); */
     result<bool> insert(const Key &key, const Value &value) {

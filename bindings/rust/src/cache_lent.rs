@@ -272,7 +272,8 @@ impl<K: RecordKey, V: Record, H: BuildHasher> CacheLent<'_, K, V, H> {
         self.compute(key, |_| CacheChange::PutFor(value, time))
     }
 
-    /// Adds a key with its value, as `put` does, and says whether it was absent. Else its value and its time stay.
+    /// Adds a key with its value, as `put` does, and says whether it was absent. A key that is there keeps its value and its
+    /// time.
     ///
     /// ```
     /// # use vbr::Cache;
@@ -381,8 +382,8 @@ impl<K: RecordKey, V: Record, H: BuildHasher> CacheLent<'_, K, V, H> {
     /// slots; and by [`Refusal::EpochSpent`] if the program renews the cache and has not. The key is as it was then, though
     /// another entry may have been evicted.
     ///
-    /// The slots of entries that were taken out may also be missing since removes had too few steps to free them, and the last epoch may be
-    /// spent since there is no memory for a renewal.
+    /// [`Refusal::NoSlot`] also comes if removes had too few steps to free their slots, and [`Refusal::EpochSpent`] if there is no memory
+    /// for a renewal.
     pub fn compute(&mut self, key: K, mut change: impl FnMut(Option<V>) -> CacheChange<V>) -> Result<Option<V>, Refusal> {
         let (cache, number) = (self.cache, self.cache.number_of(key));
         cache.loads.outdate(|it| it == number);
