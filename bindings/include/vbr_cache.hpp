@@ -557,7 +557,7 @@ private:
         if (wanted.what == kind::remove) return take_out(word, there.at);
         const std::uint64_t until = wanted.what == kind::update && before ? there.record.value.until : table->until(wanted.lives);
         if (!instead) make_room();
-        const result<bool> told = mine.publish(word, instead, record_loan::record_of(key, {word, until, *has_word, *wanted.value}));
+        const result<bool> told = mine.publish(word, instead, record_loan::record_of(key, {word, until, before.has_value(), *wanted.value}));
         if (!instead && told != true) is_shorter();
         if (instead && told == true && !before) count(is_own ? &cache_statistics::expiries : &cache_statistics::evictions);
         return told;
