@@ -381,7 +381,7 @@ struct [[nodiscard]] compared {
     }
 };
 
-/* Whether two values of a type are the same just where their bytes are. It is so of integers, enumerations, pointers, and structs of
+/* Whether two values of a type are the same exactly if their bytes are. It is so of integers, enumerations, pointers, and structs of
    such without padding; these may be keys and values. A program may say it of a type of its own, or of float or double as a key,
    whose 0.0 and -0.0 are then two keys.
 

@@ -297,7 +297,7 @@ class [[nodiscard]] cache_loan {
 public:
     using change = cache_change<Value>;
     using cursor = record_cursor;
-    using found = result<std::optional<Value>>; /* a value; none where the key was absent or had expired */
+    using found = result<std::optional<Value>>; /* a value; none if the key was absent or had expired */
 
     /* As of a record map.
 
@@ -540,7 +540,7 @@ private:
         return refusal::out_of_steps;
     }
 
-    /* The same once, by the handle as it is: true if it was done. What was there before goes where there is none yet. */
+    /* The same once, by the handle as it is: true if it was done. What was there goes into `before`, unless it has expired. */
     template <class Ask>
     result<bool> attempt_by(const Key &key, std::uint64_t word, Ask &ask, std::optional<Value> &before) {
         using kind = typename change::kind;

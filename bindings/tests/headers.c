@@ -22,7 +22,7 @@
 
 enum { KEYS = 8, HANDLES = 2, SLOTS = KEYS + HANDLES * 64 };
 
-/* Each answer once: a compiler that knows the enum tells where one is missing. */
+/* Each answer once: a compiler that knows the enum warns if one is missing. */
 static const char *text_of(vbr_answer answer) {
     switch (answer) {
     case VBR_NO: case VBR_YES: case VBR_OTHER: case VBR_OUT_OF_STEPS: case VBR_NO_SLOT: case VBR_EPOCH_SPENT: case VBR_NO_HANDLE:

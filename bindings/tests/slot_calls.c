@@ -1,5 +1,5 @@
 /* Each call on slots in hand, and on records beside them, as the example in its comment has it: tests/pages and bindings/headers see
-   that these lines are those. And what each of them answers where it isn't done. tools/interface makes it of
+   that these lines are those. And what each of them answers if it isn't done. tools/interface makes it of
    bindings/interface/slot_calls.c.in. */
 #define _GNU_SOURCE
 #include "client.h"

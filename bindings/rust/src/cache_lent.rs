@@ -355,7 +355,7 @@ impl<K: RecordKey, V: Record, H: BuildHasher> CacheLent<'_, K, V, H> {
     /// The change is made only if the key still has the entry that the function was told of. Else it is asked again, of what
     /// is there then. So no change is lost.
     ///
-    /// `change` is the function. It is asked while a handle is on loan, so it makes no call of the cache.
+    /// `change` is the function. It is asked while a handle is on loan, so it makes no call on the cache.
     ///
     /// ```
     /// # use std::time::Duration;

@@ -416,7 +416,7 @@ impl<K: Bits, V: Bits> PassOf<Entries<K, V>> {
                 (Change::Keep, _) | (Change::Remove, None) => Compared::Equal,
                 (Change::Remove, Some(bits)) => self.remove_bits_within(key, bits, steps)?,
                 (Change::Put(value), Some(bits)) => self.exchange_bits_within(key, bits, value, steps)?,
-                // where other bits are there, the next exchange tells which
+                // if other bits are there, the next exchange returns them
                 (Change::Put(value), None) => self
                     .get_or_insert_within(key, value, steps)?
                     .map_or(Compared::Equal, |there| Compared::Other(there.to_bits())),
@@ -562,7 +562,7 @@ impl<K: Bits, V: Bits> PassOf<Entries<K, V>> {
     pub fn retain(&mut self, mut keep: impl FnMut(K, V) -> bool) -> Result<u64, OutOfSteps> {
         let (mut cursor, mut count, steps) = (Cursor::first(), 0, self.steps());
         while let Some((key, value)) = self.walk_on(&mut cursor, steps)? {
-            // where other bits are there than the value has, the first remove tells which
+            // if other bits are there than the value has, the first remove returns them
             let taken = self.remove_seen_within(key, Some(value.to_bits()), |value| !keep(key, value), steps)?;
             count += u64::from(taken.is_some());
         }

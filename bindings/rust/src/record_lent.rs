@@ -424,7 +424,7 @@ impl<K: RecordKey, V: Record, H: BuildHasher> RecordLent<'_, K, V, H> {
     /// The change is made only if the key still has what the function was given. Else it is called again, with what is there
     /// then. So each call on a key is given what the one before it left, and no change is lost.
     ///
-    /// `change` is the function. It is asked while a handle is on loan, so it makes no call of the map itself.
+    /// `change` is the function. It is asked while a handle is on loan, so it makes no call on the map itself.
     ///
     /// ```
     /// # use vbr::{Change, RecordMap, Shape};

@@ -632,7 +632,7 @@ impl<K: RecordKey, V: Record, H: BuildHasher> RecordMap<K, V, H> {
     /// The change is made only if the key still has what the function was given. Else it is called again, with what is there
     /// then. So each call on a key is given what the one before it left, and no change is lost.
     ///
-    /// `change` is the function. It is asked while a handle is on loan, so it makes no call of the map itself.
+    /// `change` is the function. It is asked while a handle is on loan, so it makes no call on the map itself.
     ///
     /// It is [`RecordLent::compute`], by a loan for this call alone.
     ///

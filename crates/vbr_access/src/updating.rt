@@ -36,7 +36,7 @@ pub fn update(
     update_entry(slots, pass, pred, succ, key, 0, hand)
 }
 
-/// As [`vbr_at_table::update`], by a pass, whose steps are counted: three, and a fourth where nodes have
+/// As [`vbr_at_table::update`], by a pass, whose steps are counted: three, and a fourth if nodes have
 /// values, for this value.
 #[inline]
 pub fn update_entry<N: Nodes>(

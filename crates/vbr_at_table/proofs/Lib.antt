@@ -12,7 +12,7 @@ mod returns
 mod flags
 -- Exchanges of link words: what is written, and what the winner knows.
 mod exchanges
--- Steps that answer an operation, and what they tell of keys, values and records.
+-- Steps that answer an operation, and what they show of keys, values and records.
 mod answers
 -- The lemmas that other crates cite.
 pub mod Lemmas

@@ -19,7 +19,7 @@ use vbr_slots::AtTable;
 use vbr_words::{At, Nodes};
 
 /// Answers, in one step, that the key of a node is present: a look-up with yes, an insert with no, and
-/// a get, where nodes have values and the one of this node was checked, with its value. It does so only
+/// a get, if nodes have values and the one of this node was checked, with its value. It does so only
 /// if the node's link is still the unmarked one that is held. Else it answers LostExchange: no call
 /// was made, and what the pass knew it knows.
 #[inline]
@@ -51,7 +51,7 @@ pub fn confirm_present<N: Nodes>(
     }
 }
 
-/// Answers, in one step, that a key is absent: a look-up or a remove with no, and a get with no, where
+/// Answers, in one step, that a key is absent: a look-up or a remove with no, and a get with no, if
 /// nodes have values. The key would stand behind `pred` and before what its link names, or what marked
 /// nodes lead to from there. It does so only if that link is still the unmarked one that is held:
 /// then all nodes between are still marked. Else it answers LostExchange: no call was made, and what the

@@ -6,7 +6,7 @@ use vbr_slots::AtTable;
 use vbr_words::Nodes;
 
 /// Puts all slots of the own pool into the shared pool, one step for each, and returns how many they were.
-/// From there any pass may take them. It makes no call of the set, changes no list, and can't fail.
+/// From there any pass may take them. It makes no call on the set, changes no list, and can't fail.
 pub fn give_slots_back<N: Nodes>(at: &mut AtTable<'_, N>) -> u32
     ensures table { IsSameTable at.old at.new }
     ensures gives { GivesSlotsBack (pass_of at.old) (pass_of at.new) result }

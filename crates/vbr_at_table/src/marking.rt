@@ -13,7 +13,7 @@ use crate::rollback::Rollback;
 use vbr_slots::AtTable;
 use vbr_words::{At, Nodes, with_mark};
 
-/// Marks a node, in one step: the pass has removed its key. Where nodes have values, the one of this
+/// Marks a node, in one step: the pass has removed its key. If nodes have values, the one of this
 /// node was checked, and the call gives it. It does so only if the node's link is still the unmarked
 /// one that is held. Else it answers LostExchange: no call was made, and what the pass knew it knows.
 #[inline]

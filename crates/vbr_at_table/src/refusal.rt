@@ -5,7 +5,7 @@ use std::fmt;
 /// Why [`crate::take`] took no slot, or why a call of the list gave no answer, which stands on it.
 ///
 /// If no slot was taken, nothing is in hand, and the own pool is as it was; or it was empty, and
-/// has the one slot whose flag was won. Where a call gave no answer, the pass made no call, it has no
+/// has the one slot whose flag was won. If a call gave no answer, the pass made no call, it has no
 /// slot in hand, and each slot that it could take is in its own pool.
 #[derive(Clone, Copy, Debug, PartialEq, Eq, Hash)]
 pub enum Refusal {

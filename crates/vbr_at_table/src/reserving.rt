@@ -13,7 +13,7 @@ use vbr_words::flags::{FLAGS, next_flag};
 /// finds no more on a way once round the slots, which begins with the flag word of the slot that the pass
 /// tried last. Returns how many it took, and how many steps it made: at most one for each slot that it took, one
 /// for each flag word, and one for each slot that others took out of the shared pool meanwhile. It makes no call
-/// of the set and changes no list.
+/// on the set and changes no list.
 ///
 /// A pass with r slots in reserve that inserts after each remove advances the epoch once in about r + 1
 /// inserts: by then the slot that it retired first is stamped below the epoch.
@@ -34,7 +34,7 @@ pub fn reserve<N: Nodes>(at: &mut AtTable<'_, N>, wanted: u32) -> (u32, u32)
 /// Takes slots out of the shared pool as [`reserve`] does, but tries no more than `probes` times. If it stops
 /// for that, the own pool may have fewer than `wanted`, and the next top-up goes on: the way begins after the slot
 /// that the pass tried last. Returns how many slots it took, and how many steps it made, one for each try. A
-/// pass that has what is wanted makes none. It makes no call of the set and changes no list.
+/// pass that has what is wanted makes none. It makes no call on the set and changes no list.
 ///
 /// With two tries after each insert that takes one slot, the own pool grows by a slot for each insert, while
 /// flags are set one after the other.
@@ -96,7 +96,7 @@ fn reserve_from<N: Nodes>(
 }
 
 // Where the tries go on behind a slot: with the next one of its word, or the next one whose flag is set in the word,
-// if that was shown; where there is none, with the first slot of the next word, of which nothing was shown.
+// if that was shown; if there is none, with the first slot of the next word, of which nothing was shown.
 fn behind(slot: u32, shown: Option<u64>) -> (u32, Option<u64>)
     requires { slot ≤ MAX_SLOTS }
     ensures { IsNextToTry slot shown result }

@@ -12,7 +12,7 @@ use vbr_words::Nodes;
 /// Stamps a slot that the pass unlinked with an epoch that it reads now, and so after the unlinking,
 /// and puts it at the end of its own pool; if that holds 63 slots or more, into the shared pool.
 /// The place that stays free is the one for a slot in hand. Returns how many steps it made: 2, or 3
-/// where the slot went into the shared pool. It can't fail.
+/// if the slot went into the shared pool. It can't fail.
 ///
 /// It is compiled into its callers, so that what a call has in hand stays in registers.
 #[inline(always)]

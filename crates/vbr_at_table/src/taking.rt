@@ -26,12 +26,12 @@ use vbr_words::flags::{FLAGS, next_flag};
 /// The call makes at most `budget` steps. It goes in pieces, and tests before each whether the budget
 /// has room for it; if not, it answers OutOfSteps. It looks in the shared pool only if the own
 /// pool is empty: NoSlot, if nothing is there. It advances the epoch only if no slot of the own pool
-/// is stamped below the epoch that it read: EpochSpent, if that is the last. That is tested last, where
+/// is stamped below the epoch that it read: EpochSpent, if that is the last. That is tested last, when
 /// the budget had room to advance it. A flag that it won stays in the own pool after a refusal. It wins one
 /// at most, and only if the pass had no slot that it may give birth in.
 ///
 /// With slots in the own pool a budget of 80 is enough, whatever others do; with none, one of
-/// w + 13 + g is, where w is the number of flag words, and g that of the slots which other passes take
+/// w + 13 + g is, where w is the number of flag words, and g the number of slots that other passes take
 /// out of the shared pool meanwhile. Of passes that take slots only as here, g is below their number,
 /// while no insert or store of theirs is answered yes.
 ///
@@ -84,9 +84,9 @@ fn win_slot<N: Nodes>(at: &mut AtTable<'_, N>, budget: u32) -> Result<u32, (Refu
 }
 
 // Takes a slot out of the shared pool into the own one, which is empty. It goes once round the flag words,
-// and begins with that of the slot that the pass tried last. It probes the first slot of each, and then the
-// lowest whose flag it found there, until the word has none. Returns how many steps were used. Few calls
-// need it, so it stands apart from them.
+// and begins with the word of the slot that the pass tried last. It probes the first slot of each, and
+// then the lowest whose flag it found there, until the word has none. Returns how many steps were used.
+// Few calls need it, so it stands apart from them.
 #[cold]
 #[inline(never)]
 fn win_shared<N: Nodes>(
@@ -132,7 +132,7 @@ fn win_shared<N: Nodes>(
 }
 
 // Reads the epoch and chooses the oldest slot of the own pool that is stamped below it. If there is none,
-// advances the epoch, where it is still that one and not the last, and chooses the oldest slot. Returns
+// advances the epoch, if it is still that one and not the last, and chooses the oldest slot. Returns
 // the slot with its place in the pool, and how many steps were used.
 #[inline(always)]
 fn choose<N: Nodes>(
@@ -170,7 +170,7 @@ fn choose<N: Nodes>(
 }
 
 // The oldest slot of the own pool that is stamped below an epoch, with its place there, if there is one;
-// and how many steps were used. It is the first, but where an epoch hasn't passed since that came.
+// and how many steps were used. It is the first, unless no epoch has passed since that came.
 #[inline(always)]
 fn scan<N: Nodes>(
     at: &mut AtTable<'_, N>,
@@ -199,7 +199,7 @@ fn scan<N: Nodes>(
     scan_others(slots, at.stepper, epoch, budget, used + 1)
 }
 
-// As `scan`, from the second slot on, where the first isn't stamped below the epoch. Few calls need it, so it
+// As `scan`, from the second slot on, if the first isn't stamped below the epoch. Few calls need it, so it
 // stands apart from them.
 #[cold]
 #[inline(never)]

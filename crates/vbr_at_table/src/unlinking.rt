@@ -62,7 +62,7 @@ pub fn unlink<N: Nodes>(
     }
 }
 
-/// How many steps an unlinking made, where the word of the marked link was this.
+/// How many steps an unlinking made, if the word of the marked link was this.
 #[inline]
 pub fn steps_to_unlink(
     word: u64,

@@ -33,7 +33,7 @@ fn birth_named<N: Nodes>(at: &AtTable<'_, N>, pred: &Held, succ: Option<&Held>) 
     }
 }
 
-// Stores the value of the slot in hand, in one step, where nodes have values.
+// Stores the value of the slot in hand, in one step, if nodes have values.
 #[inline(always)]
 fn put_value<N: Nodes>(at: &mut AtTable<'_, N>, slot: u32, value: u64)
     requires in_hand { (pass_of at.old).hand ≡ Some slot }
@@ -49,7 +49,7 @@ fn put_value<N: Nodes>(at: &mut AtTable<'_, N>, slot: u32, value: u64)
     }
 }
 
-// Stores the key of the slot in hand, its value where nodes have values, and the link to what the
+// Stores the key of the slot in hand, its value if nodes have values, and the link to what the
 // link of `pred` names.
 #[inline(always)]
 pub(crate) fn fill<N: Nodes>(
@@ -81,7 +81,7 @@ pub(crate) fn fill<N: Nodes>(
 }
 
 /// Links the slot in hand with this key between `pred` and `succ`: the pass has inserted the key. It
-/// takes three steps, and a fourth where nodes have values, for this value. `succ` is the node that the
+/// takes three steps, and a fourth if nodes have values, for this value. `succ` is the node that the
 /// link of `pred` names, if it names one. It does so only if the link of `pred` is still the unmarked
 /// one that is held. Else the hand comes back with LostExchange: no call was made, and what the pass
 /// knew it knows.

@@ -1,4 +1,4 @@
-//! The calls of a map: the calls of a set ([`crate::set`]), with entries in place of keys and with
+//! The calls on a map: the calls on a set ([`crate::set`]), with entries in place of keys and with
 //! values. A refusal has the same number and meaning as there.
 ghost use Rattle.std.specs.Prelude.{◌≡◌, None, length};
 ghost use Rattle.vbr_machine.specs.declared.history.Op.TheVariants.{Has};

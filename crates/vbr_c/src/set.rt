@@ -1,4 +1,4 @@
-//! The calls of a set.
+//! The calls on a set.
 ghost use Rattle.std.specs.Prelude.{◌≡◌, None, length};
 ghost use Rattle.vbr_machine.specs.declared.history.Op.TheVariants.{Remove, Has};
 ghost use Rattle.vbr_handles.specs.Batches.{TellsHasAll};

@@ -18,7 +18,7 @@ names_link (Replace s expected t) = true
 names_link (Unlink pred expected s) = true
 names_link _ = false
 
--- the first of the words; 0 where there is none
+-- the first of the words; 0 if there is none
 abbrev pub first_of : List ℕ → ℕ
 first_of [] = 0
 first_of (word ∷ words) = word

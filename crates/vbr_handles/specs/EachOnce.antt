@@ -6,7 +6,7 @@ use Rattle.vbr_set.specs.calls.Members.{MemberView as Member}
 abbrev pub HasTwice : List Member → Type 0
 HasTwice members = (who : ℕ) × (1 < count_by (λ m. m.pass.trace.who == who) members)
 
--- the number of the pass of a member; 0 where there is none
+-- the number of the pass of a member; 0 if there is none
 abbrev pub number_shown : Option Member → ℕ
 number_shown None = 0
 number_shown (Some m) = m.pass.trace.who

@@ -15,7 +15,7 @@ pub record OpeningsDiffer : Type 0 where
   pub another : (count number : ℕ) → 0 < number → number < 2 ^ 32 → 0 < count → count < 2 ^ 32 - 1 → after_openings count number ≢ number
   pub none_is_0 : (count number : ℕ) → 0 < number → number < 2 ^ 32 → 0 < after_openings count number
 
--- the greatest of these numbers, and 0 where there are none
+-- the greatest of these numbers, or 0 if there are none
 abbrev pub greatest_of : List ℕ → ℕ
 greatest_of [] = 0
 greatest_of (n ∷ ns) = max n (greatest_of ns)

@@ -17,18 +17,22 @@ use vbr_set::member::Member;
 use vbr_set::{CloseAllError, Kind, RenewAllError, ReportWithSlots, Shape};
 use vbr_words::Nodes;
 
-/// Why the members of handles were asked nothing.
+/// Why the members of handles were asked nothing. Tested in this order, but whether two have the same
+/// pass after [`AskRefusal::Mixed`]; the handles are as they were.
 #[derive(Clone, Copy, Debug, PartialEq, Eq)]
 pub enum AskRefusal {
     /// One of the handles is empty.
     Empty,
-    /// As [`crate::CloseAllRefusal::Missing`], or for a renewal as [`crate::RenewAllRefusal::Missing`].
+    /// There are fewer handles than were opened with the set, or none; for a renewal, not as many as were
+    /// opened with it. Or two of one set have the same pass, as copies in C have. If none is empty and it
+    /// isn't [`AskRefusal::Mixed`], it comes exactly then.
     Missing,
-    /// Two of the handles are of different sets in memory ([`Member::is_beside`]): a probe, before
-    /// which the others are tested.
+    /// Two of the handles are of different sets in memory ([`Member::is_beside`]). It is a probe: a
+    /// contract says only that then none is empty and there are not too few; for a renewal, that there
+    /// are as many as were opened with the set.
     Mixed,
-    /// There is no memory to put the members side by side; for a renewal, there are also no more keys
-    /// than slots.
+    /// There is no memory to put the members side by side; for a renewal, as
+    /// [`crate::RenewAllRefusal::Memory`].
     Memory,
 }
 
@@ -52,9 +56,9 @@ pub(crate) enum Answer<R> {
     ReportSlots(ReportWithSlots<R>),
     /// That they were renewed.
     Renewed,
-    /// That there are more keys than slots of the shape.
+    /// That there is no room: [`crate::RenewAllRefusal::Room`].
     Room,
-    /// That there is no memory; for a renewal, also that there are no more keys than slots.
+    /// That there is no memory; for a renewal, as [`crate::RenewAllRefusal::Memory`].
     Memory,
 }
 

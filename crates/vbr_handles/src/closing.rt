@@ -15,13 +15,11 @@ use vbr_words::Nodes;
 pub enum CloseRefusal<R = Report> {
     /// The handle is empty.
     Empty,
-    /// It was the last of its set, and a pass isn't there. The handle is empty, and the set is gone. A
-    /// dropped handle gives its pass back, so no program is known to get this.
+    /// It was the last of its set: [`EndError::Lost`]. The handle is empty.
     Lost,
-    /// It was the last of its set, and there is no memory for the report. The handle is as it was.
+    /// It was the last of its set: [`EndError::Memory`]. The handle is as it was.
     Memory,
-    /// It was the last of its set, and this report has more keys than there is room for. The handle is as
-    /// it was.
+    /// It was the last of its set: [`crate::CloseAllRefusal::Room`]. The handle is as it was.
     Room(R),
 }
 

@@ -20,15 +20,13 @@ use vbr_words::Nodes;
 /// this order; the handles are as they were.
 #[derive(Debug, Drop)]
 pub enum CloseAllRefusal<R = Report> {
-    /// One of the handles is empty.
+    /// As [`AskRefusal::Empty`].
     Empty,
-    /// There are fewer handles than were opened with the set, or none, or two of one set have the same pass, as
-    /// copies in C have. If none is empty and it isn't [`CloseAllRefusal::Mixed`], it comes exactly then.
+    /// As [`AskRefusal::Missing`].
     Missing,
-    /// Two of the handles are of different sets in memory ([`Member::is_beside`]). It is a probe: a
-    /// contract says only that then none is empty and there are not too few.
+    /// As [`AskRefusal::Mixed`].
     Mixed,
-    /// There is no memory for the report.
+    /// There is no memory for the report, or as [`AskRefusal::Memory`].
     Memory,
     /// This report has more keys than there is room for.
     Room(R),

@@ -1,4 +1,4 @@
-//! The calls of handles with their answers as numbers, as C gets them: 1 is yes, 0 is no or done, 2
+//! The calls on handles with their answers as numbers, as C gets them: 1 is yes, 0 is no or done, 2
 //! means that another value than the expected one was there, and refusals are negative.
 ghost use Rattle.std.specs.Prelude.{◌≡◌, ◌≤◌, ◌++◌, drop, is_some, length, map, IfOk};
 ghost use Rattle.vbr_machine.specs.declared.history.Op.TheVariants.{Remove, Has};

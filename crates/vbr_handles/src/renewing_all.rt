@@ -16,20 +16,15 @@ use vbr_set::Kind;
 /// Why the handles of a set were not renewed. Tested in this order; the handles are as they were.
 #[derive(Clone, Copy, Debug, PartialEq, Eq)]
 pub enum RenewAllRefusal {
-    /// The numbers are no shape.
+    /// As [`crate::OpenRefusal::Shape`].
     Shape,
-    /// One of the handles is empty.
+    /// As [`AskRefusal::Empty`].
     Empty,
-    /// There are not as many handles as were opened with the set, or two of one set have the same pass, as
-    /// copies in C have. If none is empty, the numbers are a shape, and it isn't [`RenewAllRefusal::Mixed`],
-    /// it comes exactly then.
+    /// As [`AskRefusal::Missing`], if the numbers are a shape.
     Missing,
-    /// Two of the handles are of different sets in memory (`Member::is_beside` of `vbr_set`). It is a
-    /// probe: a contract says only that then none is empty and there are as many as were opened with
-    /// the set.
+    /// As [`AskRefusal::Mixed`].
     Mixed,
-    /// There are more keys than slots of the shape. The keys are counted by the report or, if there is
-    /// no memory for one, by the sum of the members' balances.
+    /// There are more keys than slots of the shape, counted as `Member::renew_all` of `vbr_set` does.
     Room,
     /// There is no memory, and there are no more keys than slots.
     Memory,

@@ -90,9 +90,8 @@ pub(crate) fn is_node_of(found: &Found, entry: &Entry) -> bool
 }
 
 /// Like [`crate::get`], but returns the entry of a key, if the key is there, with its value. Its node
-/// was in the map, with this value, at the step that answers the call.
-///
-/// It makes the same steps as a get, all of them loads, with the same refusal and budgets.
+/// was in the map, with this value, at the step that answers the call. The rest is as `get_entry` of a
+/// map by `AtSet` of `vbr_set`.
 pub fn get_entry(
     slots: &Slots<Entries>,
     pass: &mut Pass,
@@ -115,10 +114,8 @@ pub fn get_entry(
 }
 
 /// Like [`crate::has`] of a set, but returns the entry of a key, if the key is there, with the value 0.
-/// Its node was in the set at the step that answers the call.
-///
-/// It makes the same steps as a look-up, all of them loads, with the same refusal. The same budget is
-/// enough, 5n + 11 with n nodes in the key's bucket, and an answered call took at most 5n + 4 steps.
+/// Its node was in the set at the step that answers the call. The rest is as `get_entry` of a set by
+/// `AtSet` of `vbr_set`.
 pub fn has_entry(
     slots: &Slots,
     pass: &mut Pass,
@@ -137,9 +134,7 @@ pub fn has_entry(
     )
 }
 
-/// Whether the slot of an entry still shows its birth, in one step, a load. If it does, the slot was
-/// the entry's own until that step, and no pass had it in hand; otherwise it was handed out anew. A
-/// slot outside the shape shows none, and then no step is made.
+/// Whether the slot of an entry still shows its birth, as `VbrSet::is_still` of `vbr_set` says.
 #[inline]
 pub fn is_still<N: Nodes>(slots: &Slots<N>, pass: &mut Pass, entry: &Entry) -> bool
     requires own { IsOf pass.old.trace slots.now }

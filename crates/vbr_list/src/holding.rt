@@ -45,9 +45,8 @@ impl Unstored {
     }
 }
 
-/// Takes a slot in hand, in at most `budget` steps. It is then born in, and in the hand of this pass
-/// alone until it is published or let go. It is taken as an insert takes one, with the refusals of
-/// [`vbr_at_table::take`].
+/// Takes a slot in hand by [`vbr_at_table::take`], in at most `budget` steps. The rest is as
+/// `VbrSet::hold` of `vbr_set` says.
 pub fn hold<N: Nodes>(slots: &Slots<N>, pass: &mut Pass, budget: u32) -> Result<Hand, Refusal>
     requires own { IsOf pass.old.trace slots.now }
     requires empty_hand { pass.old.hand ≡ None }
@@ -123,13 +122,8 @@ impl<N: Nodes> PendingCall<'_, N> {
     }
 }
 
-/// Adds a key to the set by a slot that the pass has in hand, in at most `budget` steps: this very slot
-/// becomes the node of the key, with the birth that it has in hand. If the key is there, the insert is
-/// answered no, and the slot stays in hand. It also stays if the steps don't suffice, and then no call
-/// was made. The call takes no slot, and searches as [`crate::insert`] does with one in hand.
-///
-/// While the other passes stand still, a budget of 9n + 11 is enough, with n nodes in the key's bucket,
-/// and an answered call took at most 9n + 6 steps, with a value one more.
+/// Adds a key to the set by a slot that the pass has in hand, in at most `budget` steps. It searches as
+/// [`crate::insert`] does with one in hand. The rest is as `VbrSet::insert_held` of `vbr_set` says.
 pub fn insert_held(
     slots: &Slots,
     pass: &mut Pass,
@@ -151,8 +145,8 @@ pub fn insert_held(
     )
 }
 
-/// Like [`insert_held`], at a table whose nodes have values: this value is stored with the key, in one
-/// step more.
+/// Like [`insert_held`], at a table whose nodes have values: this value is stored with the key. The rest
+/// is as `insert_held` of a map by `VbrSet` of `vbr_set`.
 pub fn insert_entry_held(
     slots: &Slots<Entries>,
     pass: &mut Pass,
@@ -176,15 +170,8 @@ pub fn insert_entry_held(
 }
 
 /// Puts the slot in hand in the place of an entry of the key, and of no other, with this value, in at
-/// most `budget` steps. In the history the key is removed with the value that it had, and inserted with
-/// this one, next to each other. The node that was replaced is the entry's, and is then out of its
-/// list, unless less than a piece is left of the budget. The call takes no slot.
-///
-/// [`NotReplaced::Other`] means that at a moment of the call the key was absent, or its node wasn't the
-/// entry's; [`NotReplaced::OutOfSteps`] that the steps didn't suffice. Then the slot stays in hand, and
-/// no call was made. While the other passes stand still, a budget of 9n + 11 is enough, with n nodes in
-/// the key's bucket, and with eight more the old node has left its list. A replacement takes at most
-/// 9n + 17 steps, and the answer that another is there 9n + 3.
+/// most `budget` steps. It links the slot, and unlinks the old node, as [`crate::store`] does. The rest
+/// is as `VbrSet::replace_held` of `vbr_set` says.
 pub fn replace_held(
     slots: &Slots<Entries>,
     pass: &mut Pass,
@@ -210,15 +197,9 @@ pub fn replace_held(
     )
 }
 
-/// Gives a key a value by the slot in hand, whether the key is there or not, in at most `budget` steps.
-/// Returns the value that the key had, or none if it was absent. This very slot becomes the node of the
-/// key, with the birth that it has in hand. If the key was absent, that is an insert in the history.
-/// Otherwise the key is removed with the value that it had, and inserted with this one, next to each
-/// other. The replaced node is then out of its list, unless less than a piece is left of the budget.
-/// The call takes no slot.
-///
-/// Its only refusal is for want of steps: the hand comes back, with the number of steps made, and no
-/// call was made. Budgets and costs are as for [`replace_held`].
+/// Gives a key a value by the slot in hand, whether the key is there or not, in at most `budget` steps,
+/// and returns the value that it had. It searches and links as [`crate::put`] does with a slot in hand.
+/// The rest is as `VbrSet::put_held` of `vbr_set` says.
 pub fn put_held(
     slots: &Slots<Entries>,
     pass: &mut Pass,

@@ -237,8 +237,7 @@ pub fn remove_if(
 }
 
 /// Like [`remove`], but takes the key out only if its node has this entry's slot and birth, and returns
-/// whether it did. Otherwise it makes no call: at some moment meanwhile the key was absent, or its node
-/// was another. The entry's value isn't looked at.
+/// whether it did. The rest is as `AtSet::remove_exactly` of `vbr_set` says.
 pub fn remove_key_exactly(
     slots: &Slots,
     pass: &mut Pass,

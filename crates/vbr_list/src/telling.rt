@@ -1,4 +1,4 @@
-//! What a search found is read, and a get is answered by it: for calls of a map that change what is
+//! What a search found is read, and a get is answered by it: for calls on a map that change what is
 //! there only if it is as they want it.
 ghost use Rattle.std.specs.Prelude.{◌≡◌, ◌+◌, ◌<◌, true, IfOk, IfErr};
 ghost use Rattle.vbr_at_table.specs.answers.Answering.{KeepsIn};

@@ -29,12 +29,12 @@ abbrev pub IsNextIn : Start → Option ℕ → Type 0
 IsNextIn start None = Unit {0}
 IsNextIn start (Some s) = s < start.shape.slots
 
--- an operation is one of the shape: a get is only where nodes have values
+-- an operation is one of the shape: a get is one only if nodes have values
 abbrev pub IsOpIn : Start → Op → Type 0
 IsOpIn start Get = start.shape.values ≡ true
 IsOpIn start _ = Unit {0}
 
--- the slots and places that the step's fields name are those of the shape, and a value is stored, loaded, replaced or asked for only where nodes have values
+-- the slots and places that the step's fields name are those of the shape, and a value is stored, loaded, replaced or asked for only if nodes have values
 abbrev pub IsInShape : Start → Step → Type 0
 IsInShape start ReadEpoch = Unit {0}
 IsInShape start (Advance from) = Unit {0}
@@ -111,12 +111,12 @@ abbrev pub KnowsKeyOf : List Read → Option ℕ → Type 0
 KnowsKeyOf reads None = Unit {0}
 KnowsKeyOf reads (Some s) = IsSome (key_in reads s)
 
--- a value is known where nodes have values, as the test says
+-- a value is known if nodes have values, as the test says
 abbrev pub HasValue : Bool → Option ℕ → Type 0
 HasValue true value = IsSome value
 HasValue false value = Unit {0}
 
--- a value is known where the operation is one that gives it
+-- a value is known if the operation is one that gives it
 abbrev pub HasValueFor : Op → Option ℕ → Type 0
 HasValueFor Get value = IsSome value
 HasValueFor _ value = Unit {0}
@@ -202,7 +202,7 @@ stamp_in (Some (Free stamp)) = stamp
 stamp_in (Some (InHand known)) = known.stamp
 stamp_in _ = 0
 
--- what is in hand is ready: its key and link, and its value where nodes have values, were stored since its birth, the link names what the expected link names, and the key stands between
+-- what is in hand is ready: its key and link, and if nodes have values its value, were stored since its birth, the link names what the expected link names, and the key stands between
 pub record IsReady (start : Start) (reads : List Read) (pred : At) (expected : Link) (known : Unpublished) : Type 0 where
   pub key : ℕ
   pub key_is : known.key ≡ Some key

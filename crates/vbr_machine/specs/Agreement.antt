@@ -36,7 +36,7 @@ IsHeldAt a epoch (Head b) None = Unit {0}
 IsHeldAt a epoch (Slot s) (Some c) = IsHeldIncarnation a epoch s c
 IsHeldAt a epoch _ _ = ⊥
 
--- the incarnation that a link names is held at the slot that it names, and there is one exactly where it names a slot
+-- the incarnation that a link names is held at the slot that it names, and there is one exactly if it names a slot
 abbrev pub IsHeldNext : Incarnations → ℕ → Option ℕ → Option ℕ → Type 0
 IsHeldNext a epoch None None = Unit {0}
 IsHeldNext a epoch (Some s) (Some n) = IsHeldIncarnation a epoch s n
@@ -112,7 +112,7 @@ IsNotOf pass (Own p) = p ≢ pass
 IsNotOf pass (Hand p) = p ≢ pass
 IsNotOf pass _ = Unit {0}
 
--- a key, a value or a link was stored since the birth exactly where the pass knows one, and then it is that one
+-- a key, a value or a link was stored since the birth exactly if the pass knows one, and then it is that one
 abbrev pub IsStored : {A : Type 0} → Bool → A → Option A → Type 0
 IsStored stored value None = stored ≡ false
 IsStored stored value (Some known) = (stored ≡ true) × (value ≡ known)

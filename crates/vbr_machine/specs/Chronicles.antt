@@ -1,4 +1,4 @@
--- The events of a chronicle: where each is allowed, and what it makes.
+-- The events of a chronicle: when each is allowed, and what it makes.
 use Rattle.std.specs.Prelude.{◌≡◌, ◌≢◌, ℕ, ◌+◌, ◌<◌, ◌≤◌, Bool, true, false, List, [], ◌∷◌, ◌++◌, Option, Some, None, ◌==◌, filter}
 use Rattle.vbr_machine.specs.Start.{Start}
 use Rattle.vbr_words.specs.declared.link.Link.{Link}
@@ -43,7 +43,7 @@ pub record Entry : Type 0 where
   pub pass : ℕ
   pub what : Happening
 
--- ---- where an event is allowed
+-- ---- when an event is allowed
 
 -- dead: stamped, or given up
 abbrev pub IsDead : State → Type 0
@@ -155,7 +155,7 @@ abbrev pub first_with : (ℕ → Option ℕ) → Before → Option ℕ → ℕ �
 first_with first (AtHead b) next = put first b next
 first_with first (AtNode c) next = first
 
--- the successors once that of what stands before has changed
+-- the successors once the one of what stands before has changed
 abbrev pub next_with : (ℕ → Option ℕ) → Before → Option ℕ → ℕ → Option ℕ
 next_with successors (AtHead b) next = successors
 next_with successors (AtNode c) next = put successors c next
@@ -227,7 +227,7 @@ abbrev pub incarnations_from : Start → Incarnations → List Entry → Incarna
 incarnations_from start a [] = a
 incarnations_from start a (entry ∷ entries) = incarnations_from start (becomes start a entry.pass entry.what) entries
 
--- a chronicle is lawful where each event is allowed after those before it
+-- a chronicle is lawful if each event is allowed after those before it
 abbrev pub IsLawful : Start → Keys → Incarnations → List Entry → Type 0
 IsLawful start keys a [] = Unit {0}
 IsLawful start keys a (entry ∷ entries) = Allowed start keys a entry.pass entry.what × IsLawful start keys (becomes start a entry.pass entry.what) entries

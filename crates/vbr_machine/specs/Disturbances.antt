@@ -24,7 +24,7 @@ changes start a bucket (Replaces old c) = bucket_of start.shape (a.key c) == buc
 changes start a bucket (Unlinks c behind) = bucket_of start.shape (a.key c) == bucket
 changes start a bucket _ = false
 
--- one where a test is passed
+-- 1 if a test is passed, else 0
 abbrev pub one_if : Bool → ℕ
 one_if true = 1
 one_if false = 0

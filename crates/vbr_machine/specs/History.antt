@@ -1,4 +1,4 @@
--- A history is a list of answered calls of a set, or of a map, whose keys have values.
+-- A history is a list of answered calls on a set, or on a map, whose keys have values.
 use Rattle.std.specs.Prelude.{◌≡◌, ℕ, Bool, true, false, List, [], ◌∷◌, Option, None, not, ◌==◌, filter}
 use Rattle.vbr_machine.specs.Put.{put}
 use Rattle.vbr_machine.specs.Keys.{Keys}
@@ -6,11 +6,11 @@ use Rattle.vbr_machine.specs.declared.history.Call.{Call}
 use Rattle.vbr_machine.specs.declared.history.Op.{Op}
 use Rattle.vbr_machine.specs.declared.history.Op.TheVariants.{Insert, Remove, Get}
 
--- a call of a set, which has no value
+-- a call on a set, which has no value
 abbrev pub set_call : ℕ → Op → ℕ → Bool → Call
 set_call who op key reply = record { who = who; op = op; key = key; reply = reply; value = None }
 
--- the reply of a set that has these keys: an insert is answered yes where its key is absent, a remove and a look-up where it is present
+-- the reply of a set that has these keys: an insert is answered yes if its key is absent, a remove and a look-up if it is present
 abbrev pub reply_of : Keys → Op → ℕ → Bool
 reply_of keys Insert key = not (keys key)
 reply_of keys _ key = keys key
@@ -26,7 +26,7 @@ abbrev pub set_after : Keys → List Call → Keys
 set_after keys [] = keys
 set_after keys (call ∷ calls) = set_after (keys_after keys call.op call.key call.reply) calls
 
--- a history is legal from an opening set where each reply is that of the set as the calls before it left it
+-- a history is legal from an opening set if each reply is that of the set as the calls before it left it
 abbrev pub IsLegal : Keys → List Call → Type 0
 IsLegal keys [] = Unit {0}
 IsLegal keys (call ∷ calls) = (call.reply ≡ reply_of keys call.op call.key) × IsLegal (keys_after keys call.op call.key call.reply) calls

@@ -31,7 +31,7 @@ slot_shown a (Some c) = Some (a.slot c)
 abbrev pub link_to_next : Incarnations → ℕ → Option ℕ → Link
 link_to_next a holder_birth next = link_to (slot_shown a next) holder_birth (birth_shown a next)
 
--- the link that an incarnation shows in this state: once linked, that to its successor; once marked, the same with the mark; before, what was stored last
+-- the link that an incarnation shows in this state: once linked, the link to its successor; once marked, the same with the mark; before, what was stored last
 abbrev pub link_in_state : Incarnations → ℕ → State → Link
 link_in_state a c Linked = link_to_next a (a.birth c) (a.next c)
 link_in_state a c Marked = marked (link_to_next a (a.birth c) (a.next c))
@@ -44,12 +44,12 @@ abbrev pub link_shown : Incarnations → Option ℕ → Link
 link_shown a None = opening_link
 link_shown a (Some c) = link_in_state a c (a.state c)
 
--- the link that the image has at a place: at a head that to the first of its bucket, in a slot that of its last incarnation
+-- the link that the image has at a place: at a head the link to the first of its bucket, in a slot the link of its last incarnation
 abbrev pub link_shown_at : Incarnations → At → Link
 link_shown_at a (Head b) = link_to_next a 0 (a.first b)
 link_shown_at a (Slot s) = link_shown a (a.last s)
 
--- the words of a world are the image of the incarnations, and each slot has the same place in both; so the flag of a slot is set exactly where the slot is in the shared pool
+-- the words of a world are the image of the incarnations, and each slot has the same place in both; so the flag of a slot is set exactly if the slot is in the shared pool
 pub record IsImage (w : World) (a : Incarnations) : Type 0 where
   pub epoch : w.epoch ≡ a.epoch
   pub head : (b : ℕ) → w.head b ≡ link_shown_at a (Head b)

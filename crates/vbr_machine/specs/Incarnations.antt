@@ -38,7 +38,7 @@ pub record Incarnations : Type 0 where
   pub stamp : ℕ → ℕ  -- of a slot
   pub calls : List Call
 
--- what has become of an incarnation at opening: those of the opening keys are linked
+-- what has become of an incarnation at opening: it is linked if it is of an opening key, and else unborn
 abbrev pub opening_state : Start → ℕ → State
 opening_state start c = if has_opening_key start c then Linked else Unborn
 
@@ -70,7 +70,7 @@ at_opening start =
       calls = [];
     }
 
--- the value of an incarnation where nodes have values, and otherwise none
+-- the value of an incarnation if nodes have values, and otherwise none
 abbrev pub payload_of : Start → Incarnations → ℕ → Option ℕ
 payload_of start a c = payload_kept start (Some (a.value c))
 
@@ -82,6 +82,6 @@ IsLate (Unlinked pass unlinked) epoch = epoch ≤ unlinked
 IsLate (Stamped unlinked stamp) epoch = epoch ≤ unlinked
 IsLate _ epoch = ⊥
 
--- the last incarnation of a slot, where one was born
+-- the last incarnation of a slot; 0 if none was born there
 abbrev pub last_in : Incarnations → ℕ → ℕ
 last_in a s = unwrap_or (a.last s) 0

@@ -25,7 +25,7 @@ use Rattle.vbr_machine.specs.declared.knowledge.Holding.TheVariants.{Free, Unlin
 
 -- ---- answers
 
--- whether a step succeeds that found this word: an exchange or a confirming load does only where it found the expected one, and a flag is taken only where it is set
+-- whether a step succeeds that found this word: an exchange or a confirming load does only if it found the expected one, and a flag is taken only if it is set
 abbrev pub succeeds : Step → ℕ → Bool
 succeeds (Advance from) found = found == from
 succeeds (TakeFlag s) found = has_flag found s

@@ -175,7 +175,7 @@ abbrev pub with_call : World → Option Call → World
 with_call w None = w
 with_call w (Some call) = record w { calls = w.calls ++ call ∷ [] }
 
--- the words and places that a step of a pass writes where it succeeds, from the link and the key that the pass had for it
+-- the words and places that a step of a pass writes if it succeeds, from the link and the key that the pass had for it
 abbrev pub written : Start → ℕ → Step → Link → ℕ → World → World
 written start p (Advance from) link key w = record w { epoch = w.epoch + 1 }
 written start p (StoreStamp s stamp) link key w = record w { stamp = put w.stamp s stamp }
@@ -200,7 +200,7 @@ learned start w p (ConfirmPresent op s expected) = w
 learned start w p (ConfirmAbsent op key place expected) = w
 learned start w p step = with_learning start w p step
 
--- the world after an accepted step of a pass: where the step succeeds, its pass has learned, the words and places are written, and its calls are made; else nothing has changed
+-- the world after an accepted step of a pass: if the step succeeds, its pass has learned, the words and places are written, and its calls are made; else nothing has changed
 abbrev pub after : Start → World → ℕ → Step → World
 after start w p step =
     if succeeds step (found start w step)

@@ -23,7 +23,7 @@ keys_listed entries = map (λ entry. entry.0) entries
 abbrev pub values_listed : List (ℕ × ℕ) → List ℕ
 values_listed entries = map (λ entry. entry.1) entries
 
--- the map of a list of entries: where a key is listed more than once, the first counts
+-- the map of a list of entries: if a key is listed more than once, the first counts
 abbrev pub entries_in : List (ℕ × ℕ) → Entries
 entries_in [] key = None
 entries_in (entry ∷ entries) key = if nat_eq key entry.0 then Some (Some entry.1) else entries_in entries key
@@ -49,7 +49,7 @@ GivesEntry entries Remove key true value = entries key ≡ Some value
 GivesEntry entries Get key true value = entries key ≡ Some value
 GivesEntry entries _ key _ value = value ≡ None
 
--- a history of a map is legal where each call is answered by the map as the calls before it left it
+-- a history of a map is legal if each call is answered by the map as the calls before it left it
 abbrev pub IsMapLegal : Entries → List Call → Type 0
 IsMapLegal entries [] = Unit {0}
 IsMapLegal entries (call ∷ calls) =
@@ -66,7 +66,7 @@ pub record MapLeads (opening : Entries) (calls : List Call) (closing : Entries) 
   pub legal : IsMapLegal opening calls
   pub entries : (key : ℕ) → closing key ≡ map_after opening calls key
 
--- the value that a call asks to store: 0 where it names none
+-- the value that a call asks to store: 0 if it names none
 abbrev pub value_asked : Call → ℕ
 value_asked call = unwrap_or call.value 0
 
@@ -93,7 +93,7 @@ TellsNoValue (call ∷ calls) = (call.value ≡ None) × TellsNoValue calls
 abbrev pub StoresNoValue : Entries → Type 0
 StoresNoValue entries = (key : ℕ) (value : ℕ) → (entries key ≡ Some (Some value)) → ⊥
 
--- a call that stores or gives a value has one, where nodes have values; and where they have none, no call has
+-- a call that stores or gives a value has one if nodes have values; and if they have none, no call has
 abbrev pub HasValueOf : Bool → Op → Bool → Option ℕ → Type 0
 HasValueOf false op reply value = value ≡ None
 HasValueOf true Insert true value = (v : ℕ) × (value ≡ Some v)
@@ -101,7 +101,7 @@ HasValueOf true Remove true value = (v : ℕ) × (value ≡ Some v)
 HasValueOf true Get true value = (v : ℕ) × (value ≡ Some v)
 HasValueOf true _ _ value = value ≡ None
 
--- each call of a list has a value just where it stores or gives one and nodes have values
+-- each call of a list has a value just if it stores or gives one and nodes have values
 abbrev pub HaveValues : Bool → List Call → Type 0
 HaveValues values [] = Unit {0}
 HaveValues values (call ∷ calls) = HasValueOf values call.op call.reply call.value × HaveValues values calls

@@ -83,7 +83,7 @@ pub record StandsBeforeOn (know : Know) (key : ℕ) (link : Link) : Type 0 where
 
 -- ---- what is written
 
--- an unlinking behind a place writes this link: to what a known marked link of the slot names, by births that are known there and of that
+-- an unlinking behind a place writes this link: to what a known marked link of the slot names, by births that are known at the place and of what is named
 pub record IsUnlinkLink (know : Know) (pred : At) (s : ℕ) (new : Link) : Type 0 where
   pub frozen : Link
   pub known : Knows know (LinkAt (Slot s) frozen)
@@ -101,12 +101,12 @@ abbrev pub IsNextKnown : Know → Option ℕ → Type 0
 IsNextKnown know None = Unit {0}
 IsNextKnown know (Some s) = IsHeldSlot know s × ((birth : ℕ) × Knows know (BirthOf s birth))
 
--- a value of a slot is known where nodes have values, as the test says
+-- a value of a slot is known if nodes have values, as the test says
 abbrev pub KnowsValue : Bool → Know → ℕ → Type 0
 KnowsValue true know s = (value : ℕ) × Knows know (ValueOf s value)
 KnowsValue false know s = Unit {0}
 
--- a value of a slot is known where the operation is one that gives it
+-- a value of a slot is known if the operation is one that gives it
 abbrev pub KnowsValueFor : Op → Know → ℕ → Type 0
 KnowsValueFor Get know s = (value : ℕ) × Knows know (ValueOf s value)
 KnowsValueFor _ know s = Unit {0}
@@ -126,7 +126,7 @@ IsKnown start know (ConfirmPresent op s expected) = Knows know (LinkAt (Slot s) 
 IsKnown start know (ConfirmAbsent op key place expected) = Knows know (LinkAt place (link_of expected))
 IsKnown start know _ = Unit {0}
 
--- what is in hand is ready: its key and link, and its value where nodes have values, were stored since its birth, the link names what the expected link names, by a birth that is known of that, and the key stands between
+-- what is in hand is ready: its key and link, and if nodes have values its value, were stored since its birth, the link names what the expected link names, by a birth that is known of that, and the key stands between
 pub record IsReadyKnown (start : Start) (know : Know) (pred : At) (expected : Link) (known : Unpublished) : Type 0 where
   pub key : ℕ
   pub key_is : known.key ≡ Some key

@@ -13,7 +13,7 @@ pub record NeedsAdvance (know : Know) (epoch : ℕ) : Type 0 where
   pub may : MayBear (know.own slot)
   pub stamped : epoch ≤ stamp_in (know.own slot)
 
--- since a beginning of a run a pass has made each step that would advance the epoch where it needed that
+-- since a beginning of a run a pass has made a step that would advance the epoch only when it needed that
 abbrev pub AdvancesInNeed : Start → List Event → List Event → ℕ → Type 0
 AdvancesInNeed start first run pass =
     (before after : List Event) (from : ℕ) → run ≡ (first ++ before) ++ record { pass = pass; step = Advance from } ∷ after

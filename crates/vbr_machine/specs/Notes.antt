@@ -74,7 +74,7 @@ with_read a notes (Some read) = record notes { pending = notes.pending ++ note_o
 abbrev pub with_won : Incarnations → Notes → List Read → Notes
 with_won a notes reads = record notes { checked = notes.checked ++ map (note_of a) reads }
 
--- the notes once the epoch was read: where it is unmoved, what was pending is checked; where it has moved, nothing is left
+-- the notes once the epoch was read: if it is unmoved, what was pending is checked; if it has moved, nothing is left
 abbrev pub confirmed_notes : Notes → Bool → Notes
 confirmed_notes notes true = record { pending = []; checked = notes.checked ++ notes.pending }
 confirmed_notes notes _ = no_notes
@@ -160,7 +160,7 @@ abbrev pub HoldsLastNext : Incarnations → List Note → Option ℕ → Type 0
 HoldsLastNext a checked None = Unit {0}
 HoldsLastNext a checked (Some s) = HoldsLast a checked s
 
--- the incarnations that an exchange on a link names are the last of their slots: those held behind and at what the expected link names, and for a mark or a replacement the one held at its slot
+-- the incarnations that an exchange on a link names are the last of their slots: the one held at its place and, but for a mark, the one held at what the expected link names
 abbrev pub NamesLast : Incarnations → List Note → Step → Type 0
 NamesLast a checked (Publish pred expected s) = HoldsLastAt a checked pred × HoldsLastNext a checked (link_of expected).slot
 NamesLast a checked (Mark s expected) = HoldsLast a checked s
@@ -168,7 +168,7 @@ NamesLast a checked (Replace s expected t) = HoldsLast a checked s × HoldsLastN
 NamesLast a checked (Unlink pred expected s) = HoldsLastAt a checked pred × HoldsLastNext a checked (link_of expected).slot
 NamesLast a checked step = Unit {0}
 
--- what the pass holds at the slot that a link names is this successor; there is none where the link names no slot
+-- what the pass holds at the slot that a link names is this successor; there is none if the link names no slot
 abbrev pub HoldsNext : List Note → Option ℕ → Option ℕ → Type 0
 HoldsNext checked None next = next ≡ None
 HoldsNext checked (Some s) next = (c : ℕ) × HoldsJust checked s c × (next ≡ Some c)

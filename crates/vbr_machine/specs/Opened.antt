@@ -17,7 +17,7 @@ opening_keys start = keys_of start.keys
 abbrev pub key_count : Start → ℕ
 key_count start = length start.keys
 
--- whether a slot has one: that of its own number
+-- whether a slot has a key at opening: the one of its own number
 abbrev pub has_opening_key : Start → ℕ → Bool
 has_opening_key start s = nat_lt s (key_count start)
 
@@ -35,16 +35,16 @@ opening_birth start number = if has_opening_key start number then 1 else 0
 abbrev pub value_number : Start → ℕ → ℕ
 value_number start number = if has_opening_key start number then slice_index_or start.payloads number 0 else 0
 
--- a value where nodes have values, and otherwise none
+-- a value if nodes have values, and otherwise none
 abbrev pub payload_kept : Start → Option ℕ → Option ℕ
 payload_kept start value = if start.shape.values then value else None
 
--- the number of a key in a list; that behind the last where it isn't there
+-- the number of a key in a list; the length of the list if it isn't there
 abbrev pub number_in : List ℕ → ℕ → ℕ
 number_in [] key = 0
 number_in (first ∷ keys) key = if first == key then 0 else suc (number_in keys key)
 
--- the value of each key, none where nodes have none
+-- the value of each key, none if nodes have none
 abbrev pub opening_payloads : Start → Payloads
 opening_payloads start key = payload_kept start (Some (value_number start (number_in start.keys key)))
 
@@ -86,6 +86,6 @@ link_to_key start holder_birth number = link_to number holder_birth (birth_named
 abbrev pub link_at_opening : Start → ℕ → Link
 link_at_opening start s = if has_opening_key start s then link_to_key start (opening_birth start s) (key_behind start s) else opening_link
 
--- where a slot is: in the list of its key's bucket, or in the shared pool where it has none
+-- where a slot is: in the list of its key's bucket, or in the shared pool if it has none
 abbrev pub opening_place : Start → ℕ → SlotPlace
 opening_place start s = if has_opening_key start s then Listed (bucket_of start.shape (key_number start s)) else Shared

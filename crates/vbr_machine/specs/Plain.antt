@@ -1,4 +1,4 @@
--- What calls of the plain set and of the plain map return: one record for each outcome.
+-- What calls on the plain set and on the plain map return: one record for each outcome.
 use Rattle.std.specs.Prelude.{◌≡◌, ℕ, Bool, true, false, List, Option, Some, take, drop, slice_get}
 use Rattle.vbr_machine.specs.Keys.{keys_of}
 use Rattle.vbr_machine.specs.History.{reply_of, keys_after, Leads}

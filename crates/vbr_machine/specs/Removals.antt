@@ -28,7 +28,7 @@ pub record MarkedLeft (start : Start) (before run : List Event) (pass key : ℕ)
   pub of_key : (incarnations_after start run).key node ≡ key
   pub left : HasLeft ((incarnations_after start run).state node)
 
--- no marked incarnation of this key is in a list but where it was replaced: then its successor has the key too
+-- no marked incarnation of this key is in a list unless it was replaced: then its successor has the key too
 abbrev pub NoneMarked : Incarnations → ℕ → Type 0
 NoneMarked a key = (node : ℕ) → a.state node ≡ Marked → a.key node ≡ key → (next : ℕ) × (a.next node ≡ Some next) × (a.key next ≡ key)
 
@@ -48,7 +48,7 @@ pub record HasReplaced (start : Start) (before run : List Event) (pass node : �
   pub by : ℕ
   pub among : Contains since (record { pass = pass; what = Replaces node by })
 
--- so it is of the incarnation that is held at a slot, which is removed
+-- since a beginning of a run a pass has replaced the incarnation that is held at a slot, which is removed
 pub record ReplacedAt (start : Start) (before run : List Event) (pass epoch s : ℕ) : Type 0 where
   pub node : ℕ
   pub replaced : HasReplaced start before run pass node

@@ -9,7 +9,7 @@ pub record Start : Type 0 where
   pub keys : List ℕ
   pub payloads : List ℕ
 
--- there is a value for each key where nodes have values, and else none
+-- there is a value for each key if nodes have values, and else none
 abbrev pub ArePaired : Dimensions → List ℕ → List ℕ → Type 0
 ArePaired shape keys values = length values ≡ (if shape.values then length keys else 0)
 

@@ -55,7 +55,7 @@ pub enum Step {
         slot: u32,
         key: u64,
     },
-    /// Stores the value of the incarnation in hand, where nodes have values.
+    /// Stores the value of the incarnation in hand, if nodes have values.
     StoreValue {
         slot: u32,
         value: u64,
@@ -77,7 +77,7 @@ pub enum Step {
     LoadKey {
         slot: u32,
     },
-    /// Loads the value of a held slot, where nodes have values; the read is pending.
+    /// Loads the value of a held slot, if nodes have values; the read is pending.
     LoadValue {
         slot: u32,
     },
@@ -93,7 +93,7 @@ pub enum Step {
         expected: WideWord,
     },
     /// Marks a node, if its link word is `expected`, and links the incarnation in hand, which has its
-    /// key, in its place: a remove and an insert in one step, where nodes have values.
+    /// key, in its place: a remove and an insert in one step, if nodes have values.
     Replace {
         slot: u32,
         expected: WideWord,

@@ -5,9 +5,9 @@ pub enum Op {
     Insert,
     /// Takes the key out: yes if it was present.
     Remove,
-    /// Looks the key up: yes where it is present.
+    /// Looks the key up: yes if it is present.
     Has,
-    /// Looks the key up in a map, and gives its value: yes where it is present.
+    /// Looks the key up in a map, and gives its value: yes if it is present.
     Get,
 }
 
@@ -24,6 +24,6 @@ pub struct Call {
     /// The answer: `true` is yes.
     pub reply: bool,
     /// The value that an insert answered yes has stored, or that a remove or a get answered yes
-    /// gives. Other calls have none, and neither has any call of a set.
+    /// gives. Other calls have none, and neither has any call on a set.
     pub value: Option<u64>,
 }

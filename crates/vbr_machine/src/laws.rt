@@ -445,7 +445,7 @@ pub fn the_epoch_is_paid()
 {}
 
 /// A law: the nodes that are removed and not retired are no more than the marked ones, and one for each
-/// pass, where each has at most one slot unlinked and not stamped.
+/// pass, if each has at most one slot unlinked and not stamped.
 pub fn one_unretired_for_each_pass()
     ensures { (start : Start) (passes : ℕ) (run : List Event) →
         IsStart start → IsRun start passes run →
@@ -470,7 +470,7 @@ pub fn marks_follow_removes()
         ≤ marked_by start first pass + removes (own_calls start run pass) }
 {}
 
-/// A law: and by one fewer, where a node that the pass has marked or replaced since has left its list.
+/// A law: and by one fewer, if a node that the pass has marked or replaced since has left its list.
 pub fn marks_fall_where_one_left()
     ensures { (start : Start) (passes : ℕ) (first run : List Event) (pass key : ℕ) →
         IsStart start → IsRun start passes run → Begins first run →

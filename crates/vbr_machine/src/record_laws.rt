@@ -87,9 +87,10 @@ pub fn in_hand_since_its_birth()
         IsInHand ((know_after start run pass).own s) }
 {}
 
-/// A law: let a program write records, one for each slot, and each pass that of a slot only while it
-/// has the slot in hand. Then each word of the record of a slot is what it was when an incarnation had
-/// been inserted there, as long as the birth of that one stands there at some later moment.
+/// A law: let a program write records, one for each slot, and each pass the record of a slot
+/// only while it has the slot in hand. Then each word of the record of a slot is what it was when an
+/// incarnation had been inserted there, as long as the birth of that one stands there at some later
+/// moment.
 pub fn a_confirmed_record_is_the_entrys()
     ensures { (start : Start) (passes : ℕ) (before : List Event) (records : ℕ → ℕ → ℕ)
         (now after : List (Act ℕ)) (s node : ℕ) →

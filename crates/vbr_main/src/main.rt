@@ -1,4 +1,4 @@
-//! The program `vbr_run`: plays the script in a file, or on standard input. Where standard error is a
+//! The program `vbr_run`: plays the script in a file, or on standard input. If standard error is a
 //! terminal, a line there says how far a long script is, and is erased before anything else is written.
 #![tactic(auto)]
 

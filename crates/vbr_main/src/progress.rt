@@ -8,7 +8,7 @@ use vbr_run::{Gate, Reply};
 const LINES_BETWEEN: u64 = 16_384;
 
 /// A line on standard error that says which phase plays, counted from 1 on, and how many lines of the
-/// script have been played. It is written over itself where a phase begins, but for the first one, and
+/// script have been played. It is written over itself when a phase begins, but for the first one, and
 /// after each 16,384 lines, by one worker at a time; and it is erased in the end.
 #[derive(Drop)]
 pub struct Progress {

@@ -30,13 +30,13 @@ reply_told (Ok true) = Yes
 reply_told (Ok false) = No
 reply_told (Err refusal) = reply_refused refusal
 
--- the reply that an answer is which gives a value where it is yes
+-- the reply that an answer is whose yes gives a value
 abbrev pub reply_given : Result (Option ℕ) Refusal → Reply
 reply_given (Ok (Some value)) = Value value
 reply_given (Ok None) = No
 reply_given (Err refusal) = reply_refused refusal
 
--- the call that an operation asks of a map, for a key and with a value, was made with the budget, and the reply is its answer: an insert stores the value, and a remove and a get tell the one that was stored
+-- the call that an operation asks of a map, for a key and with a value, was made with the budget, and the reply is its answer: an insert stores the value, and a remove and a get return the one that was stored
 abbrev pub IsMapCalled : Op → ℕ → ℕ → ℕ → Reply → MemberView → MemberView → Type 0
 IsMapCalled Insert key value budget reply m n = (answer : Result Bool Refusal) × InsertsEntry m n key value budget answer × (reply ≡ reply_told answer)
 IsMapCalled Remove key value budget reply m n = (answer : Result (Option ℕ) Refusal) × RemovesEntry m n key budget answer × (reply ≡ reply_given answer)
@@ -64,11 +64,11 @@ pub record PlaysOwn (kind : Kind) (set : TableView) (budget : ℕ) (outcomes : L
   pub calls : CallsInTurn kind budget outcomes (as_member set (new_pass set who)) last
   pub seen : BeginsFor who last.pass.trace.seen run
 
--- a budget that suffices each call of a lone worker, even where each slot has a node of the key's bucket
+-- a budget that suffices each call of a lone worker, even if each slot has a node of the key's bucket
 abbrev pub ample : Start → ℕ
 ample start = enough_past start.shape.slots (most_to_take start [])
 
--- workers played outcomes on a set or a map, in so many phases: each played its own, and made no more steps than the budget for each of them, and one for each phase and other worker; and none was refused to a lone worker for want of steps, where the budget is ample
+-- workers played outcomes on a set or a map, in so many phases: each played its own, and made no more steps than the budget for each of them, and one for each phase and other worker; and none was refused to a lone worker for want of steps, if the budget is ample
 pub record ArePlayed (kind : Kind) (workers budget : ℕ) (start : Start) (phases : ℕ) (outcomes : List Outcome) (run : List Event) : Type 0 where
   pub set : TableView
   pub shaped : set.start ≡ start

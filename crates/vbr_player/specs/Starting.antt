@@ -23,6 +23,6 @@ EndsAs kind (Done played) worker = worker ≡ played
 abbrev pub AreEndedBy : {N : Type 0} → Kind → List (PhaseWorker N) → List (Worker N) → Type 0
 AreEndedBy kind all_started workers = AllZip (EndsAs kind) all_started workers
 
--- so they did where the wait for them is done
+-- if the wait for them is done, they all ended so
 abbrev pub EndAll : {N E : Type 0} → Kind → List (PhaseWorker N) → Result (Vec (Worker N) Global) E → Type 0
 EndAll kind all_started result = IfOk result (λ played. AreEndedBy kind all_started played.items)

@@ -21,7 +21,7 @@ use Rattle.vbr_player.specs.declared.worker.Worker.{Worker}
 abbrev pub MayBeAsked : Kind → List Line → Type 0
 MayBeAsked kind lines = All (λ line. MayAsk kind line.op line.value) lines
 
--- what a reply tells of the pass that was given it: yes comes with a value just where the operation gives one, an insert alone finds no slot or the epochs spent, and they are spent once it has seen the last epoch come
+-- what a reply says of the pass that was given it: yes comes with a value just if the operation gives one, an insert alone finds no slot or the epochs spent, and they are spent once it has seen the last epoch come
 abbrev pub TellsReply : Kind → Trace → Op → Reply → Type 0
 TellsReply kind q op Yes = gives_value kind op ≡ false
 TellsReply kind q op (Value value) = gives_value kind op ≡ true

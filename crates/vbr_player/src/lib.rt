@@ -2,7 +2,7 @@
 //! own, and writes what it was answered.
 //!
 //! A set is opened with a worker for each pass; they play phase after phase, and meet after each;
-//! where the script says so, the set is renewed, and they go on over the new one; in the end the set
+//! when the script says so, the set is renewed, and they go on over the new one; in the end the set
 //! is closed, and the replies and totals are those of one run. [`play`] is the whole, and [`play_map`]
 //! that of a map.
 #![tactic(auto)]

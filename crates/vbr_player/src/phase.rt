@@ -18,7 +18,7 @@ use std::thread::{Scope, Threads};
 use vbr_transcript::RunError;
 
 // Plays a phase, each worker that has lines in it in a thread of its own, and joins them all; then
-// all meet. Where a thread can't be started, those that were end first.
+// all meet. If a thread can't be started, those that were end first.
 pub fn play_phase<'e, R: Threads + Wait, N: Asked + Sync, G: Gate + Sync>(
     rt: &'e R,
     alloc: Global,
@@ -46,7 +46,7 @@ pub fn play_phase<'e, R: Threads + Wait, N: Asked + Sync, G: Gate + Sync>(
     Ok(meet_all(workers))
 }
 
-// Starts each worker, in a thread of its own where it has lines, and waits for all.
+// Starts each worker, in a thread of its own if it has lines, and waits for all.
 fn play_in_threads<'s, 'e, R: Threads + Wait, N: Asked + Sync, G: Gate + Sync>(
     scope: &'s Scope<'s, &'e ()>,
     rt: &'e R,

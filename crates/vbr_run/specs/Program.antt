@@ -47,7 +47,7 @@ shape_fault_number shape.Slots = 1
 shape_fault_number shape.Buckets = 2
 shape_fault_number shape.LastEpoch = 3
 
--- the line on standard error where there is no such shape
+-- the line on standard error if there is no such shape
 abbrev pub shape_line : ShapeError → List ℕ
 shape_line error = line (codes "vbr_run: shape fault " ++ decimal (shape_fault_number error))
 
@@ -61,12 +61,12 @@ unopened NotFound = codes "no such file"
 unopened PermissionDenied = codes "permission denied"
 unopened _ = codes "can't be opened"
 
--- the line on standard error after an error of a run whose script was in a file, if it was: where the file couldn't be read, it is named
+-- the line on standard error after an error of a run, which may have its script in a file: a file that couldn't be read is named
 abbrev pub fault_line : Option Text → RunError → List ℕ
 fault_line (Some name) error.Read = file_line (codes "can't be read") name
 fault_line file e = error_line e
 
--- The status and the standard error tell the player's answer: nothing is written of a run that was done, and else as much of the error's line as could be written.
+-- The status and the standard error show the player's answer: nothing is written of a run that was done, and else as much of the error's line as could be written.
 abbrev pub TellsOutcome : {T : Type 0} → Option Text → Result T RunError → Option (List ℕ) → Option (List ℕ) → ℕ → Type 0
 TellsOutcome file (Ok totals) old new status = (status ≡ DONE) × Keeps old new
 TellsOutcome file (Err e) old new status = (status ≡ error_status e) × AppendsSome old new (fault_line file e)
@@ -97,7 +97,7 @@ abbrev pub opened_as : {F : Type 0} → (F → Option (List ℕ)) → Result F E
 opened_as remaining (Ok file) = Ok (remaining file)
 opened_as remaining (Err e) = Err (error_kind e)
 
--- what may be given where a file of a name is opened
+-- what may be given when a file of a name is opened
 abbrev pub Opening : Type 1
 Opening = Text → Result (Option (List ℕ)) IoErrorKind → Type 0
 
@@ -130,7 +130,7 @@ IsCutShort run = (run.status ≡ DEVICE_FAULT) × AppendsSome run.errors_before 
 abbrev pub IsFault : ProgramRun → Type 0
 IsFault run = (run.status ≡ USAGE) × Keeps run.output_before run.output × ((text : List ℕ) × AppendsSome run.errors_before run.errors text)
 
--- what `clap` has for a command line is written: the help and the version where they were asked for, and all else as a fault
+-- what `clap` has for a command line is written: the help and the version if they were asked for, and all else as a fault
 abbrev pub TellsOptions : ErrorKind → ProgramRun → Type 0
 TellsOptions asked.DisplayHelp run = IsShown run ⊎ IsCutShort run
 TellsOptions asked.DisplayVersion run = IsShown run ⊎ IsCutShort run
@@ -155,7 +155,7 @@ ExplainsName true run = IsShown run ⊎ IsCutShort run
 ExplainsName _ run = IsFault run
 
 -- what a command line without a fault asks for is done
--- It may want something explained, name a shape that there isn't, or name a file; else the script is on standard input. The kind is that of its script.
+-- It may want something explained, name a shape that there isn't, or name a file; else the script is on standard input. The kind is its script's.
 -- So something is explained, or it is written that there is no such shape, or the script is played.
 abbrev pub IsDone : Option Text → Option ShapeError → Option Text → Kind → Settings → Option (List ℕ) → Opening → ProgramRun → Type 0
 IsDone (Some name) shape file kind settings input opens run = ExplainsName (is_explained name) run
@@ -171,7 +171,7 @@ DoesAsked arguments input opens run = IsDone (explained_of arguments) (shape_fau
 abbrev pub TellsFault : List (List ℕ) → ProgramRun → Type 0
 TellsFault arguments run = (kind : ErrorKind) × IsAmong kind (faults arguments) × TellsOptions kind run
 
--- how a run of the program ends, by its arguments: what those that the command takes ask for is done; and of all others, what the command has for them is written; or else want of memory is, which a run that plays standard input tells of itself
+-- how a run of the program ends, by its arguments: what those that the command takes ask for is done; and of all others, what the command has for them is written; or else want of memory is, which a run that plays standard input reports itself
 pub record AnswersCommand (arguments : List Text) (input : Option (List ℕ)) (opens : Opening) (run : ProgramRun) : Type 0 where
   pub taken : AreOptions arguments → DoesAsked arguments input opens run ⊎ LacksMemory run
   pub answered : ((faults arguments ≡ []) × DoesAsked arguments input opens run) ⊎ (TellsFault arguments run ⊎ LacksMemory run)

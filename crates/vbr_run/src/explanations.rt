@@ -1,4 +1,4 @@
-// What the faults and refusals mean that the program tells, and what helps.
+// What the faults and refusals mean that the program reports, and what helps.
 ghost use Rattle.std.specs.Prelude.{◌≡◌, is_some};
 ghost use Rattle.vbr_run.specs.Program.{is_explained};
 

@@ -1,4 +1,4 @@
-//! The player of scripts under one name: it reads a script of calls of a set or of a map, plays it on
+//! The player of scripts under one name: it reads a script of calls on a set or on a map, plays it on
 //! worker threads, and prints replies and totals. Set and map are those of `vbr_set`: Michael's
 //! list-based set (Michael 2002) over slots that are used again by Version Based Reclamation (Sheffi,
 //! Herlihy and Petrank 2021).
@@ -16,7 +16,7 @@
 //! play(&rt, rt.alloc(), config, &mut script, &mut output, &NoGate)?;
 //! ```
 //!
-//! Each line of a script is one call of the set, by the member of its worker, with the budget of the
+//! Each line of a script is one call on the set, by the member of its worker, with the budget of the
 //! config: at most so many steps, and 2(w - 1) steps more after each phase of w workers, which then
 //! meet. A call that is refused is written as `full`, `spent` or `tired`, and the run goes on. A run that
 //! isn't done is a [`RunError`]: for a faulty script, a failing reader, want of memory or of a thread

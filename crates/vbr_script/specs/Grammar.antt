@@ -45,7 +45,7 @@ lone_token token =
     else (if bytes_eq token (codes "renew") then Renew
     else Faulty fault.Words)
 
--- what the tokens of a line mean to a script of this kind for so many workers: the value is 0 where none is written, and sets have none
+-- what the tokens of a line mean to a script of this kind for so many workers: the value is 0 if none is written, and sets have none
 abbrev pub meaning_of : Kind → ℕ → List (List ℕ) → Meaning
 meaning_of kind workers [] = Blank
 meaning_of kind workers (token ∷ []) = lone_token token
@@ -53,7 +53,7 @@ meaning_of kind workers (worker ∷ operation ∷ key ∷ []) = meaning_of_token
 meaning_of kind.Map workers (worker ∷ operation ∷ key ∷ value ∷ []) = meaning_of_tokens (number_below workers worker) (op_with_value (operation_of kind.Map operation)) (number_below (2 ^ 64) key) (number_below (2 ^ 64) value)
 meaning_of kind workers _ = Faulty fault.Words
 
--- a script fault's number, in the order of the tests but for that of a value
+-- a script fault's number, in the order of the tests but for the test of a value
 abbrev pub fault_number : ScriptFault → ℕ
 fault_number fault.Words = 1
 fault_number fault.Worker = 2

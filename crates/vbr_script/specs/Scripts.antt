@@ -57,7 +57,7 @@ renewals_from phase (Renew ∷ lines) = phase ∷ renewals_from (phase + 1) line
 renewals_from phase (Asks worker op key value ∷ lines) = renewals_from phase lines
 renewals_from phase (Faulty fault ∷ lines) = []
 
--- the first faulty line, where lines are counted on from a number, and its fault
+-- the first faulty line, with lines counted on from a number, and its fault
 abbrev pub first_fault_from : ℕ → List Meaning → Option (ℕ × ScriptFault)
 first_fault_from number [] = None
 first_fault_from number (Faulty fault ∷ lines) = Some (number, fault)
@@ -121,7 +121,7 @@ pub record IsScriptOf (kind : Kind) (workers : ℕ) (text : List ℕ) (script : 
 abbrev pub HasSome : Kind → ℕ → List ℕ → Type 0
 HasSome kind workers text = 0 < length (script_of kind workers text) + length (renewals_of kind workers text)
 
--- what is read of a text: the script that it is, or its first fault; where there is no memory, it has an operation or a renewal before that
+-- what is read of a text: the script that it is, or its first fault; if there is no memory, it has an operation or a renewal before that
 pub record ReadsScript (kind : Kind) (workers : ℕ) (text : List ℕ) (result : Result Script ScriptError) : Type 0 where
   pub script : IfOk result (IsScriptOf kind workers text)
   pub fault : (line : ℕ) (fault : ScriptFault) → IsErrOf result (refused.Fault line fault) →

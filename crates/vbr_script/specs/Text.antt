@@ -15,6 +15,6 @@ is_blank byte = (byte == 32) || (byte == 9)
 abbrev pub lines_of : List ℕ → List (List ℕ)
 lines_of text = map strip_carriage_return (slice_split is_line_feed text)
 
--- the tokens of a line: what stands between its blanks, where that isn't empty
+-- the tokens of a line: what stands between its blanks, if that isn't empty
 abbrev pub tokens_of : List ℕ → List (List ℕ)
 tokens_of line = filter (λ token. not (length token == 0)) (slice_split is_blank line)

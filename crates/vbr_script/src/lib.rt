@@ -1,4 +1,4 @@
-//! Scripts of calls of a set or of a map: what a text of bytes means as a script, its first fault,
+//! Scripts of calls on a set or on a map: what a text of bytes means as a script, its first fault,
 //! and the parser.
 //!
 //! [`parse_script`] and [`parse_map_script`] go over the bytes once, line by line and each line token by token.

@@ -22,7 +22,7 @@ pub struct Line {
     pub op: Op,
     /// The key that it is asked of.
     pub key: u64,
-    /// The value that an insert in a map stores with its key; 0 where none is written.
+    /// The value that an insert in a map stores with its key; 0 if none is written.
     pub value: u64,
 }
 

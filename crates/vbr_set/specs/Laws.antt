@@ -50,7 +50,7 @@ RemovesMakeProgress = (p q : PassView) (key budget : ℕ) (refusal : Refusal) �
 abbrev pub InsertsMakeProgress : Type 0
 InsertsMakeProgress = (p q : PassView) (key budget : ℕ) (refusal : Refusal) → PassLaw p → Calls Insert p q key budget (Err refusal) → LacksSteps (enough_to_insert_among (listed_for p.trace key) (most_disturbed p.trace q.trace) (steps_for_slot p q.trace)) budget refusal
 
--- the same for the calls of a map: a remove by its value counts as a remove, and a store has five steps more than an insert for each time that it is disturbed, and two more if it compares
+-- the same for the calls on a map: a remove by its value counts as a remove, and a store has five steps more than an insert for each time that it is disturbed, and two more if it compares
 pub record MapsMakeProgress : Type 0 where
   pub get : (p q : PassView) (key budget : ℕ) (refusal : Refusal) → PassLaw p → CallsGet p q key budget (Err refusal)
       → budget < enough_among (listed_for p.trace key) (most_disturbed p.trace q.trace)
@@ -86,7 +86,7 @@ pub record AnswersStay : Type 0 where
 
 -- ---- room
 
--- a pass has all its slots when it is opened, and behind each call of a set or a map, answered or refused, each meeting, each catching up, and each giving back, each reserve and each top-up of slots
+-- a pass has all its slots when it is opened, and after each call on a set or a map, answered or refused, each meeting, each catching up, and each giving back, each reserve and each top-up of slots
 pub record PassesHaveAllTheirSlots : Type 0 where
   pub opened : (set : TableView) (who : ℕ) → HasAllSlots (new_pass set who)
   pub called : (op : Op) (m n : MemberView) → HasAllSlots m.pass → IsCall op m n → HasAllSlots n.pass
@@ -95,7 +95,7 @@ pub record PassesHaveAllTheirSlots : Type 0 where
   pub gave : (p q : PassView) (shared : ℕ) → HasAllSlots p → GivesSlotsBack p q shared → HasAllSlots q
   pub reserved : (p q : PassView) (steps : ℕ) → HasAllSlots p → TakesFlags p q steps → HasAllSlots q
 
--- a pass has unlinked in turn when it is opened, and behind each call of a set or a map, answered or refused, each meeting, each catching up, and each giving back, each reserve and each top-up of slots
+-- a pass has unlinked in turn when it is opened, and after each call on a set or a map, answered or refused, each meeting, each catching up, and each giving back, each reserve and each top-up of slots
 pub record PassesUnlinkInTurn : Type 0 where
   pub opened : (set : TableView) (who : ℕ) → UnlinkedInTurn (new_trace set who)
   pub called : (op : Op) (m n : MemberView) → HasAllSlots m.pass → UnlinkedInTurn m.pass.trace → IsCall op m n → UnlinkedInTurn n.pass.trace

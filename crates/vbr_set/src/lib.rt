@@ -93,7 +93,7 @@ pub type VbrMap = set::VbrSet<Entries>;
 /// A member of a set: one of its passes, with a share of the set.
 pub type Member = member::Member<Keys>;
 
-/// A member of a map, with the calls of a map in place of the calls of a set: one of its passes, with a
+/// A member of a map, with the calls on a map in place of the calls on a set: one of its passes, with a
 /// share of the map.
 pub type MapMember = member::Member<Entries>;
 

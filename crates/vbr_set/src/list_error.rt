@@ -3,7 +3,7 @@ use std::error::Error;
 use std::fmt;
 use vbr_list::Refusal;
 
-/// Why no list of all keys, or of all entries, came. The pass has made no call of the set, and can go
+/// Why no list of all keys, or of all entries, came. The pass has made no call on the set, and can go
 /// on at once.
 #[derive(Clone, Copy, Debug, PartialEq, Eq, Hash)]
 pub enum ListError {

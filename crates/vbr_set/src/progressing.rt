@@ -7,7 +7,7 @@ ghost use Rattle.vbr_set.specs.progress.WalkProgress.{MembersWalk, ShapesTellEno
 
 /// A law: a pass made each step that would advance the epoch only when it needed that: it had a slot,
 /// in which it may give birth, that is stamped with the epoch. This holds when it is opened, and after
-/// each call of a set or a map, answered or refused, each meeting, each catching up, and each giving
+/// each call on a set or a map, answered or refused, each meeting, each catching up, and each giving
 /// back, each reserve and each top-up of slots.
 pub fn passes_advance_in_need()
     ensures { PassesAdvanceInNeed }
@@ -29,7 +29,7 @@ pub fn refusals_show_answers()
     ensures { RefusalsShowAnswers }
 {}
 
-/// A law: the same for the calls of a map.
+/// A law: the same for the calls on a map.
 pub fn map_refusals_show_answers()
     ensures { MapRefusalsShowAnswers }
 {}
@@ -111,7 +111,7 @@ pub fn epochs_are_paid()
 // ---- slots out of the shared pool
 
 /// A law: a pass wins a flag only if it has no slot, and never puts its last slot into the shared pool.
-/// This holds for each call of a set or a map, answered or refused, while it has all its slots, and for
+/// This holds for each call on a set or a map, answered or refused, while it has all its slots, and for
 /// each meeting and catching up. By giving back it goes beyond that at most once, and by each reserve
 /// and each top-up of slots at most once for each slot that it takes. A pass that may lack slots goes
 /// beyond it at most once by each insert.

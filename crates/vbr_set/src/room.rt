@@ -3,14 +3,14 @@
 ghost use Rattle.vbr_set.specs.Laws.{NoSlotAlone, OneUnstampedAtEachMoment, PassesHaveAllTheirSlots, PassesUnlinkInTurn, SlotsThatSuffice};
 
 /// A law: a pass has all its slots in its own pool and its hand, and none unstamped, when it is opened.
-/// The same holds after each call of a set or a map, answered or refused, and after each meeting, each
+/// The same holds after each call on a set or a map, answered or refused, and after each meeting, each
 /// catching up, each giving back, each reserve and each top-up of slots.
 pub fn passes_have_all_their_slots()
     ensures { PassesHaveAllTheirSlots }
 {}
 
 /// A law: a pass has unlinked in turn, each slot only once it had stamped all that it had unlinked
-/// before, when it is opened. The same holds after each call of a set or a map, answered or refused,
+/// before, when it is opened. The same holds after each call on a set or a map, answered or refused,
 /// and after each meeting, each catching up, each giving back, each reserve and each top-up of slots.
 pub fn passes_unlink_in_turn()
     ensures { PassesUnlinkInTurn }

@@ -25,7 +25,7 @@ pub fn open_alone<N: Kind>(
     Ok((set, pass))
 }
 
-/// Compares the entries of a report, and how many nodes it tells are linked and marked and how many slots are free.
+/// Compares the entries of a report, and how many nodes it says are linked and marked and how many slots are free.
 pub fn expect_report(
     rt: &impl Abort,
     report: &MapReport,

@@ -72,7 +72,7 @@ fn members_are_renewed(rt: HostRuntime) -> Result<(), Fail> {
     Ok(())
 }
 
-/// Where there are more keys than slots the members go on as they were.
+/// If there are more keys than slots the members go on as they were.
 #[test]
 fn renewal_has_no_room(rt: HostRuntime) -> Result<(), Fail> {
     let (one, other) = fill_two(&rt, rt.alloc()).expect(&rt, "there is memory");

@@ -39,7 +39,7 @@ impl Emptier {
     }
 }
 
-// Ends the set of the members, and tells what was in it.
+// Ends the set of the members, and returns its report.
 fn end(alloc: Global, emptiers: Vec<Emptier>) -> Result<Option<Report>, EndError> {
     let mut report = None;
     for emptier in emptiers {

@@ -228,7 +228,7 @@ fn top_ups_go_on_where_they_stopped(rt: HostRuntime) -> Result<(), Fail> {
     Ok(())
 }
 
-// Where a remove follows each insert, one insert of three advances the epoch with three slots in reserve; with none
+// If a remove follows each insert, one insert of three advances the epoch with three slots in reserve; with none
 // each but the first does.
 #[test]
 fn a_reserve_makes_the_epoch_last(rt: HostRuntime) -> Result<(), Fail> {

@@ -23,7 +23,7 @@ fn gives(
     assert_eq!(rt; caller.pass().steps(), steps);
 }
 
-// A list and a count with this budget tell these keys, each in so many steps.
+// A list and a count with this budget give these keys, each in so many steps.
 fn lists(
     rt: &impl Abort,
     alloc: Global,
@@ -199,7 +199,7 @@ fn go_over_entries(rt: &impl Abort, caller: &mut VbrMapRef)
     gives_entry(rt, caller, &mut cursor, None);
 }
 
-// A list and a count of a map tell these entries.
+// A list and a count of a map give these entries.
 fn lists_entries(
     rt: &impl Abort,
     alloc: Global,

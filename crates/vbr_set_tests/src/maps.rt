@@ -26,7 +26,7 @@ fn expect_three(rt: &impl Abort, report: &MapReport) {
     assert_eq!(rt; told, (1, 3, 0, 1));
 }
 
-/// The entries are there before any call, and a map that is closed at once tells them.
+/// The entries are there before any call, and a map that is closed at once reports them.
 #[test]
 fn opens_with_entries(rt: HostRuntime) -> Result<(), Fail> {
     let (map, passes) = open_three(rt.alloc())?;
@@ -34,7 +34,7 @@ fn opens_with_entries(rt: HostRuntime) -> Result<(), Fail> {
     Ok(())
 }
 
-/// A map that stays open tells the same.
+/// A map that stays open reports the same.
 #[test]
 fn tells_its_entries(rt: HostRuntime) -> Result<(), Fail> {
     let (map, mut passes) = open_three(rt.alloc())?;

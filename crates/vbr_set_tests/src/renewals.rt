@@ -24,7 +24,7 @@ fn open_with(alloc: Global, shape: Shape, keys: &[u64]) -> Result<(VbrSet, Vec<P
     }
 }
 
-// A fresh set with the keys of this one, which has two passes. Where memory lacked, it goes on from what
+// A fresh set with the keys of this one, which has two passes. If memory lacked, it goes on from what
 // is left.
 fn renew(alloc: Global, set: VbrSet, passes: Vec<Pass>) -> Option<(VbrSet, Vec<Pass>)>
     requires own { AllOf set passes.items }

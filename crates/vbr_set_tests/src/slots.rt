@@ -1,4 +1,4 @@
-//! The slots that reports and renewals tell.
+//! The slots that reports and renewals give.
 ghost use Rattle.std.specs.Prelude.{◌≡◌};
 
 use crate::members::{both, fill_two};
@@ -6,7 +6,7 @@ use std::alloc::Global;
 use std::test::Fail;
 use vbr_set::{Member, ReportWithSlots};
 
-// What two members of a set tell with slots, and the slots that a renewal tells then.
+// What two members of a set report with slots, and the slots that a renewal gives then.
 fn tell_and_renew(alloc: Global, one: Member, other: Member) -> Option<(ReportWithSlots, Vec<u32>)>
     requires { other.set ≡ one.set }
 {
@@ -17,7 +17,7 @@ fn tell_and_renew(alloc: Global, one: Member, other: Member) -> Option<(ReportWi
     Some((told, slots))
 }
 
-/// Two keys in a set of two slots have one each, and the renewal tells the slots that the report told.
+/// Two keys in a set of two slots have one each, and the renewal gives the slots that the report gave.
 #[test]
 fn slots_of_two_keys(rt: HostRuntime) -> Result<(), Fail> {
     let (one, other) = fill_two(&rt, rt.alloc()).expect(&rt, "there is memory");

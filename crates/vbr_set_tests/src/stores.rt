@@ -32,7 +32,7 @@ fn store_where_present(rt: &impl Abort, caller: &mut VbrMapRef)
     assert_eq!(rt; caller.get(5, 200), Ok(Some(72)));
 }
 
-// An exchange and a remove change nothing where the value is another one.
+// An exchange and a remove change nothing if the value is another one.
 fn change_by_value(rt: &impl Abort, caller: &mut VbrMapRef)
     ensures { caller.new.set ≡ caller.old.set }
 {
@@ -71,7 +71,7 @@ fn add_to_value(rt: &impl Abort, caller: &mut VbrMapRef)
     assert_eq!(rt; caller.remove(6, 200), Ok(Some(42)));
 }
 
-/// One caller makes each call with each outcome, and the close tells the entry that is left.
+/// One caller makes each call with each outcome, and the close reports the entry that is left.
 #[test]
 fn a_value_is_changed(rt: HostRuntime) -> Result<(), Fail> {
     let (map, pass) = open_alone::<Entries>(rt.alloc(), Shape::new(4, 2, 20)?, &[])?;
@@ -117,7 +117,8 @@ fn replace_thrice(rt: &impl Abort, caller: &mut VbrMapRef)
     );
 }
 
-// Stores 5 in a map of so many slots: of one, or of two, where it is replaced. Compares the value that is left.
+// Stores 5 in a map of so many slots: of one, or of two, in which it is replaced. Compares the value that
+// is left.
 fn expect_stored(rt: &impl Abort, alloc: Global, slots: u32, value: u64) -> Result<(), Fail> {
     let (map, pass) = open_alone::<Entries>(alloc, Shape::new(slots, 1, 20)?, &[])?;
     let mut caller = map.with_pass(pass);
@@ -159,7 +160,7 @@ fn take_turns(rt: &impl Abort, first: &mut VbrMapRef, second: &mut VbrMapRef)
     assert_eq!(rt; second.remove_if(5, 74, 200), Ok(Changed(Some(74))));
 }
 
-/// The map tells none of the key that both changed once it is removed.
+/// The map reports no entry of the key that both changed, once it is removed.
 #[test]
 fn two_callers_change_a_value(rt: HostRuntime) -> Result<(), Fail> {
     let (map, first, second) = open_two(rt.alloc(), (8, 1, 20))?;

@@ -7,7 +7,7 @@ use std::test::Fail;
 use std::thread::for_each_mut;
 use vbr_set::{MAX_EPOCH, Member, Refusal, Shape};
 
-// Whether the inserts of a key that were answered yes are as many as the removes, and one more where
+// Whether the inserts of a key that were answered yes are as many as the removes, and one more if
 // the key is in the set now.
 fn is_balanced(workers: &mut [Worker], key: usize) -> Result<bool, Refusal>
     requires { key < KEYS }

@@ -14,7 +14,7 @@ use Rattle.vbr_words.specs.declared.shape.ShapeError.{ShapeError}
 use Rattle.vbr_words.specs.declared.shape.TheConstants.{MAX_EPOCH}
 use Rattle.vbr_settings.specs.Settings.{Settings}
 
--- an option that takes a number between two limits, and is this number where it isn't given
+-- an option that takes a number between two limits, and is this number if it isn't given
 abbrev pub number_option : Text → ℕ → ℕ → Text → Rule
 number_option name least most default = record (new_rule name) {
   long = Some name;
@@ -70,7 +70,7 @@ command_line = fold with_rule (with_version (new_app (codes "vbr_run"))) options
 unfoldable pub AreOptions : List Text → Type 0
 AreOptions arguments = takes command_line arguments ≡ true
 
--- the kinds of error that the command answers a command line with: none where it takes it
+-- the kinds of error that the command answers a command line with: none if it takes it
 unfoldable pub faults : List Text → Kinds
 faults arguments = fault_of command_line arguments
 
@@ -115,7 +115,7 @@ asks_map_among rows = has_switch (codes "map") rows
 unfoldable pub asks_map : List Text → Bool
 asks_map arguments = asks_map_among (matches_of command_line arguments)
 
--- the file that the matches of a command line name: none where it is the name of standard input
+-- the file that the matches of a command line name: none if it is the name of standard input
 unfoldable pub file_among : List Row → Option Text
 file_among rows = option_and_then (λ name. if bytes_eq name (codes "-") then None else Some name) (first_of (codes "file") rows)
 

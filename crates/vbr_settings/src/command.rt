@@ -190,7 +190,7 @@ pub fn knows_its_options()
 
 /// A law: command lines that are refused, and with which kind of error. A number out of its option's
 /// limits is one that can't be taken, an option that there isn't and a second file are unknown, and
-/// the help and the version are printed where they are asked for.
+/// the help and the version are printed if they are asked for.
 pub fn knows_its_faults()
     ensures workers { HasFault (codes "--workers" ∷ codes "17" ∷ []) ErrorKind.ValueValidation }
     ensures no_number { HasFault (codes "--slots=many" ∷ []) ErrorKind.ValueValidation }
@@ -257,7 +257,7 @@ fn with_shape<'a>(alloc: Global, command: Command<'a>) -> Result<Command<'a>, Er
     Ok(command.arg(slots)?.arg(buckets)?.arg(last_epoch)?)
 }
 
-// An option that takes a number between two limits, and is this number where it isn't given.
+// An option that takes a number between two limits, and is this number if it isn't given.
 fn number<'a>(
     alloc: Global,
     name: &'a str,

@@ -55,7 +55,7 @@ pub enum ConfigError {
 
 impl Config {
     /// Plays on a set or map of this shape, by so many workers, with a budget of so many steps for each
-    /// call, and tells its epoch in the end or not. It reaches no set and takes no memory. Whether the
+    /// call, and shows its epoch in the end or not. It reaches no set and takes no memory. Whether the
     /// shape has values isn't kept: a set has none, and a map has.
     ///
     /// # Errors

@@ -51,7 +51,7 @@ impl<'a> Options<'a> {
         }
     }
 
-    /// The name of what is to be explained, where nothing is to be played.
+    /// The name of what is to be explained, if nothing is to be played.
     pub fn explained(&self) -> Option<&'a str>
         ensures { option_map (λ name. name.now) result
             ≡ explained_among (rows_of (found_of self.now.matches)) }

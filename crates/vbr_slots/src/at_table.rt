@@ -1,5 +1,5 @@
 //! A pass at its table. Its methods are the steps, for calls that make several and count them once for
-//! all. [`crate::Slots`] has those of one step as calls on a table and a pass, each of which puts the pass
+//! all. [`crate::Slots`] has the calls of one step, on a table and a pass: each of them puts the pass
 //! at the table, makes the step there, and counts it.
 pub mod bearing;
 pub mod confirming;

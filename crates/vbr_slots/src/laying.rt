@@ -14,7 +14,7 @@ use vbr_words::link::{MAX_SLOTS, version_of};
 use vbr_words::shape::shape_word;
 use vbr_words::{Link, Place, Shape, decode, encode, place_index, word_count};
 
-// The words of the world that opens with these keys, and their values where nodes have values. They
+// The words of the world that opens with these keys, and their values if nodes have values. They
 // are linked from the last one on, so that each finds the next of its bucket at the head of the list.
 pub(crate) fn opening_words(
     alloc: Global,

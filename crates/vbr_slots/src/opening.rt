@@ -232,7 +232,7 @@ impl Slots<Entries> {
     }
 }
 
-// The slot with which a pass of so many begins to look for a free one: where keys are spread, the passes
+// The slot with which a pass of so many begins to look for a free one: if keys are spread, the passes
 // begin with flag words that lie as far apart as may be, so that those which fill a table at once don't
 // all change one word.
 fn first_tried(opening: Opening, who: u32) -> u32
@@ -251,7 +251,7 @@ fn first_tried(opening: Opening, who: u32) -> u32
 }
 
 impl<N: Nodes> Slots<N> {
-    // A table with these keys, and with a value for each where nodes have values.
+    // A table with these keys, and with a value for each if nodes have values.
     fn build(
         alloc: Global,
         opening: Opening,

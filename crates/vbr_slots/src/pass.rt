@@ -156,7 +156,7 @@ impl Pass {
         self.stepper.forsake_slots();
     }
 
-    /// Lends what makes its steps, and then counts once how many the work tells that it made: its result
+    /// Lends what makes its steps, and then counts once how many the work says that it made: its result
     /// is what the work gives beside that number.
     #[inline]
     pub fn during<R, W: FnOnce(&mut Stepper) -> (R, u32)>(&mut self, work: W) -> R

@@ -69,7 +69,7 @@ impl Pool {
         }
     }
 
-    // As `push`, where the cells are full: first moves the slots to their front.
+    // As `push`, if the cells are full: first moves the slots to their front.
     #[inline(never)]
     fn push_moved(&mut self, slot: u32)
         requires { length self.old.items < POOL }
@@ -94,7 +94,7 @@ impl Pool {
         }
     }
 
-    // As `remove`, where others stand before it: those behind it move.
+    // As `remove`, if others stand before it: those behind it move.
     #[inline(never)]
     fn remove_moved(&mut self, index: usize)
         requires { index < length self.old.items }

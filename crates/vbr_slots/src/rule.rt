@@ -1,4 +1,4 @@
-//! The rule of the table, and what its steps tell. No value of these types is made but `Opening` and
+//! The rule of the table, and what its steps return. No value of these types is made but `Opening` and
 //! `OpeningWithEntries`.
 ghost use Rattle.std.specs.Prelude.{◌≡◌, IfOk};
 ghost use Rattle.vbr_machine.specs.Start.{start_with};
@@ -17,7 +17,7 @@ pub struct Opening {
     pub passes: u32,
 }
 
-/// What a table is opened with, and the keys that it opens with, with their values where nodes have
+/// What a table is opened with, and the keys that it opens with, with their values if nodes have
 /// values. The rule of the table goes by it, and once the table stands nothing of it is kept.
 #[derive(Drop)]
 pub struct OpeningWithEntries {
@@ -62,7 +62,7 @@ impl OpeningWithEntries {
     }
 }
 
-/// The keys that a table opened with, and their values, one for each key where nodes have values.
+/// The keys that a table opened with, and their values, one for each key if nodes have values.
 pub struct Opened {
     pub keys: LinkedList<u64>,
     pub payloads: LinkedList<u64>,
@@ -142,7 +142,7 @@ impl<E: Naming> Play<(), LinkedList<Witness>> for Catches<E> {
 }
 
 /// A load by a seat with the witnesses of all passes of the opening that `E` names, which is no event: it
-/// tells the word after all that they have seen.
+/// returns the word after all that they have seen.
 pub struct Surveys<E> {
     event: PhantomData<E>,
 }

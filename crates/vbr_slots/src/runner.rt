@@ -40,7 +40,7 @@ impl Runner {
     }
 }
 
-// Keeps the last epoch read, after a step that found this word. Nothing is stored where it stayed.
+// Keeps the last epoch read, after a step that found this word. Nothing is stored if it stayed.
 #[inline]
 pub(crate) fn keep_epoch(epoch: &mut u64, step: Step, found: u64)
     ensures { epoch.new ≡ epoch_after step found epoch.old }
@@ -61,7 +61,7 @@ pub struct EpochRead {
     pub stays: bool,
 }
 
-// Keeps the epoch that was found, and says whether it is the one that was kept. Nothing is stored where it
+// Keeps the epoch that was found, and says whether it is the one that was kept. Nothing is stored if it
 // stayed.
 #[inline]
 pub(crate) fn keep_epoch_found(epoch: &mut u64, found: u64) -> bool

@@ -34,7 +34,7 @@ impl<N: Nodes> Model for Slots<N> {
 }
 
 impl<N: Nodes> Slots<N> {
-    /// A law: its nodes have values just where its kind has them. It does nothing.
+    /// A law: its nodes have values exactly if its kind has them. It does nothing.
     #[inline]
     pub fn kind(&self)
         ensures { self.now.start.shape.values ≡ N.VALUES }

@@ -20,7 +20,7 @@ use vbr_words::Nodes;
 
 type AnySeat = Seat<(), LinkedList<Witness>>;
 
-// What is kept of a pass while its seat is joined to those of the others.
+// What is kept of a pass while its seat is joined to the seats of the others.
 #[derive(Drop)]
 pub(crate) struct Halted {
     opening: Opening,
@@ -75,7 +75,8 @@ impl<N: Nodes> Slots<N> {
         Ok(words)
     }
 
-    // Joins this seat, which has no witness, to those of the passes, from the last one on, and keeps the rest.
+    // Joins this seat, which has no witness, to the seats of the passes, from the last one on, and keeps
+    // the rest.
     fn halt_all(&self, none: AnySeat, passes: &mut Vec<Pass>, halted: &mut Vec<Halted>) -> AnySeat
         requires of_table { AllOf self.now passes.old.items }
         requires none { (none.table_id ≡ self.now.table) × (none.me ≡ ([], [])) }

@@ -26,7 +26,7 @@ use std::marker::Brand;
 use vbr_machine::Step;
 use vbr_words::{At, Nodes, Place, Shape, place_index_in, words_of_node};
 
-// The index of the link word at a place, where the words of slots begin at this one, and each slot has
+// The index of the link word at a place, if the words of slots begin at this one, and each slot has
 // so many. No branch is needed to find it.
 #[inline]
 fn link_from(slots: usize, words: usize, holder: At) -> usize

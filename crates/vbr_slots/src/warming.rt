@@ -14,11 +14,11 @@ const LARGE: u32 = 16_384;
 impl<N: Nodes> Slots<N> {
     /// Brings into the cache what look-ups of some keys begin with, the first [`BATCH`] of these: the head of
     /// each key's bucket, then the node that it names, and then the one that this names. None of these loads
-    /// waits for that of another key, so the memory serves them side by side. In a small table it does nothing.
+    /// waits for that of another, so the memory serves them side by side. In a small table it does nothing.
     ///
     /// It returns how many loads it made: none in a table of fewer than 16,384 slots, and else one for each of these
     /// keys, and up to four more. They are loads without a seat, so they are no steps, no pass learns of them, and
-    /// what they find is used for nothing else: a link says which slot is loaded next, where it is one of the table.
+    /// what they find is used for nothing else: a link says which slot is loaded next, if it is one of the table.
     pub fn warm(&self, keys: &[u64]) -> u32
         ensures small { self.now.start.shape.slots < LARGE → result ≡ 0 }
         ensures heads { LARGE ≤ self.now.start.shape.slots → min (length keys.now) BATCH ≤ result }
@@ -53,7 +53,7 @@ impl<N: Nodes> Slots<N> {
     }
 
     // Loads the last and the first word of the node that a link word names, and so all lines that it lies on.
-    // The first is its link, which is returned; where there is no node, what was given.
+    // The first is its link, which is returned; if there is no node, what was given.
     #[inline(always)]
     fn peek_node(&self, word: u64, loads: &mut u32) -> u64
         requires { loads.old < 2 ^ 16 }

@@ -1,4 +1,4 @@
-//! The list of one bucket where nodes have values: worked calls of a map, with their steps.
+//! The list of one bucket, of nodes with values: worked calls of a map, with their steps.
 ghost use Rattle.std.specs.Prelude.{None};
 
 use crate::rows::{
@@ -96,7 +96,7 @@ pub fn expect_stored<F: Fn(&[Row<Made>]) -> Result<(), Fail>>(
     ])
 }
 
-/// A value stays that of its insert: an insert of a present key is answered no, and changes nothing.
+/// A key keeps the value of its insert: an insert of a present key is answered no, and changes nothing.
 #[test]
 fn values_come_back(rt: HostRuntime) -> Result<(), Fail> {
     let rows = [

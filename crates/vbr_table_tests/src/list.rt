@@ -19,7 +19,7 @@ use vbr_slots::{Pass, Slots};
 use vbr_words::shape::MAX_EPOCH;
 use vbr_words::{At, Keys, Nodes};
 
-// A call of a set, with its key, and what it is answered.
+// A call on a set, with its key, and what it is answered.
 #[derive(Clone, Copy)]
 enum Made {
     Insert(u64, Result<bool, Refusal>),
@@ -200,7 +200,7 @@ fn a_marked_node_is_helped_away(rt: HostRuntime) -> Result<(), Fail> {
     expect_left(&rt, rt.alloc(), &rows, &words)
 }
 
-// Reads the one node, which has key 7, and 107 where it has a value, and marks it. The head comes with it, as it was
+// Reads the one node, which has key 7, and 107 if it has a value, and marks it. The head comes with it, as it was
 // read before.
 fn mark_one<N: Nodes>(
     rt: &impl Abort,
@@ -246,7 +246,7 @@ fn stand_behind_a_mark<R: Abort, C: Call>(
 }
 
 /// A pass stands still between its mark and its unlinking. Another one unlinks the node and uses the
-/// slot again: the exchange through the old link is lost. Where the node has a value, that was read before the mark,
+/// slot again: the exchange through the old link is lost. If the node has a value, that was read before the mark,
 /// in 2 steps.
 #[test]
 fn a_standing_pass_loses_its_exchange(rt: HostRuntime) -> Result<(), Fail> {

@@ -325,7 +325,7 @@ fn expect_listed<R: Abort, N: Opened>(
 }
 
 // The words of a table: first the epoch, the shape and the head, and then those of each slot, its link, birth, stamp and
-// key. A value comes behind them, of a hundred more than the key, where there are any. The flags come last.
+// key. A value comes after them, of a hundred more than the key, if there are any. The flags come last.
 fn words_of(
     alloc: Global,
     parts: &[&[u64]],

@@ -258,7 +258,7 @@ fn expect_stored(
 }
 
 /// A replacement that was lost to another goes on over the new node: a search takes 8 steps, the slot that was given
-/// back 3, a second search 8, the value 2, and the exchange 4. It answers the value that the other one stored. Where
+/// back 3, a second search 8, the value 2, and the exchange 4. It answers the value that the other one stored. If
 /// the old node still stands, it is helped out first, in 8 steps.
 #[test]
 fn a_replacement_after_another(rt: HostRuntime) -> Result<(), Fail> {
@@ -306,14 +306,14 @@ fn an_exchange_after_a_remove(rt: HostRuntime) -> Result<(), Fail> {
     Ok(())
 }
 
-// The words of the closing where pass 0's replacement alone has changed the map: 207 is in slot 2, and slot 0, which
-// names it, is marked and unlinked. Slot 1 was filled in hand. Behind the epoch, the shape and the head, there are
+// The words of the closing if pass 0's replacement alone has changed the map: 207 is in slot 2, and slot 0, which
+// names it, is marked and unlinked. Slot 1 was filled in hand. After the epoch, the shape and the head, there are
 // link, birth, stamp, key and value of each slot; and the flags.
 const REPLACED_ONCE: [u64; 19] = [
     1, 43, 11, 15, 1, 1, 7, 107, 8, 1, 0, 7, 307, 8, 1, 0, 7, 207, 0,
 ];
 
-// The words where pass 1 has then put 307, in slot 1, in the place of 207: slot 2, which names it, is marked and
+// The words once pass 1 has then put 307, in slot 1, in the place of 207: slot 2, which names it, is marked and
 // unlinked too.
 const REPLACED_TWICE: [u64; 19] = [
     1, 43, 10, 15, 1, 1, 7, 107, 8, 1, 0, 7, 307, 14, 1, 1, 7, 207, 0,

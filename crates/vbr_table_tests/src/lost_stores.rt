@@ -1,4 +1,4 @@
-//! A reader stands on a node while another pass replaces its value: what its next calls tell.
+//! A reader stands on a node while another pass replaces its value: what its next calls return.
 ghost use Rattle.std.specs.Prelude.{◌≡◌, true, None, IfOk};
 ghost use Rattle.vbr_words.specs.declared.place.At.TheVariants.{Slot};
 ghost use Rattle.vbr_table_tests.specs.Names.{IsHeld, IsOf, IsReplaceable, IsUnmarked, KeepsOwn, Names, knows, said};

@@ -123,7 +123,7 @@ fn use_a_slot<N: Nodes>(rt: &impl Abort, slots: &Slots<N>, pass: &mut Pass)
     expect_pool(rt, pass, &[0]);
 }
 
-// Uses the one slot of a table with this last epoch, and takes it again: compares what that tells, and how many steps
+// Uses the one slot of a table with this last epoch, and takes it again: compares its result, and how many steps
 // it took.
 fn take_once_used<R: Abort, N: Opened>(
     rt: &R,

@@ -79,7 +79,7 @@ pub fn read_one<N: Nodes>(rt: &impl Abort, slots: &Slots<N>, pass: &mut Pass) ->
     (head, node)
 }
 
-// Reads the value of a node, which is 107, where nodes have values.
+// Reads the value of a node, which is 107, if nodes have values.
 pub fn read_value<N: Nodes>(rt: &impl Abort, slots: &Slots<N>, pass: &mut Pass, node: &Held)
     requires own { IsOf pass.old.trace slots.now }
     requires node { IsPresent (knows pass.old.trace) (said slots.now node.now) }
@@ -97,7 +97,7 @@ pub fn read_value<N: Nodes>(rt: &impl Abort, slots: &Slots<N>, pass: &mut Pass, 
     assert_eq!(rt; value, 107);
 }
 
-// Takes slot 0, and inserts 7 into the one bucket, which is empty; with 107, where nodes have values. It takes 4 steps
+// Takes slot 0, and inserts 7 into the one bucket, which is empty; with 107, if nodes have values. It takes 4 steps
 // for the slot, 3 to the head, and 3 to link it, or 4 with the value.
 pub fn insert_one<N: Nodes>(rt: &impl Abort, slots: &Slots<N>, pass: &mut Pass)
     requires own { IsOf pass.old.trace slots.now }
@@ -118,7 +118,7 @@ pub fn insert_one<N: Nodes>(rt: &impl Abort, slots: &Slots<N>, pass: &mut Pass)
     }
 }
 
-// Marks and unlinks the one node, which is in slot 0: 8 steps to read it, 2 more where it has a value, a mark, and an
+// Marks and unlinks the one node, which is in slot 0: 8 steps to read it, 2 more if it has a value, a mark, and an
 // exchange.
 pub fn remove_one<N: Nodes>(rt: &impl Abort, slots: &Slots<N>, pass: &mut Pass) -> Unlinked
     requires own { IsOf pass.old.trace slots.now }

@@ -343,7 +343,7 @@ fn expect_opened_with_three<R: Abort, N: Opened>(
     Ok(())
 }
 
-/// Key number i stands in slot i, linked in its bucket's list. The other slots are in the shared pool. Where nodes have
+/// Key number i stands in slot i, linked in its bucket's list. The other slots are in the shared pool. If nodes have
 /// values, the value stands behind the key; the rest is as with keys alone.
 #[test]
 fn opens_with_three(rt: HostRuntime) -> Result<(), Fail> {
@@ -355,7 +355,7 @@ fn opens_with_three(rt: HostRuntime) -> Result<(), Fail> {
 }
 
 // Reads the epoch, which is 1, and takes slot 0 out of the shared pool. The stamp is that of the
-// opening where the pass is the only one, and has made no step before.
+// opening, if the pass is the only one, and has made no step before.
 fn take_first<N: Nodes>(rt: &impl Abort, slots: &Slots<N>, pass: &mut Pass)
     requires own { IsOf pass.old.trace slots.now }
     requires slot { 0 < slots.now.start.shape.slots }

@@ -20,14 +20,14 @@ use vbr_words::{Entries, Keys, Nodes};
 
 // Nodes of a kind of which items are inserted and removed.
 trait Inserted: Opened {
-    // Inserts a key that is absent, with this value where there are any.
+    // Inserts a key that is absent, with this value if there are any.
     fn insert_one<R: Abort>(rt: &R, slots: &Slots<Self>, pass: &mut Pass, key: u64, value: u64)
         requires own { IsOf pass.old.trace slots.now }
         requires empty_hand { pass.old.hand ≡ None }
         ensures own { IsOf pass.new.trace slots.now }
         ensures hand { pass.new.hand ≡ None };
 
-    // Removes a key, which has this value where there are any.
+    // Removes a key, which has this value if there are any.
     fn remove_one<R: Abort>(rt: &R, slots: &Slots<Self>, pass: &mut Pass, key: u64, value: u64)
         requires own { IsOf pass.old.trace slots.now }
         requires empty_hand { pass.old.hand ≡ None }

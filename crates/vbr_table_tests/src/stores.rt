@@ -7,7 +7,7 @@ use std::test::Fail;
 use vbr_list::{Refusal, Wanted};
 
 // Makes a store of key 1 after one call on a fresh table, with each budget that is too few and with
-// the least that is enough: refused it changes nothing; answered it tells what was there, in so many steps.
+// the least that is enough: refused it changes nothing; answered it returns what was there, in so many steps.
 fn expect_from(
     rt: &impl Abort,
     alloc: Global,
@@ -34,7 +34,7 @@ fn expect_from(
 }
 
 /// An absent key: a search takes three steps, a slot four, and a link four. So an insert makes 14, and
-/// one that wants anything 11, without its first search; where a value is wanted, a get answers no.
+/// one that wants anything 11, without its first search; if a value is wanted, a get answers no.
 #[test]
 fn stores_of_an_absent_key(rt: HostRuntime) -> Result<(), Fail> {
     let alloc = rt.alloc();
@@ -46,8 +46,8 @@ fn stores_of_an_absent_key(rt: HostRuntime) -> Result<(), Fail> {
 }
 
 /// A present key: a search takes eight steps, a value two, a slot five, as the first probe is lost, and the
-/// exchange four. So a replacement makes 27, two more where its value is wanted, and eight fewer where
-/// anything is; where it has to be absent, or has another value, a get answers with its value.
+/// exchange four. So a replacement makes 27, two more if its value is wanted, and eight fewer if
+/// anything is; if it has to be absent, or has another value, a get answers with its value.
 #[test]
 fn stores_of_a_present_key(rt: HostRuntime) -> Result<(), Fail> {
     let alloc = rt.alloc();

@@ -1,4 +1,4 @@
-//! The machine's world where nodes have values: the worked lists of events with values, refusals, and a
+//! The machine's world of nodes with values: the worked lists of events with values, refusals, and a
 //! world that opens with entries. The calls are those of a plain map.
 ghost use Rattle.std.specs.Prelude.{◌≡◌, true, false, IfOk};
 
@@ -148,7 +148,7 @@ fn expect_valued(
 
 /// Makes the steps of a list on nodes without values and on nodes with them, in one bucket, and compares their words, the
 /// calls, where each slot is and the value that it has in the end, and the number of incarnations. Each call has a
-/// hundred more than its key for its value, where there are any, and is answered as by a plain map.
+/// hundred more than its key for its value, if there are any, and is answered as by a plain map.
 pub(crate) fn expect_both(
     rt: &impl Abort,
     alloc: Global,
@@ -441,7 +441,7 @@ fn asks_for_a_value_since_the_birth(rt: HostRuntime) -> Result<(), Fail> {
     Ok(())
 }
 
-/// Where nodes have no values, no step is made for one.
+/// If nodes have no values, no step is made for one.
 #[test]
 fn a_set_has_no_values(rt: HostRuntime) -> Result<(), Fail> {
     let shape = Shape::new(1, 1, 10)?;

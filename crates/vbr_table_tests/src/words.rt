@@ -61,7 +61,7 @@ fn packs_links(rt: HostRuntime) -> Result<(), Fail> {
 
 // Numbers of slots, with the greatest last epoch of each, and with words of such tables: those of the unmarked and of
 // the marked link to the last slot with the greatest version, of a marked link to none with version 0, and of the
-// unmarked link to slot 0 with version 1. They are worked by hand: where a slot has so many bits, the greatest epoch is
+// unmarked link to slot 0 with version 1. They are worked by hand: if a slot has so many bits, the greatest epoch is
 // 2^(63 - bits) - 1. A word is the slot's number and one, 2^bits for the mark, and the version times 2^(bits + 1).
 type Edge = (u32, u64, (u64, u64, u64, u64));
 

@@ -14,7 +14,7 @@ use vbr_world::{
     Call, CoreRefusal, Effect, Event, Op, SlotPlace, Step, World, WorldRefusal, replay,
 };
 
-// The word at a place of the world, which has this shape; none where the shape has no such place.
+// The word at a place of the world, which has this shape; none if the shape has no such place.
 pub(crate) fn word_at(world: &World, shape: Shape, place: Place) -> Option<u128>
     requires slots { world.now.start.shape.slots ≡ shape.slots }
     requires buckets { world.now.start.shape.buckets ≡ shape.buckets }
@@ -378,7 +378,7 @@ fn an_unstamped_slot_is_not_raised(rt: HostRuntime) -> Result<(), Fail> {
     Ok(())
 }
 
-// Compares the number of calls, that of incarnations, and the epoch.
+// Compares the numbers of calls and of incarnations, and the epoch.
 fn expect_counts(rt: &impl Abort, world: &World, wanted: (usize, u64, u128)) {
     let told = (
         world.calls().len(),
@@ -388,7 +388,7 @@ fn expect_counts(rt: &impl Abort, world: &World, wanted: (usize, u64, u128)) {
     assert_eq!(rt; told, wanted);
 }
 
-// Replays a whole list, and compares the number of its calls, that of its incarnations, and the epoch.
+// Replays a whole list, and compares the numbers of its calls and of its incarnations, and the epoch.
 pub(crate) fn expect_whole(
     rt: &impl Abort,
     alloc: Global,
@@ -518,7 +518,7 @@ pub(crate) fn expect_bare(
     Ok(())
 }
 
-// The words of a fresh world of one slot and one bucket; where nodes have values there is one more.
+// The words of a fresh world of one slot and one bucket; if nodes have values there is one more.
 pub(crate) const FRESH: [u128; 8] = [1, 21, 0, 2_147_483_648, 0, 0, 0, 1];
 
 #[test]

@@ -17,12 +17,12 @@ Outcome = Line × Reply
 abbrev pub call_of_line : Line → Bool → Option ℕ → Call
 call_of_line line answer value = record { who = line.worker; op = line.op; key = line.key; reply = answer; value = value }
 
--- the value that an operation stores where it is answered yes: an insert in a map stores its own, and all else none
+-- the value that an operation stores if it is answered yes: an insert in a map stores its own, and all else none
 abbrev pub value_stored : Kind → Op → ℕ → Option ℕ
 value_stored Map Insert value = Some value
 value_stored _ op value = None
 
--- the call that an operation is where its reply answers it, and none where it was refused
+-- the call that an operation is if its reply answers it, and none if it was refused
 abbrev pub answer_of : Kind → Line → Reply → List Call
 answer_of kind line Yes = call_of_line line true (value_stored kind line.op line.value) ∷ []
 answer_of kind line (Value value) = call_of_line line true (Some value) ∷ []
@@ -49,6 +49,6 @@ outcomes_by who outcomes = filter (λ outcome. outcome.0.worker == who) outcomes
 abbrev pub outcomes_up_to : ℕ → List Outcome → List Outcome
 outcomes_up_to phase outcomes = filter (λ outcome. nat_le outcome.0.phase phase) outcomes
 
--- the outcomes of the phases behind one, in their order
+-- the outcomes of the phases after one, in their order
 abbrev pub outcomes_past : ℕ → List Outcome → List Outcome
 outcomes_past phase outcomes = filter (λ outcome. nat_lt phase outcome.0.phase) outcomes

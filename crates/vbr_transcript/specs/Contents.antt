@@ -30,7 +30,7 @@ abbrev pub contents_after : (kind : Kind) → Contents kind → List Call → Co
 contents_after Set keys calls = set_after keys calls
 contents_after Map entries calls = map_after entries calls
 
--- a history is legal where each call is answered by what the calls before it left, and each value given is the one stored
+-- a history is legal if each call is answered by what the calls before it left, and each value given is the one stored
 abbrev pub IsLegalFrom : (kind : Kind) → Contents kind → List Call → Type 0
 IsLegalFrom Set keys calls = IsLegal keys calls
 IsLegalFrom Map entries calls = IsMapLegal entries calls

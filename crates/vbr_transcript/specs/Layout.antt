@@ -51,14 +51,14 @@ tally_text tally =
     ++ line (codes "found" ++ spaced tally.found)
     ++ line (codes "refused" ++ spaced tally.refused)
 
--- the line of the epoch, where it is asked for
+-- the line of the epoch, if it is asked for
 abbrev pub epoch_text : Bool → ℕ → List ℕ
 epoch_text asked epoch = if asked then line (codes "epoch" ++ spaced epoch) else []
 
--- the whole text: the replies, a line for each total, what is there in the end last, and the epoch where it is asked for
+-- the whole text: the replies, a line for each total, what is there in the end last, and the epoch if it is asked for
 abbrev pub text_of : Bool → List Reply → Tally → List ℕ → ℕ → List ℕ
 text_of asked replies tally listed epoch = replies_text replies ++ (tally_text tally ++ listed) ++ epoch_text asked epoch
 
--- that of a run on a set or on a map
+-- the text of a run on a set or on a map
 abbrev pub layout_of : (kind : Kind) → Bool → List Reply → TotalsOf kind → List ℕ
 layout_of kind asked replies totals = text_of asked replies (tally_in kind totals) (listed_text kind (listed_in kind totals)) (epoch_in kind totals)

@@ -4,7 +4,7 @@ use Rattle.vbr_transcript.specs.Calls.{lines_by, outcomes_by}
 use Rattle.vbr_script.specs.declared.script.Line.{Line}
 use Rattle.vbr_transcript.specs.declared.reply.Reply.{Reply}
 
--- the replies of one worker, where each worker has a list of them
+-- the replies of one worker, if each worker has a list of them
 abbrev pub replies_by : ℕ → List (List Reply) → List Reply
 replies_by who own = slice_index_or own who []
 

@@ -42,7 +42,7 @@ gives_value Map Remove = true
 gives_value Map Get = true
 gives_value _ op = false
 
--- an operation may be answered so by a set or a map of this last epoch that has come to an epoch: yes comes with a value just where the operation gives one; and an insert alone finds the set full or its epochs spent, and they are spent only at the last
+-- an operation may be answered so by a set or a map of this last epoch that has come to an epoch: yes comes with a value just if the operation gives one; and an insert alone finds the set full or its epochs spent, and they are spent only at the last
 abbrev pub MayBeAnswered : Kind → ℕ → ℕ → Op → Reply → Type 0
 MayBeAnswered kind last epoch op Yes = gives_value kind op ≡ false
 MayBeAnswered kind last epoch op (Value value) = gives_value kind op ≡ true
@@ -112,7 +112,7 @@ pub record IsSetRun (kind : Kind) (manner : Manner) (start : Start) (workers pha
   pub refusals : All (λ outcome. MayBeAnswered kind start.shape.last_epoch (world_after start run).epoch outcome.0.op outcome.1) outcomes
   pub played : manner start phases outcomes run
 
--- outcomes are those of sets, one after the other, on which the phases from one on and up to another, which isn't among them, are played: behind the phase of each renewal the set is closed, and the next is opened with what its calls left. The history is the calls of all sets in their order, and the epoch is that of the last
+-- outcomes are those of sets, one after the other, on which the phases from one on and up to another, which isn't among them, are played: after the phase of each renewal the set is closed, and the next is opened with what its calls left. The history is the calls of all sets in their order, and the epoch is the last set's
 abbrev pub AreOfSets : Kind → Manner → Start → ℕ → ℕ → ℕ → List ℕ → List Outcome → List Call → ℕ → Type 0
 AreOfSets kind manner start workers from phases [] outcomes history epoch =
     (run : List Event) × IsSetRun kind manner start workers (phases - from) outcomes run × (history ≡ (world_after start run).calls) × (epoch ≡ (world_after start run).epoch)
@@ -132,7 +132,7 @@ pub record AreExplained (kind : Kind) (manner : Manner) (start : Start) (workers
 
 -- ---- the run
 
--- replies and totals of a run of a script, with so many workers, in so many phases, on a set or a map that starts so and is renewed behind these of them: each line has a reply; sets give these outcomes, with what is listed and the epoch of the totals, which count the outcomes
+-- replies and totals of a run of a script, with so many workers, in so many phases, on a set or a map that starts so and is renewed after these of them: each line has a reply; sets give these outcomes, with what is listed and the epoch of the totals, which count the outcomes
 pub record IsScriptRun (kind : Kind) (manner : Manner) (start : Start) (workers phases : ℕ) (renewals : List ℕ) (lines : List Line) (replies : List Reply) (totals : TotalsOf kind) : Type 0 where
   pub one_each : length replies ≡ length lines
   pub explained : AreExplained kind manner start workers 0 phases renewals (zip lines replies) (listed_in kind totals) (epoch_in kind totals)

@@ -7,7 +7,7 @@ use std::alloc::{AllocError, Global};
 use vbr_script::Line;
 
 /// Puts the replies that each worker has to its own lines together in script order: each line takes
-/// the next reply of its worker. Where `merged` has room for all lines, no more is made for it.
+/// the next reply of its worker. If `merged` has room for all lines, no more is made for it.
 pub fn merge(
     alloc: Global,
     lines: &[Line],

@@ -7,7 +7,7 @@ use Rattle.vbr_words.specs.declared.shape.TheConstants.{MIXER}
 abbrev pub multiplier_of : ℕ → ℕ
 multiplier_of seed = (2 * seed + 1) * MIXER % 2 ^ 64
 
--- where there is a multiplier it is odd
+-- if there is a multiplier, it is odd
 abbrev pub IsOdd : Option ℕ → Type 0
 IsOdd None = Unit {0}
 IsOdd (Some multiplier) = multiplier % 2 ≡ 1
@@ -16,7 +16,7 @@ IsOdd (Some multiplier) = multiplier % 2 ≡ 1
 abbrev pub mixed : ℕ → ℕ → ℕ
 mixed multiplier key = key * multiplier % 2 ^ 64 / 2 ^ 32
 
--- the bucket among so many: the key modulo their number; where keys are spread, the part of the buckets that its mixed bits are of 2^32
+-- the bucket among so many: the key modulo their number; if keys are spread, the part of the buckets that its mixed bits are of 2^32
 abbrev pub bucket_among : ℕ → Option ℕ → ℕ → ℕ
 bucket_among buckets None key = key % buckets
 bucket_among buckets (Some multiplier) key = mixed multiplier key * buckets / 2 ^ 32

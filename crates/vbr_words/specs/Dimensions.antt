@@ -4,7 +4,7 @@ use Rattle.vbr_words.specs.declared.link.TheConstants.{MAX_SLOTS, MAX_VERSION}
 use Rattle.vbr_words.specs.declared.shape.TheConstants.{MAX_SPREAD_BUCKETS}
 use Rattle.vbr_words.specs.Packing.{slot_bits}
 
--- the number of slots, the number of buckets, what keys are multiplied by where they are spread over them, the last epoch, and whether each node has a value
+-- the number of slots, the number of buckets, what keys are multiplied by if they are spread over them, the last epoch, and whether each node has a value
 pub record Dimensions : Type 0 where
   pub slots : ℕ
   pub buckets : ℕ

@@ -15,7 +15,7 @@ flag_words slots = (slots + (FLAGS - 1)) / FLAGS
 abbrev pub flag_of : ℕ → ℕ
 flag_of slot = 2 ^ (slot % FLAGS)
 
--- all flags of a word but that of a slot
+-- all flags of a word but the flag of a slot
 abbrev pub all_but : ℕ → ℕ
 all_but slot = 2 ^ 64 - 1 - flag_of slot
 
@@ -33,11 +33,11 @@ unfoldable pub first_bits : (ℕ → Bool) → ℕ → ℕ
 first_bits bit zero = 0
 first_bits bit (suc n) = first_bits bit n + digit (bit n) * 2 ^ n
 
--- the word with this number, where just these slots have their flags set
+-- the word with this number, if just these slots have their flags set
 unfoldable pub flag_word : (ℕ → Bool) → ℕ → ℕ
 flag_word is_set number = first_bits (λ i. is_set (FLAGS * number + i)) FLAGS
 
--- the first slot of a slot's word whose flag is set there, and where none is, the first slot of the next word
+-- the first slot of a slot's word whose flag is set there, and if none is, the first slot of the next word
 pub record IsNextFlag (word slot next : ℕ) : Type 0 where
   pub before : (s : ℕ) → word_of_flag s ≡ word_of_flag slot → s < next → has_flag word s ≡ false
   pub place : ((word_of_flag next ≡ word_of_flag slot) × (has_flag word next ≡ true)) ⊎ ((word ≡ 0) × (next ≡ FLAGS * (word_of_flag slot + 1)))

@@ -3,11 +3,11 @@ use Rattle.std.specs.Prelude.{ℕ, ◌+◌, ◌-◌, ◌*◌, ◌/◌, ◌%◌, 
 use Rattle.std.specs.Int.{leading_zeros, w32}
 use Rattle.vbr_words.specs.declared.link.TheConstants.{MARK}
 
--- how many bits name a slot where there are so many: the fewest that have a number for each of them and for none
+-- how many bits name a slot if there are so many: the fewest that have a number for each of them and for none
 unfoldable pub slot_bits : ℕ → ℕ
 slot_bits slots = 32 - leading_zeros w32 slots
 
--- the greatest last epoch where there are so many slots: the greatest version that there is room for beside a slot and the mark
+-- the greatest last epoch if there are so many slots: the greatest version that there is room for beside a slot and the mark
 abbrev pub max_epoch : ℕ → ℕ
 max_epoch slots = 2 ^ (63 - slot_bits slots) - 1
 

@@ -7,7 +7,7 @@ use Rattle.vbr_words.specs.declared.place.At.TheVariants as holder
 use Rattle.vbr_words.specs.declared.place.Place.{Place}
 use Rattle.vbr_words.specs.declared.place.Place.TheVariants.{Epoch, ShapeWord, Head, LinkOf, Birth, Stamp, Key, Value, Flags}
 
--- the place is there: its bucket or its slot is one of the shape, or its flags are those of slots of the shape; and a value is there only where nodes have values
+-- the place is there: its bucket or its slot is one of the shape, or its flags are those of slots of the shape; and a value is there only if nodes have values
 abbrev pub IsIn : Dimensions → Place → Type 0
 IsIn shape Epoch = Unit {0}
 IsIn shape ShapeWord = Unit {0}
@@ -19,11 +19,11 @@ IsIn shape (Key slot) = slot < shape.slots
 IsIn shape (Value slot) = (slot < shape.slots) × (shape.values ≡ true)
 IsIn shape (Flags number) = number < flag_words shape.slots
 
--- where the words of slots begin: behind the epoch, the shape and the heads
+-- where the words of slots begin: after the epoch, the shape and the heads
 abbrev pub slots_index : Dimensions → ℕ
 slots_index shape = 2 + shape.buckets
 
--- how many words a node has: its link, birth, stamp and key, and its value where it has one
+-- how many words a node has: its link, birth, stamp and key, and its value if it has one
 abbrev pub words_of_node : Bool → ℕ
 words_of_node values = if values then 5 else 4
 
@@ -35,7 +35,7 @@ node_words shape = words_of_node shape.values
 abbrev pub slot_index : Dimensions → ℕ → ℕ
 slot_index shape slot = slots_index shape + node_words shape * slot
 
--- where the flag words begin: behind the words of all slots
+-- where the flag words begin: after the words of all slots
 abbrev pub flags_index : Dimensions → ℕ
 flags_index shape = slot_index shape shape.slots
 

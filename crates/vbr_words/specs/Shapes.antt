@@ -6,7 +6,7 @@ use Rattle.vbr_words.specs.Packing.{max_epoch}
 use Rattle.vbr_words.specs.declared.shape.ShapeError.{ShapeError}
 use Rattle.vbr_words.specs.declared.shape.ShapeError.TheVariants as error
 
--- the last epoch that a number asks for where there are so many slots: the number, but MAX_EPOCH never asks for more than there is room for
+-- the last epoch that a number asks for if there are so many slots: the number, but MAX_EPOCH never asks for more than there is room for
 abbrev pub last_epoch_for : ℕ → ℕ → ℕ
 last_epoch_for slots asked = if asked == MAX_EPOCH then min asked (max_epoch slots) else asked
 

@@ -48,7 +48,7 @@ pub fn has_flag(word: u64, slot: u32) -> bool
     word >> (slot % FLAGS) & 1 == 1
 }
 
-/// The first slot whose flag is set in a word, of the slots of this slot's word; where no flag is
+/// The first slot whose flag is set in a word, of the slots of this slot's word; if no flag is
 /// set, the first slot of the next word.
 #[inline]
 pub fn next_flag(word: u64, slot: u32) -> u32
@@ -72,8 +72,8 @@ pub fn full_flags(shape: &Shape, number: u32) -> u64
     }
 }
 
-/// A law: the flag word of a slot has its flag exactly where it is set, and has room for no more
-/// than a `u64`. Where the flag of one slot is set or cleared, the word is that of one `|` or `&`.
+/// A law: the flag word of a slot has its flag exactly if it is set, and has room for no more
+/// than a `u64`. If the flag of one slot is set or cleared, the word is that of one `|` or `&`.
 pub fn flag_words_have_flags()
     ensures has { (is_set : ℕ → Bool) (slot : ℕ) →
         has_flag (flag_word is_set (word_of_flag slot)) slot ≡ is_set slot }

@@ -16,7 +16,7 @@ ghost use Rattle.vbr_words.specs.Packing.{IsPackable, packed, slot_bits, unpacke
 
 use std::marker::Model;
 
-/// How many bits of a link word name a slot, where there is room for those of any table.
+/// How many bits of a link word name a slot, if there is room for the slots of any table.
 pub const SLOT_BITS: u32 = 31;
 
 /// The mark in a link word.
@@ -269,7 +269,7 @@ pub fn wide(word: u64, layout: Layout) -> WideWord
 }
 
 /// A law: a link that fits is the link of its word, and each word is that of its link. So two
-/// links that fit are equal exactly where their words are, and so are two words and their links.
+/// links that fit are equal exactly if their words are, and so are two words and their links.
 pub fn words_are_links()
     ensures link_of_word { (link : Link) → IsLink link → link_of (word_of link) ≡ link }
     ensures word_of_link { (word : ℕ) → word_of (link_of word) ≡ word }

@@ -1,5 +1,5 @@
-//! The kinds of nodes. A table has nodes of one kind, which is known where a program is compiled: so
-//! what is about values costs nothing where there are none.
+//! The kinds of nodes. A table has nodes of one kind, which is known when a program is compiled: so
+//! what is about values costs nothing if there are none.
 ghost use Rattle.std.specs.Prelude.{Bool, true, false};
 
 /// A kind of nodes.

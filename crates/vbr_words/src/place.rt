@@ -40,7 +40,7 @@ pub enum Place {
     Flags(u32),
 }
 
-/// How many words each slot has: four, or five where nodes have values.
+/// How many words each slot has: four, or five if nodes have values.
 #[inline]
 pub fn words_of_node(values: bool) -> usize
     ensures words { result ≡ words_of_node values }
@@ -48,7 +48,7 @@ pub fn words_of_node(values: bool) -> usize
     if values { 5 } else { 4 }
 }
 
-// The index at which the words of a slot begin, where each has so many. At the number of slots it is that
+// The index at which the words of a slot begin, if each has so many. At the number of slots it is that
 // of the first flag word.
 #[inline]
 fn slot_index(shape: &Shape, words: usize, slot: u32) -> usize
@@ -61,7 +61,7 @@ fn slot_index(shape: &Shape, words: usize, slot: u32) -> usize
     2 + shape.buckets() as usize + words * slot as usize
 }
 
-// The index of a place, where each slot has so many words.
+// The index of a place, if each slot has so many words.
 #[inline]
 fn index_by(shape: &Shape, words: usize, place: Place) -> usize
     requires place { IsIn shape.now place }
@@ -93,7 +93,7 @@ pub fn place_index(shape: &Shape, place: Place) -> usize
 }
 
 /// The index of a place in a shape with nodes of this kind, as [`place_index`] has it. It asks the shape
-/// nothing of values, so that it takes shifts and no test where there are none.
+/// nothing of values, so that it takes shifts and no test if there are none.
 #[inline]
 pub fn place_index_in<N: Nodes>(shape: &Shape, place: Place) -> usize
     requires place { IsIn shape.now place }

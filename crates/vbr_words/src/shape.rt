@@ -20,11 +20,11 @@ pub const MAX_BUCKETS: u32 = 65_536;
 /// [`Shape::spread_with`].
 pub const MAX_SPREAD_BUCKETS: u32 = 2_147_483_648;
 
-/// A last epoch that each shape takes: there is room for it with up to 16,777,215 slots, and where there are more,
+/// A last epoch that each shape takes: there is room for it with up to 16,777,215 slots, and if there are more,
 /// it means the greatest one, which [`max_epoch`] gives.
 pub const MAX_EPOCH: u64 = 549_755_813_887;
 
-/// What keys are multiplied by where they are spread and no seed is given: 2^64 divided by the golden
+/// What keys are multiplied by if they are spread and no seed is given: 2^64 divided by the golden
 /// ratio, an odd number.
 pub const MIXER: u64 = 0x9E37_79B9_7F4A_7C15;
 
@@ -142,7 +142,7 @@ impl Error for SpreadError {}
 
 impl Shape {
     /// The shape of these numbers, whose nodes have no values, or what is wrong with the first
-    /// faulty one. [`MAX_EPOCH`] as the last epoch means the greatest of the shape where that is less.
+    /// faulty one. [`MAX_EPOCH`] as the last epoch means the greatest of the shape if that is less.
     pub fn new(slots: u32, buckets: u32, last_epoch: u64) -> Result<Self, ShapeError>
         ensures { MatchResult result
             (λ shape. (shape_error slots buckets last_epoch ≡ None) × (shape ≡ record {
@@ -188,10 +188,10 @@ impl Shape {
         self.spread_with(buckets, 0)
     }
 
-    /// As [`Shape::spread_over`], with the mixture that the seed tells: one that is drawn at random and
-    /// kept secret puts two keys into one bucket with a probability of at most 2 / buckets where these are
+    /// As [`Shape::spread_over`], with the mixture of the seed: one that is drawn at random and
+    /// kept secret puts two keys into one bucket with a probability of at most 2 / buckets if these are
     /// a power of two, whatever the keys, so nobody can choose keys that share one. Each of the 2^63
-    /// mixtures belongs to two seeds, whose difference is 2^63, and that of `spread_over` to 0.
+    /// mixtures belongs to two seeds, whose difference is 2^63, and the mixture of `spread_over` to 0.
     pub fn spread_with(self, buckets: u32, seed: u64) -> Result<Self, SpreadError>
         ensures { MatchResult result
             (λ shape. (0 < buckets) × (buckets ≤ MAX_SPREAD_BUCKETS)
@@ -247,7 +247,7 @@ impl Shape {
     }
 
     /// The seed by which keys are spread over the buckets, below 2^63: with it [`Shape::spread_with`]
-    /// gives the same mixture. None where they aren't spread.
+    /// gives the same mixture. None if they aren't spread.
     pub fn seed(&self) -> Option<u64>
         ensures seed { MatchOption result (self.now.spread ≡ None)
             (λ seed. self.now.spread ≡ Some (multiplier_of seed)) }
@@ -294,7 +294,7 @@ impl Shape {
         self.layout
     }
 
-    /// The bucket of a key: the key modulo the number of buckets, or, where keys are spread, the bucket
+    /// The bucket of a key: the key modulo the number of buckets, or, if keys are spread, the bucket
     /// that its mixed bits name.
     #[inline]
     pub fn bucket_of(&self, key: u64) -> u32
@@ -312,7 +312,7 @@ impl Shape {
     }
 }
 
-// The last epoch that a number asks for where there are so many slots.
+// The last epoch that a number asks for if there are so many slots.
 fn last_epoch_for(slots: u32, asked: u64) -> u64
     requires { slots ≤ MAX_SLOTS }
     ensures { result ≡ last_epoch_for slots asked }

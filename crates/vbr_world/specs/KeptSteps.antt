@@ -34,7 +34,7 @@ pub record IsMade (old new : KeptWorld) (event : Event) (answer : Effect) : Type
   pub effect : answer ≡ effect_of event.step (found_in old event.step)
   pub after : world_of new ≡ machine.after old.start (world_of old) event.pass event.step
 
--- the event was refused, for this, and nothing has changed; memory lacks only where the event makes a list longer
+-- the event was refused, for this, and nothing has changed; memory lacks only if the event makes a list longer
 pub record RefusesEvent (old new : KeptWorld) (event : Event) (why : CoreRefusal) : Type 0 where
   pub refused : IsRefusedIn old event why
   pub unchanged : new ≡ old

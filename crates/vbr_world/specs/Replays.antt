@@ -17,7 +17,7 @@ pub record IsReplayed (opened : Start) (count : ℕ) (events : List Event) (kept
   pub start : kept.start ≡ opened
   pub passes : length kept.passes ≡ count
 
--- the event at an index is refused, for this, after those before it, which are a run; memory lacks only where it makes a list longer
+-- the event at an index is refused, for this, after those before it, which are a run; memory lacks only if it makes a list longer
 pub record StopsIn (start : Start) (passes : ℕ) (events : List Event) (index : ℕ) (refusal : CoreRefusal) : Type 0 where
   pub event : Event
   pub here : slice_get events index ≡ Some event

@@ -141,7 +141,7 @@ impl World {
         }
     }
 
-    // The world that opens with these keys, and where nodes have values, with a value for each.
+    // The world that opens with these keys, and if nodes have values, with a value for each.
     fn opened(
         alloc: Global,
         shape: Shape,
@@ -167,7 +167,7 @@ impl World {
     /// One step. It tests whether the pass is there, whether the step is in the shape, what the
     /// pass owns, what it has checked, the step's numbers, and the last epoch, in that order. Then
     /// the pass learns, and a step that isn't lost writes. Memory is refused only to a step that
-    /// makes a list longer: the reads of its pass, pending or checked, or the calls. Where a step
+    /// makes a list longer: the reads of its pass, pending or checked, or the calls. If a step
     /// is refused, nothing changes.
     pub fn step(&mut self, event: Event) -> Result<Effect, CoreRefusal>
         ensures made { IfOk result (IsMade self.old self.new event) }

@@ -38,7 +38,7 @@ pub record IsOther (refused op : Op) : Type 0 where
   pub other : op ≢ refused
   pub no_get : op ≢ Get
 
--- ---- what they tell
+-- ---- what they promise
 
 -- in so many steps, the pass kept its own pool, its hand and what it knew, and took no slot
 pub record KeepsIn (p q : PassView) (steps : ℕ) : Type 0 where

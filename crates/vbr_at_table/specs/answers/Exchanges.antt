@@ -37,7 +37,7 @@ pub record IsGap (p : Trace) (key : ℕ) (pred : Held) : Type 0 where
   pub behind : StandsBehind p.start (knows p) pred.at key
   pub before : StandsBefore (knows p) key (link_of pred.word).slot
 
--- ---- what they tell
+-- ---- what they promise
 
 -- another link stood where one was held: no call was made, and no list changed
 pub record LosesExchange (p q : Trace) (held : Held) (rollback : Rollback) : Type 0 where

@@ -38,7 +38,7 @@ pub record MarksSlot (p q : Trace) (slot birth key : ℕ) : Type 0 where
   pub node : ℕ
   pub entry : IsEntry q.start moment slot birth key node
 
--- so it is of each slot and key that a node which is held may have
+-- the same holds for each slot and key that a node which is held may have
 pub record MarksHeld (p q : Trace) (held : Held) : Type 0 where
   pub marks : (s key : ℕ) → held.at ≡ Slot s → KeyAt (knows p) held.at key → MarksSlot p q s held.birth key
 
@@ -56,7 +56,7 @@ pub record WasHeldValue (p q : Trace) (held : Held) (s key value : ℕ) : Type 0
   pub present : set_after (opening_keys p.start) (world_after p.start was.moment).calls key ≡ true
   pub stored : values_after (opening_payloads p.start) (world_after p.start was.moment).calls key ≡ Some value
 
--- so it is of each slot and key that it may have, and of each value, if nodes have values
+-- the same holds for each slot and key that it may have, and for each value, if nodes have values
 pub record ShowsEntry (p q : Trace) (held : Held) : Type 0 where
   pub shows : (s key : ℕ) → held.at ≡ Slot s → KeyAt (knows p) held.at key → WasHeldEntry p q held s key
   pub stores : p.start.shape.values ≡ true → (s key value : ℕ) → held.at ≡ Slot s → KeyAt (knows p) held.at key → ValueAt (knows p) held.at value → WasHeldValue p q held s key value

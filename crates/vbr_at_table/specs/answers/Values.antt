@@ -37,7 +37,7 @@ abbrev pub ValueAt : Know → At → ℕ → Type 0
 ValueAt know (Head b) value = ⊥
 ValueAt know (Slot s) value = Knows know (ValueOf s value)
 
--- a value is known at a place, where nodes have values
+-- a value is known at a place, if nodes have values
 abbrev pub IsValued : Trace → At → Type 0
 IsValued p place = p.start.shape.values ≡ true → (value : ℕ) × ValueAt (knows p) place value
 
@@ -45,14 +45,14 @@ IsValued p place = p.start.shape.values ≡ true → (value : ℕ) × ValueAt (k
 abbrev pub IsAsked : Trace → Op → At → Type 0
 IsAsked p op place = op ≡ Get → (p.start.shape.values ≡ true) × ((value : ℕ) × ValueAt (knows p) place value)
 
--- the operation is another one than this, and a get only where nodes have values
+-- the operation is another one than this, and a get only if nodes have values
 pub record IsOtherIn (start : Start) (refused op : Op) : Type 0 where
   pub other : op ≢ refused
   pub asked : op ≡ Get → start.shape.values ≡ true
 
 -- ---- calls
 
--- the call of an entry: it has the value, where nodes have values
+-- the call of an entry: it has the value, if nodes have values
 abbrev pub entry_call : Start → ℕ → Op → ℕ → Bool → ℕ → Call
 entry_call start who op key reply value = record { who = who; op = op; key = key; reply = reply; value = payload_kept start (Some value) }
 
@@ -60,7 +60,7 @@ entry_call start who op key reply value = record { who = who; op = op; key = key
 abbrev pub found_call : ℕ → Op → ℕ → ℕ → Call
 found_call who op key value = record { who = who; op = op; key = key; reply = present_reply op; value = present_value op (Some value) }
 
--- ---- what calls tell
+-- ---- what calls promise
 
 -- this is the value of the node at a place, read in the epoch that the pass had
 pub record IsValueRead (p q : PassView) (place : At) (found : ℕ) : Type 0 where
@@ -96,28 +96,28 @@ pub record AnswersEntry (p q : Trace) (op : Op) (node : Held) : Type 0 where
 
 -- ---- an entry in hand
 
--- the steps of storing a value: one where nodes have values
+-- the steps of storing a value: one if nodes have values
 abbrev pub steps_to_value : Bool → ℕ
 steps_to_value true = 1
 steps_to_value false = 0
 
--- the steps of linking a new node: its key, its value where nodes have values, its link, and the exchange
+-- the steps of linking a new node: its key, its value if nodes have values, its link, and the exchange
 abbrev pub steps_to_update : Start → ℕ
 steps_to_update start = 1 + steps_to_value start.shape.values + 1 + 1
 
--- a slot in hand once its value is stored, where nodes have values
+-- a slot in hand once its value is stored, if nodes have values
 abbrev pub with_kept_value : Bool → Option Holding → ℕ → Option Holding
 with_kept_value true holding value = with_value holding value
 with_kept_value false holding value = holding
 
--- the slot in hand has the value, where nodes have values; no call was made, and no list changed
+-- the slot in hand has the value, if nodes have values; no call was made, and no list changed
 pub record PutsValue (p q : PassView) (slot value : ℕ) : Type 0 where
   pub quiet : Quiet p.trace q.trace
   pub hand : q.hand ≡ p.hand
   pub holding : (knows q.trace).own slot ≡ with_kept_value p.trace.start.shape.values ((knows p.trace).own slot) value
   pub unchanged : ChangesNone p.trace q.trace
 
--- the incarnation in hand has this key and this birth in its link, and this value where nodes have values; and no call was made
+-- the incarnation in hand has this key and this birth in its link, and this value if nodes have values; and no call was made
 pub record FillsEntry (p q : PassView) (pred : Held) (given : HandView) (key value birth : ℕ) : Type 0 where
   pub fills : FillsHand p q pred given key birth
   pub valued : p.trace.start.shape.values ≡ true → value_in_hand ((knows q.trace).own given.slot) ≡ Some value

@@ -6,7 +6,7 @@ use Rattle.vbr_slots.specs.declared.pass.TheConstants.{POOL}
 use Rattle.vbr_at_table.specs.declared.refusal.Refusal.{Refusal}
 use Rattle.vbr_at_table.specs.declared.refusal.Refusal.TheVariants.{OutOfSteps, NoSlot, EpochSpent}
 
--- out of the shared pool into an empty own pool: a probe for each flag word, and one more where a word showed that another flag of it is set
+-- out of the shared pool into an empty own pool: a probe for each flag word, and one more if a word showed that another flag of it is set
 abbrev pub steps_to_win : Start → ℕ
 steps_to_win start = flag_words start.shape.slots + 1
 
@@ -15,7 +15,7 @@ abbrev pub steps_to_take : Start → List ℕ → ℕ
 steps_to_take start [] = steps_to_win start + 5
 steps_to_take start (slot ∷ pool) = POOL + 4
 
--- the same, where more slots may have come into the own pool by then
+-- the same, if more slots may have come into the own pool by then
 abbrev pub most_to_take : Start → List ℕ → ℕ
 most_to_take start [] = max (POOL + 4) (steps_to_win start + 5)
 most_to_take start (slot ∷ pool) = POOL + 4
@@ -29,7 +29,7 @@ probes_lost (slot ∷ pool) gains = 0
 abbrev pub steps_to_take_among : Start → List ℕ → ℕ → ℕ
 steps_to_take_among start pool gains = steps_to_take start pool + probes_lost pool gains
 
--- and so where more slots may have come into the own pool by then
+-- and in so many, if more slots may have come into the own pool by then
 abbrev pub most_to_take_among : Start → List ℕ → ℕ → ℕ
 most_to_take_among start pool gains = most_to_take start pool + probes_lost pool gains
 

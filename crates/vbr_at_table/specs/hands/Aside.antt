@@ -11,7 +11,7 @@ pub record IsPutAside (pass : PassView) (aside : Aside) : Type 0 where
   pub is : IsAside pass aside.slot
   pub given : birth_in_hand ((knows pass.trace).own aside.slot) ≡ aside.birth
 
--- so it is of the slot that is put aside, if there is one
+-- the same holds for the slot that is put aside, if there is one
 abbrev pub HasAside : PassView → Option Aside → Type 0
 HasAside pass None = Unit {0}
 HasAside pass (Some aside) = IsPutAside pass aside
@@ -21,7 +21,7 @@ pub record KeepsAllButHand (p q : PassView) : Type 0 where
   pub trace : q.trace ≡ p.trace
   pub pool : q.pool ≡ p.pool
 
--- so it is where its hand was emptied
+-- the same, and its hand is then empty
 pub record EmptiesHand (p q : PassView) : Type 0 where
   pub keeps : KeepsAllButHand p q
   pub hand : q.hand ≡ None

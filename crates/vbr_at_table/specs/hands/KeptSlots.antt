@@ -74,7 +74,7 @@ pub record KeepsSlots (p q : PassView) : Type 0 where
   pub turn : GoesInTurn p.trace q.trace
   pub aside : KeepsAside p q
 
--- the own pool has what it had, and perhaps more behind
+-- the own pool has what it had, and perhaps more at its end
 abbrev pub PoolGrows : PassView → PassView → Type 0
 PoolGrows p q = (more : List ℕ) × (q.pool ≡ p.pool ++ more)
 
@@ -86,11 +86,11 @@ SharesWhereFull left p q = (flags_raised q.trace ≡ flags_raised p.trace) ⊎ (
 abbrev pub TriesNoFlag : PassView → PassView → Type 0
 TriesNoFlag p q = flags_tried q.trace ≡ flags_tried p.trace
 
--- it tried to take one only where its own pool was empty, and this holds
+-- it tried to take one only if its own pool was empty and this holds
 abbrev pub TriesOnlyWhere : Type 0 → PassView → PassView → Type 0
 TriesOnlyWhere Holds p q = TriesNoFlag p q ⊎ ((p.pool ≡ []) × Holds)
 
--- so it is where nothing more is asked
+-- it tried to take one only if its own pool was empty
 abbrev pub TriesWhereEmpty : PassView → PassView → Type 0
 TriesWhereEmpty = TriesOnlyWhere (Unit {0})
 
@@ -98,7 +98,7 @@ TriesWhereEmpty = TriesOnlyWhere (Unit {0})
 abbrev pub HasAllFree : PassView → Type 0
 HasAllFree p = (slot : ℕ) → MayBear ((knows p.trace).own slot) → HasSlot p slot
 
--- the pass won one flag at most, and raised none beyond its need; and where it had all its free slots at first, it won that flag where it had no slot
+-- the pass won one flag at most, and raised none beyond its need; and if it had all its free slots at first, it won that flag when it had no slot
 pub record WinsInNeed (p q : PassView) : Type 0 where
   pub one : flags_won q.trace ≤ flags_won p.trace + 1
   pub raised : times_beyond q.trace + flags_won p.trace ≤ times_beyond p.trace + flags_won q.trace

@@ -42,7 +42,7 @@ pub record FallsShort (p q : PassView) (budget before most : ℕ) (told : Refusa
 
 -- the pass looked for a slot: it made no call, and no step that would advance the epoch
 -- No slot of it is lost; its own pool grew, if it changed. It put none into the shared pool, unless its own is full but for one place.
--- It tried to take one from there only where its own pool was empty, and won one flag at most.
+-- It tried to take one from there only if its own pool was empty, and won one flag at most.
 pub record LooksForSlot (p q : PassView) : Type 0 where
   pub quiet : Quiet p.trace q.trace
   pub count : advances q.trace ≡ advances p.trace
@@ -57,7 +57,7 @@ abbrev pub IsWon : PassView → PassView → ℕ → Type 0
 IsWon p q used = ((q.pool ≡ p.pool) × (p.pool ≢ []) × (used ≡ 0))
     ⊎ ((p.pool ≡ []) × (slot : ℕ) × (q.pool ≡ slot ∷ []) × CameByFlag p.trace q.trace slot)
 
--- the own pool has slots; and where it was empty, no more steps were used than it takes a lone pass to win one, and one for each slot that others took out of the shared pool
+-- the own pool has slots; and if it was empty, no more steps were used than it takes a lone pass to win one, and one for each slot that others took out of the shared pool
 pub record HasSlots (p q : PassView) (budget used : ℕ) : Type 0 where
   pub uses : Uses p q budget 0 used budget
   pub hand : q.hand ≡ None
@@ -104,7 +104,7 @@ pub record IsScanned (p q : PassView) (epoch budget before most : ℕ) (told : O
 abbrev pub ScansPart : PassView → PassView → ℕ → ℕ → ℕ → Refusal × ℕ → Type 0
 ScansPart p q budget before most told = FallsShort p q budget before most told
 
--- a slot was to be chosen: no call was made, the pool and the hand stay, no slot was lost or put into the shared pool, none was looked for there, and the epoch was advanced only where it had to be
+-- a slot was to be chosen: no call was made, the pool and the hand stay, no slot was lost or put into the shared pool, none was looked for there, and the epoch was advanced only if it had to be
 pub record Chooses (p q : PassView) : Type 0 where
   pub quiet : Quiet p.trace q.trace
   pub pool : KeepsPool p q
@@ -119,7 +119,7 @@ pub record IsChosen (p q : PassView) (budget before : ℕ) (told : (ℕ × ℕ) 
   pub uses : Uses p q budget before told.1 (length p.pool + 3)
   pub below : IsStampedBelow q (knows q.trace).epoch (Some told.0)
 
--- a refusal says that the budget has no room for one more piece; or that the epoch is spent, where it had room
+-- a refusal says that the budget has no room for one more piece; or, if it had room, that the epoch is spent
 abbrev pub IsShortOrSpent : PassView → ℕ → ℕ → Refusal → Type 0
 IsShortOrSpent q budget since (OutOfSteps used) = (used ≡ since) × (budget < since + PIECE)
 IsShortOrSpent q budget since NoSlot = ⊥

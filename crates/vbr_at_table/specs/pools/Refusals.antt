@@ -40,7 +40,7 @@ pub record IsOutOfSteps (p q : PassView) (budget used : ℕ) : Type 0 where
   pub within : used ≤ budget
   pub short : budget < used + PIECE
 
--- what a refusal says of a call; that the epoch is spent is returned only where the budget had room for the piece that would advance it
+-- what a refusal says of a call; that the epoch is spent is returned only if the budget had room for the piece that would advance it
 abbrev pub TakeIsRefused : PassView → PassView → ℕ → Refusal → Type 0
 TakeIsRefused p q budget (OutOfSteps used) = IsOutOfSteps p q budget used
 TakeIsRefused p q budget NoSlot = HasNoSlot p q
@@ -51,7 +51,7 @@ abbrev pub LeavesPool : PassView → PassView → Type 0
 LeavesPool p q = (q.pool ≡ p.pool)
     ⊎ ((p.pool ≡ []) × (slot : ℕ) × (q.pool ≡ slot ∷ []) × CameByFlag p.trace q.trace slot)
 
--- a refusal tells that the epoch is spent
+-- a refusal says that the epoch is spent
 abbrev pub TellsSpent : Refusal → Type 0
 TellsSpent (EpochSpent epoch) = Unit {0}
 TellsSpent _ = ⊥
@@ -59,7 +59,7 @@ TellsSpent _ = ⊥
 -- no slot was taken, for what the refusal says, and none is in hand
 -- With a slot in the own pool and a budget of 80 it says that the epoch is spent.
 -- To a pass that was alone it lacks steps only with a budget that has no room for those that taking one costs.
--- To any other pass the same holds, but for one more for each slot that others took out of the shared pool, where its own was empty.
+-- To any other pass the same holds, but for one more for each slot that others took out of the shared pool, if its own was empty.
 pub record RefusesTake (p q : PassView) (budget : ℕ) (refusal : Refusal) : Type 0 where
   pub why : TakeIsRefused p q budget refusal
   pub pool : LeavesPool p q

@@ -46,8 +46,8 @@ IsMissed p q slot = Contains q.pool slot ⊎ WasOutside p.trace q.trace slot
 abbrev pub most_kept : ℕ → ℕ
 most_kept wanted = min wanted (POOL - 1)
 
--- so many slots were taken: none beyond what is wanted, and fewer only where each slot was taken, or was outside the shared pool at a moment
--- No more steps were made than one for each of them, one for each flag word, and one for each slot that others took out of the shared pool meanwhile; and none where the own pool had what is wanted.
+-- so many slots were taken: none beyond what is wanted, and fewer only if each slot was taken, or was outside the shared pool at a moment
+-- No more steps were made than one for each of them, one for each flag word, and one for each slot that others took out of the shared pool meanwhile; and none if the own pool had what is wanted.
 pub record Reserves (p q : PassView) (wanted taken steps : ℕ) : Type 0 where
   pub takes : TakesFlags p q steps
   pub count : length q.pool ≡ length p.pool + taken
@@ -60,9 +60,9 @@ pub record Reserves (p q : PassView) (wanted taken steps : ℕ) : Type 0 where
 abbrev pub IsAmongNext : Trace → ℕ → ℕ → Type 0
 IsAmongNext p count slot = ((last_tried p < slot) × (slot ≤ last_tried p + count)) ⊎ (slot + p.start.shape.slots ≤ last_tried p + count)
 
--- so many slots were taken in so many tries: no slot beyond what is wanted, and no try beyond those that were allowed, nor where the own pool had what is wanted
+-- so many slots were taken in so many tries: no slot beyond what is wanted, no try beyond those that were allowed, and none if the own pool had what is wanted
 -- The tries go on: each was of another slot, and each slot on the way up to there was taken, or was outside the shared pool at a moment.
--- They end where the own pool has what is wanted, where all tries were made, or once round.
+-- They end when the own pool has what is wanted, when all tries were made, or once round.
 pub record TopsUp (p q : PassView) (wanted probes taken steps : ℕ) : Type 0 where
   pub takes : TakesFlags p q steps
   pub count : length q.pool ≡ length p.pool + taken
@@ -94,7 +94,7 @@ abbrev pub may_be_set : Option ℕ → ℕ → Bool
 may_be_set None slot = true
 may_be_set (Some word) slot = has_flag word slot
 
--- the next slot to try behind one: the next of its flag word whose flag may be set, by what was shown of the word; and where there is none, the first of the next word, of which nothing was shown
+-- the next slot to try after one: the next of its flag word whose flag may be set, by what was shown of the word; and if there is none, the first of the next word, of which nothing was shown
 pub record IsNextToTry (slot : ℕ) (shown : Option ℕ) (next : ℕ × Option ℕ) : Type 0 where
   pub above : slot < next.0
   pub none : (s : ℕ) → slot < s → s < next.0 → may_be_set shown s ≡ false

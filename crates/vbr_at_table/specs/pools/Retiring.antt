@@ -39,7 +39,7 @@ abbrev pub know_retired : Know → ℕ → ℕ → Bool → Know
 know_retired know epoch slot kept = with_own (read_epoch know epoch) slot (if kept then Some (Free epoch) else None)
 
 -- the slot was stamped in so many steps, and is in a pool again
--- It is in the own pool, or in the shared one where the own one has no place but the one for a hand.
+-- It is in the own pool, or in the shared one if the own one has no place but the one for a hand.
 -- No call was made, no slot was taken, and a pass that had unlinked in turn has done so since.
 -- No list was changed, and a pass that was alone left the lists as they were.
 pub record Retires (p q : PassView) (slot steps : ℕ) : Type 0 where

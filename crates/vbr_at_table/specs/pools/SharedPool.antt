@@ -16,7 +16,7 @@ pub record WasOutside (p q : Trace) (slot : ℕ) : Type 0 where
   pub is : Moment p q moment
   pub outside : (world_after p.start moment).place slot ≢ Shared
 
--- on a way once round the slots, which begins with those of this flag word and goes on from slot 0 behind the last one, the one slot comes before the other
+-- on a way once round the slots, which begins with those of this flag word and goes on from slot 0 after the last one, the one slot comes before the other
 abbrev pub ComesBefore : ℕ → ℕ → ℕ → Type 0
 ComesBefore word slot other =
     ((FLAGS * word ≤ slot) × (slot < other)) ⊎ ((other < FLAGS * word) × ((FLAGS * word ≤ slot) ⊎ (slot < other)))

@@ -15,9 +15,9 @@ use Rattle.vbr_at_table.specs.hands.KeptSlots.{KeepsSlots, SharesWhereFull, Trie
 use Rattle.vbr_at_table.specs.pools.SharedPool.{CameByFlag}
 use Rattle.vbr_at_table.specs.costs.WithinBudget.{TookWithin}
 
--- whatever is answered, no call of the set was made, and no more steps than the budget
+-- whatever is answered, no call on the set was made, and no more steps than the budget
 -- No slot is lost, and at most one has left the own pool. None went into the shared pool unless the own one has no more than two places left.
--- One was looked for there only where the own pool was empty, and one flag was won at most. The epoch was advanced only where it had to be.
+-- One was looked for there only if the own pool was empty, and one flag was won at most. The epoch was advanced only if it had to be.
 pub record Takes (p q : PassView) (budget : ℕ) : Type 0 where
   pub steps : TookWithin p.trace q.trace budget
   pub quiet : Quiet p.trace q.trace
@@ -44,9 +44,9 @@ pub record Births (p q : PassView) (hand : HandView) : Type 0 where
   pub room : length q.pool < POOL
 
 -- the slot of the hand was taken from the own pool or the shared one, and was born in
--- It was in the own pool, where no slot before it could be born in at that epoch; or it came by a flag where that pool was empty.
+-- It was in the own pool, where no slot before it could be born in at that epoch; or that pool was empty, and it came by a flag.
 -- A pass that was alone made no more steps than that takes.
--- Nor did any other, but for one more for each slot that others took out of the shared pool, where its own was empty.
+-- Nor did any other, but for one more for each slot that others took out of the shared pool, if its own was empty.
 pub record IsTaken (p q : PassView) (hand : HandView) : Type 0 where
   pub from : IsOldest (knows q.trace) p.pool hand.slot hand.birth
       ⊎ ((p.pool ≡ []) × CameByFlag p.trace q.trace hand.slot)

@@ -8,7 +8,7 @@ use Rattle.vbr_slots.specs.views.Views.{Trace, knows}
 use Rattle.vbr_at_table.specs.reads.Held.{IsSlot}
 use Rattle.vbr_at_table.specs.declared.held.Held.{Held}
 
--- what is held tells whether the key is present: it is a node with that key; or a place which the key would stand behind, and before what its link names or leads to
+-- what is held shows whether the key is present: it is a node with that key; or a place which the key would stand behind, and before what its link names or leads to
 abbrev pub DecidesKey : Start → Know → ℕ → Held → Bool → Type 0
 DecidesKey start know key held true = IsSlot held.at × KeyAt know held.at key
 DecidesKey start know key held false = StandsBehind start know held.at key × StandsBeforeOn know key (link_of held.word)

@@ -32,7 +32,7 @@ abbrev pub said_rollback_in : ℕ → Rollback → Rollback
 said_rollback_in bits (EpochMoved now) = EpochMoved now
 said_rollback_in bits (LostExchange found) = LostExchange (unpacked bits found)
 
--- so it is at a table
+-- the same, with the slot bits of a table
 abbrev pub said : TableView → Held → Held
 said table held = said_in (slot_bits table.start.shape.slots) held
 
@@ -67,7 +67,7 @@ pub record HoldsMarked (know : Know) (marked : Marked) : Type 0 where
   pub held : IsHeld know (held_of marked)
   pub mark : (link_of marked.word).mark ≡ true
 
--- a place is that of a slot
+-- a place is a slot's
 abbrev pub IsSlot : At → Type 0
 IsSlot (Head b) = ⊥
 IsSlot (Slot s) = Unit {0}
@@ -80,7 +80,7 @@ IsUnmarkedOrHead held = IsSlot held.at → (link_of held.word).mark ≡ false
 abbrev pub Names : Held → ℕ → Type 0
 Names held s = (link_of held.word).slot ≡ Some s
 
--- what is held behind a place is the node that the place's link names, and there is none exactly where it names none
+-- what is held behind a place is the node that the place's link names, and there is none exactly if it names none
 abbrev pub IsSucc : Know → Held → Option (Bor Held) → Type 0
 IsSucc know pred None = (link_of pred.word).slot ≡ None
 IsSucc know pred (Some node) = IsHeld know node.now × ((s : ℕ) × Names pred s × (node.now.at ≡ Slot s))

@@ -23,7 +23,7 @@ abbrev pub IsMovedOrLost : Trace → Trace → Held → Rollback → Type 0
 IsMovedOrLost p q held (EpochMoved now) = IsMoved p q (EpochMoved now)
 IsMovedOrLost p q held (LostExchange found) = IsLost p q held (LostExchange found)
 
--- where the epoch has moved, none has followed it in what the pass has seen
+-- if the epoch has moved, none has followed it in what the pass has seen
 abbrev pub FreshIfMoved : Trace → Rollback → Type 0
 FreshIfMoved q (EpochMoved now) = IsFresh q
 FreshIfMoved q (LostExchange found) = Unit {0}

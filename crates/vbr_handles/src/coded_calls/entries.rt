@@ -1,4 +1,4 @@
-//! The calls of the handles of a map with their answers as numbers. A value is written if the answer is
+//! The calls on the handles of a map with their answers as numbers. A value is written if the answer is
 //! yes, otherwise nothing is. While its member holds a slot, an insert and a store do nothing.
 ghost use Rattle.std.specs.Prelude.{◌≡◌};
 ghost use Rattle.vbr_list.specs.calls.Told.{is_yes};

@@ -1,4 +1,4 @@
-//! The calls of the handles of a map for a program that keeps a record of its own beside each slot,
+//! The calls on the handles of a map for a program that keeps a record of its own beside each slot,
 //! with their answers as numbers. A value and an entry are written if the answer is yes, otherwise
 //! nothing is.
 ghost use Rattle.std.specs.Prelude.{◌≡◌};

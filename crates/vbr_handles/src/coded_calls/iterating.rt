@@ -1,4 +1,4 @@
-//! The calls of an iteration with their answers as numbers. What is next is written if there is a next
+//! The calls on an iteration with their answers as numbers. What is next is written if there is a next
 //! one, otherwise nothing is. If the walk began on another opening than the handle's, nothing is done.
 ghost use Rattle.std.specs.Prelude.{◌≡◌};
 ghost use Rattle.vbr_list.specs.calls.Told.{is_yes};

@@ -1,5 +1,5 @@
-//! The calls of handles for a program that keeps a record of its own beside each slot, with their
-//! answers as numbers: the calls of a set, and of both kinds. A slot that is taken, or an entry, is
+//! The calls on handles for a program that keeps a record of its own beside each slot, with their
+//! answers as numbers: the calls on a set, and on both kinds. A slot that is taken, or an entry, is
 //! written if the answer is yes, otherwise nothing is.
 ghost use Rattle.std.specs.Prelude.{◌≡◌};
 ghost use Rattle.vbr_list.specs.calls.Told.{is_yes};

@@ -78,17 +78,17 @@ pub record CallsAs {A : Type 0} (told : A → Call) (BoundsSo : Result A Refusal
   pub steps : TookWithin p.trace q.trace budget
   pub bounds : BoundsSo answer
 
--- the same for a call of a set, which has no value
+-- the same for a call on a set, which has no value
 abbrev pub Calls : Op → PassView → PassView → ℕ → ℕ → Result Bool Refusal → Type 0
 Calls op p q key budget answer = CallsAs (set_call p.trace.who op key) (BoundsOfCall op p q key budget) p q budget answer
 
--- ---- calls of a map
+-- ---- calls on a map
 
 -- on a table with one pass the value is what a plain map gives which opened with the entries of its start, perhaps none, and was given the calls of the pass before, and no others
 abbrev pub GivesAlone : Trace → Call → Type 0
 GivesAlone p call = p.passes ≡ 1 → GivesValue (values_after (opening_payloads p.start) (made_by p)) call.op call.key call.reply call.value
 
--- the same for a call of a map, which has a value if it stores or gives one
+-- the same for a call on a map, which has a value if it stores or gives one
 pub record CallsEntry {A : Type 0} (told : A → Call) (BoundsSo : Result A Refusal → Type 0) (p q : PassView) (budget : ℕ) (answer : Result A Refusal) : Type 0 where
   pub calls : CallsAs told BoundsSo p q budget answer
   pub gives : IfOk answer (λ reply. GivesAlone p.trace (told reply))

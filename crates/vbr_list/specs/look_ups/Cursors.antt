@@ -179,7 +179,7 @@ pub record SeesMore (p q : Trace) : Type 0 where
   pub begins : Begins p.seen q.seen
   pub is_run : IsRun q.start q.passes q.seen
 
--- each of these keys comes before those behind it, so none is given twice, and the keys of a bucket ascend
+-- each of these keys comes before those after it, so none is given twice, and the keys of a bucket ascend
 abbrev pub AreInOrder : Start → List ℕ → Type 0
 AreInOrder start [] = Unit {0}
 AreInOrder start (key ∷ keys) = AllByRecursion (ComesFirst start key) keys × AreInOrder start keys

@@ -77,7 +77,7 @@ WasThereIf gives p q key None = Unit {0}
 WasThereIf true p q key (Some entry) = WasFullEntry p q key entry
 WasThereIf false p q key (Some entry) = WasThere p q key entry
 
--- ---- what calls tell
+-- ---- what calls promise
 
 -- the look-up, or the get, is answered with the value of the entry, which was there
 pub record EntryAnswers {N : Type 0} {kind : Ghosts N} (gives : Bool) (c d : PendingCall N kind) (answer : Option Entry) : Type 0 where

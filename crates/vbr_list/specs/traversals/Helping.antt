@@ -30,7 +30,7 @@ pub record MayHelp (p : Trace) (pred : Held) (gone : Marked) : Type 0 where
   pub marked : HoldsMarked (knows p) gone
   pub names : Names pred gone.slot
 
--- ---- what it tells
+-- ---- what it promises
 
 -- in so many steps, whatever was used before
 abbrev pub GoesIn : PassView → PassView → ℕ → Type 0

@@ -1,4 +1,4 @@
-// The calls of a map.
+// The calls on a map.
 ghost use Rattle.vbr_script.specs.declared.script.Kind.TheVariants.{Map};
 
 use crate::asking::Asked;

@@ -16,7 +16,7 @@ pub fn reply_told(answer: Result<bool, Refusal>) -> Reply
     }
 }
 
-// The reply that an answer is which gives a value where it is yes.
+// The reply that an answer is which gives a value if it is yes.
 pub fn reply_given(answer: Result<Option<u64>, Refusal>) -> Reply
     ensures { result ≡ reply_given answer }
 {

@@ -1,4 +1,4 @@
-// The calls of a set.
+// The calls on a set.
 ghost use Rattle.vbr_script.specs.declared.script.Kind.TheVariants.{Set};
 
 use crate::asking::Asked;

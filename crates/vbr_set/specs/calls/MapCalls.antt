@@ -1,4 +1,4 @@
--- What the calls of a map promise: the same as the calls of a set, and that each value is the one stored; and calls of either kind.
+-- What the calls on a map promise: the same as the calls on a set, and that each value is the one stored; and calls of either kind.
 use Rattle.std.specs.Prelude.{◌≡◌, ℕ, ◌⊎◌, Bool, List, Option, Some, Result, Err, is_some}
 use Rattle.vbr_machine.specs.History.{GiveStored, values_after}
 use Rattle.vbr_machine.specs.Maps.{IsMapLegal, opening_entries}
@@ -77,7 +77,7 @@ GetsOrInsertsEntry m n key value budget answer = StoresEntry m n key value Absen
 
 -- ---- calls of either kind
 
--- a call of a set was made, answered or refused
+-- a call on a set was made, answered or refused
 abbrev pub IsSetCall : Op → MemberView → MemberView → Type 0
 IsSetCall op m n = (key : ℕ) × (budget : ℕ) × (answer : Result Bool Refusal) × Called op m n key budget answer
 
@@ -94,7 +94,7 @@ abbrev pub IsMapRemove : MemberView → MemberView → Type 0
 IsMapRemove m n = ((key : ℕ) × (budget : ℕ) × (answer : Result (Option ℕ) Refusal) × RemovesEntry m n key budget answer)
     ⊎ ((key : ℕ) × (expected : ℕ) × (budget : ℕ) × (answer : Result (Option ℕ) Refusal) × RemovesIf m n key expected budget answer)
 
--- a call of a map was made; its look-ups are the look-ups of a set
+-- a call on a map was made; its look-ups are the look-ups on a set
 abbrev pub IsMapCall : Op → MemberView → MemberView → Type 0
 IsMapCall Insert m n = IsMapInsert m n
 IsMapCall Remove m n = IsMapRemove m n

@@ -69,6 +69,6 @@ pub record CallsBy {A : Type 0} (Leave : List Call → Trace → Trace → Type 
 abbrev pub CalledBy : {A : Type 0} → (List Call → Trace → Trace → Type 0) → (A → List Call) → (Result A Refusal → Type 0) → MemberView → MemberView → ℕ → Result A Refusal → Type 0
 CalledBy Leave told BoundsSo m n budget answer = CallsBy Leave told BoundsSo (caller m) (caller n) budget answer
 
--- a call of a set: its answer stands for one call, which stands in one legal history of what its pass has then seen, exactly once, after all its earlier calls
+-- a call on a set: its answer stands for one call, which stands in one legal history of what its pass has then seen, exactly once, after all its earlier calls
 abbrev pub Called : Op → MemberView → MemberView → ℕ → ℕ → Result Bool Refusal → Type 0
 Called op m n key budget answer = CalledBy AnswersAll (one (set_call m.pass.trace.who op key)) (BoundsOfCall op m.pass n.pass key budget) m n budget answer

@@ -1,4 +1,4 @@
--- The calls of a set or a map for a program that keeps a record of its own beside each slot.
+-- The calls on a set or a map for a program that keeps a record of its own beside each slot.
 use Rattle.std.specs.Prelude.{◌≡◌, ℕ, Bool, Option, Result, ◌≢◌, ◌≤◌, true, false, List, [], ◌∷◌, length, Some, None, Ok, Err, IfOk, IfErr, is_some}
 use Rattle.vbr_at_table.specs.hands.Hands.{HandView, IsHandOf}
 use Rattle.vbr_machine.specs.History.{set_call}

@@ -57,7 +57,7 @@ pub record CatchesUp (set : TableView) (p : PassView) (token : SeenView) (q : Pa
 
 -- ---- chains
 
--- each token behind the first was made by a caller that had by then seen all that the one before it holds
+-- each token after the first was made by a caller that had by then seen all that the one before it holds
 abbrev pub IsChain : SeenView → List SeenView → Type 0
 IsChain first [] = Unit {0}
 IsChain first (next ∷ tokens) = (next.table ≡ first.table) × Begins first.seen next.seen × IsChain next tokens

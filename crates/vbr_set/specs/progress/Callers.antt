@@ -31,7 +31,7 @@ HadRoom (Err (OutOfSteps used)) = Unit {0}
 HadRoom (Err NoSlot) = ⊥
 HadRoom (Err (EpochSpent epoch)) = ⊥
 
--- a pass made a call of a set or a map, answered or refused, with a budget that is enough while no update is answered yes
+-- a pass made a call on a set or a map, answered or refused, with a budget that is enough while no update is answered yes
 -- An insert or a store may instead have a budget that is known to be enough as it begins, whatever is in the own pool, if the other passes went beyond their need no more than so often meanwhile.
 pub data MadeAmply (p q : PassView) (budget : ℕ) : Type 0 where
   looked_up : (key : ℕ) → (answer : Result Bool Refusal) → enough_among (listed_for p.trace key) (most_unanswered p.trace) ≤ budget → Calls Has p q key budget answer → MadeAmply p q budget

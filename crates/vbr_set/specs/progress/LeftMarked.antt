@@ -29,7 +29,7 @@ pub data LeavesNone (m n : MemberView) : Type 0 where
   removed_if : (key expected budget : ℕ) → (answer : Result (Option ℕ) Refusal) → LeavesRoom m.pass n.pass budget → RemovesIf m n key expected budget answer → LeavesNone m n
   stored : (key value : ℕ) → (wanted : Wanted) → (budget : ℕ) → (answer : Result (Option ℕ) Refusal) → LeavesRoom m.pass n.pass budget → StoresEntry m n key value wanted budget answer → LeavesNone m n
 
--- a pass that has seen nothing left none; it leaves no further one in this way, and at most one more by each call of a set or a map
+-- a pass that has seen nothing left none; it leaves no further one in this way, and at most one more by each call on a set or a map
 pub record CallsLeaveNone : Type 0 where
   pub opened : (set : TableView) (who : ℕ) → left_by (new_trace set who) ≡ 0
   pub called : (m n : MemberView) → SeesRun m.pass.trace → LeavesNone m n → left_by n.pass.trace ≤ left_by m.pass.trace

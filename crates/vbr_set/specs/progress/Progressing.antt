@@ -35,7 +35,7 @@ use Rattle.vbr_set.specs.histories.Tokens.{CatchesUp}
 
 -- ---- what one pass did
 
--- a pass has advanced the epoch only in need when it is opened, and behind each call of a set or a map, answered or refused, what goes over keys, each meeting, each catching up, and each giving back, each reserve and each top-up of slots
+-- a pass has advanced the epoch only in need when it is opened, and after each call on a set or a map, answered or refused, what goes over keys, each meeting, each catching up, and each giving back, each reserve and each top-up of slots
 pub record PassesAdvanceInNeed : Type 0 where
   pub opened : (set : TableView) (who : ℕ) → AdvancedInNeed (new_trace set who)
   pub called : (op : Op) (m n : MemberView) → AdvancedInNeed m.pass.trace → IsCall op m n → AdvancedInNeed n.pass.trace
@@ -101,7 +101,7 @@ pub record RefusalsShowAnswers : Type 0 where
   pub insert : (p q : PassView) (key budget used : ℕ) → SeesRun p.trace → Proceeds p.trace q.trace → Calls Insert p q key budget (Err (OutOfSteps used))
       → enough_to_insert_among (listed_for p.trace key) (most_unanswered p.trace) (steps_for_slot p q.trace) ≤ budget → AnotherIsAnswered p.trace q.trace
 
--- the same for the calls of a map
+-- the same for the calls on a map
 pub record MapRefusalsShowAnswers : Type 0 where
   pub get : (p q : PassView) (key budget : ℕ) (refusal : Refusal) → SeesRun p.trace → Proceeds p.trace q.trace → CallsGet p q key budget (Err refusal)
       → enough_among (listed_for p.trace key) (most_unanswered p.trace) ≤ budget → AnotherIsAnswered p.trace q.trace

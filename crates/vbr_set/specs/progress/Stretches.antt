@@ -39,7 +39,7 @@ pub record CameBy (inserts : ℕ) (p q : PassView) : Type 0 where
   pub sees : SeesMore p.trace q.trace
   pub advances : advances q.trace ≤ advances p.trace + inserts
 
--- it came so by each call of a set or a map, answered or refused, by what goes over keys, by each meeting, each catching up, each giving back, each reserve and each top-up of slots, and by one such way after another
+-- it came so by each call on a set or a map, answered or refused, by what goes over keys, by each meeting, each catching up, each giving back, each reserve and each top-up of slots, and by one such way after another
 pub record PassesComeByCalls : Type 0 where
   pub stays : (p : PassView) → PassLaw p → CameBy 0 p p
   pub called : (op : Op) (m n : MemberView) → PassLaw m.pass → IsCall op m n → CameBy (inserts_begun op) m.pass n.pass
@@ -88,7 +88,7 @@ pub record StretchesMakeProgress : Type 0 where
   pub insert : (p q : PassView) (inserts : ℕ → ℕ) (key budget : ℕ) (refusal : Refusal) → PassLaw p → Stretch p.trace q.trace inserts
       → Calls Insert p q key budget (Err refusal) → LacksSteps (enough_to_insert_among (listed_for p.trace key) (most_disturbed_by inserts p.trace q.trace) (steps_for_slot p q.trace)) budget refusal
 
--- the same for the calls of a map
+-- the same for the calls on a map
 pub record MapStretchesMakeProgress : Type 0 where
   pub get : (p q : PassView) (inserts : ℕ → ℕ) (key budget : ℕ) (refusal : Refusal) → PassLaw p → Stretch p.trace q.trace inserts
       → CallsGet p q key budget (Err refusal) → budget < enough_among (listed_for p.trace key) (most_disturbed_by inserts p.trace q.trace)

@@ -39,7 +39,7 @@ pub record CameInNeed (beyond : ℕ) (p q : PassView) : Type 0 where
   pub sees : SeesMore p.trace q.trace
   pub few : times_beyond q.trace ≤ times_beyond p.trace + beyond
 
--- it came so by each call of a set or a map, answered or refused, by what goes over keys, by each meeting and each catching up, never beyond its need; by giving back at most once; by each reserve and each top-up at most once for each slot that it took; and by one such way after another
+-- it came so by each call on a set or a map, answered or refused, by what goes over keys, by each meeting and each catching up, never beyond its need; by giving back at most once; by each reserve and each top-up at most once for each slot that it took; and by one such way after another
 -- A pass that may lack slots, such as one that gave them up, wins at most one flag beyond its need by each insert.
 pub record PassesWinInNeed : Type 0 where
   pub stays : (p : PassView) → PassLaw p → CameInNeed 0 p p

@@ -85,7 +85,7 @@ impl<N: Nodes> AtSet<'_, N> {
     /// meanwhile, gives each key that is there all the while. It gives no key twice, and none that
     /// wasn't there. Keys come bucket by bucket, and the keys of a bucket ascend.
     ///
-    /// It makes no call of the set, and all its steps are loads. While the other passes stand still it
+    /// It makes no call on the set, and all its steps are loads. While the other passes stand still it
     /// makes at most 5n + 3 steps for each bucket that it goes through, with n nodes there, and at most
     /// 5n + 5 in a map. If others disturb it m times at a bucket, it makes at most
     /// (m + 1)(5(n + m) + 3) there, and at most (m + 1)(5(n + m) + 5) in a map.

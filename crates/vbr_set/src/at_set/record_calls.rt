@@ -9,7 +9,8 @@ use vbr_machine::laws::a_run_is_a_map;
 use vbr_words::Entries;
 
 impl AtSet<'_> {
-    /// Like [`AtSet::has`], but returns the entry of the key, with the value 0.
+    /// Like [`AtSet::has`], with the same steps, budgets and refusals, but returns the entry of the key,
+    /// with the value 0. Its node was in the set at a moment of the call.
     #[inline]
     pub fn get_entry(&mut self, key: u64, budget: u32) -> Result<Option<Entry>, Refusal>
         ensures same { IsSameSet self.old self.new }
@@ -24,8 +25,8 @@ impl AtSet<'_> {
     }
 
     /// Takes a key out if its node has the slot and the birth of this entry, in at most `budget` steps,
-    /// and returns whether it did: [`remove_key_exactly`]. Otherwise it makes no call: at some moment
-    /// meanwhile the set lacked the entry.
+    /// and returns whether it did. Otherwise it makes no call: at some moment meanwhile the key was
+    /// absent, or its node was another. The entry's value isn't looked at.
     ///
     /// Budgets, the refusal and the steps of an answer are as for [`AtSet::remove`].
     #[inline]
@@ -43,7 +44,8 @@ impl AtSet<'_> {
 }
 
 impl AtSet<'_, Entries> {
-    /// Like [`AtSet::get`], but returns the entry of the key, with its value.
+    /// Like [`AtSet::get`], with the same steps, budgets and refusals, but returns the entry of the key.
+    /// Its node was in the map, with this value, at a moment of the call.
     #[inline]
     pub fn get_entry(&mut self, key: u64, budget: u32) -> Result<Option<Entry>, Refusal>
         ensures same { IsSameSet self.old self.new }
@@ -58,9 +60,8 @@ impl AtSet<'_, Entries> {
         answer
     }
 
-    /// Takes a key out if its node has the slot and the birth of this entry, in at most `budget` steps,
-    /// and returns the value that was there: [`remove_exactly`]. Otherwise it makes no call and returns
-    /// none: at some moment meanwhile the map lacked the entry.
+    /// Takes a key out as `remove_exactly` of a set does, in at most `budget` steps, and returns the value
+    /// that was there, or none if it made no call.
     ///
     /// Budgets, the refusal and the steps of an answer are as for [`AtSet::remove`].
     #[inline]

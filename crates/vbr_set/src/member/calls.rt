@@ -1,4 +1,4 @@
-//! The calls of a member.
+//! The calls on a member.
 ghost use Rattle.std.specs.Prelude.{◌≡◌, ◌≤◌};
 ghost use Rattle.vbr_machine.specs.declared.history.Op.TheVariants.{Insert, Remove, Has};
 ghost use Rattle.vbr_set.specs.calls.Members.{Called};

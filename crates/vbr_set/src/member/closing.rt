@@ -33,7 +33,7 @@ impl<N: Kind> Member<N> {
     /// [`VbrSet::close`] returns it. If the set was opened for one member, that one is always the last.
     ///
     /// Only the last member needs memory: 9 bytes for each slot of a set and 17 of a map, for the report,
-    /// and the words once more while it runs. A close has no budget, and makes no call of the set. Its
+    /// and the words once more while it runs. A close has no budget, and makes no call on the set. Its
     /// steps are one for each slot that it gives back.
     ///
     /// # Errors

@@ -21,7 +21,7 @@ impl<N: Kind> Member<N> {
     /// legal history, which begins with what each member has seen and has exactly the calls that each
     /// has made.
     ///
-    /// It makes no call of the set. It takes 9 bytes for each slot of a set and 17 of a map, and the
+    /// It makes no call on the set. It takes 9 bytes for each slot of a set and 17 of a map, and the
     /// words once more while it runs. A member that was given back by [`Member::close`] is missing, so
     /// the others must be closed in that way too.
     ///

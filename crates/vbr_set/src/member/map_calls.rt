@@ -1,4 +1,4 @@
-//! The calls of a member of a map: inserts, removes, gets and stores.
+//! The calls on a member of a map: inserts, removes, gets and stores.
 ghost use Rattle.std.specs.Prelude.{◌≡◌};
 ghost use Rattle.vbr_list.specs.updates.Outcomes.{ChangedIfExpected, there_in};
 ghost use Rattle.vbr_set.specs.calls.MapCalls.{AddsEntry, ExchangesEntry, GetsEntry, GetsOrInsertsEntry, InsertsEntry, PutsEntry, RemovesEntry, RemovesIf, ReplacesEntry};

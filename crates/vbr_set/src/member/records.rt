@@ -1,4 +1,4 @@
-//! The calls of a member for a program that keeps a record of its own beside each slot. A member holds
+//! The calls on a member for a program that keeps a record of its own beside each slot. A member holds
 //! at most one slot. Until that slot is published or let go, it is in the hand of its pass alone,
 //! whatever calls the member makes meanwhile, and the program may write its record.
 ghost use Rattle.std.specs.Prelude.{◌≡◌, None, is_some};

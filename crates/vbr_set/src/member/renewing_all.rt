@@ -17,7 +17,7 @@ impl<N: Kind> Member<N> {
     /// the order of their numbers. The epoch is 1 again, and the first member's balance is the number
     /// of keys. It is for a set or a map whose epoch nears its last one, or which has become too small.
     ///
-    /// It makes no call of the set, and finds what is in it as [`Member::report_all`] does. The fresh
+    /// It makes no call on the set, and finds what is in it as [`Member::report_all`] does. The fresh
     /// set is opened while the old one is there, so it takes the memory of a report and of
     /// [`Member::open_many`]; then the memory of the old set is freed.
     ///

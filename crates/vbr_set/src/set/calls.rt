@@ -1,4 +1,4 @@
-//! The calls of a set by a pass beside it.
+//! The calls on a set by a pass beside it.
 ghost use Rattle.std.specs.Prelude.{◌≡◌, None};
 ghost use Rattle.vbr_machine.specs.declared.history.Op.TheVariants.{Insert, Remove, Has};
 ghost use Rattle.vbr_slots.specs.views.Views.{IsOf};

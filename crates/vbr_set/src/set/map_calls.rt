@@ -1,4 +1,4 @@
-//! The calls of a map by a pass beside it.
+//! The calls on a map by a pass beside it.
 ghost use Rattle.std.specs.Prelude.{◌≡◌, None};
 ghost use Rattle.vbr_slots.specs.views.Views.{IsOf};
 ghost use Rattle.vbr_list.specs.updates.Outcomes.{ChangedIfExpected, there_in};

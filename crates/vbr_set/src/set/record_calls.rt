@@ -28,7 +28,9 @@ use vbr_slots::pass::POOL;
 use vbr_words::{Entries, Nodes};
 
 impl<N: Nodes> VbrSet<N> {
-    /// Whether the slot of an entry still shows its birth, in one step, a load: [`is_still`].
+    /// Whether the slot of an entry still shows its birth, in one step, a load. If it does, the slot was
+    /// the entry's own until that step, and no pass had it in hand; otherwise it was handed out anew. A
+    /// slot outside the shape shows none, and then no step is made.
     #[inline]
     pub fn is_still(&self, pass: &mut Pass, entry: &Entry) -> bool
         requires own { IsOf pass.old.trace self.now }
@@ -40,8 +42,9 @@ impl<N: Nodes> VbrSet<N> {
         still
     }
 
-    /// Takes a slot in hand, in at most `budget` steps: [`hold`]. Until it is published or let go, only this
-    /// pass may write its record.
+    /// Takes a slot in hand, in at most `budget` steps. It is taken as an insert takes one, with the
+    /// refusals of [`vbr_at_table::take`]. It is then born in, and in the hand of this pass alone until it
+    /// is published or let go: until then only this pass may write its record.
     #[inline]
     pub fn hold(&self, pass: &mut Pass, budget: u32) -> Result<Hand, Refusal>
         requires own { IsOf pass.old.trace self.now }
@@ -106,7 +109,15 @@ impl VbrSet {
         AtSet { set: self, pass }.remove_exactly(key, entry, budget)
     }
 
-    /// Adds a key by the slot in hand, in at most `budget` steps: [`insert_held`].
+    /// Adds a key by the slot in hand, in at most `budget` steps. This very slot becomes the node of the
+    /// key, with the birth that it has in hand. The call takes no other slot.
+    ///
+    /// [`StillInHand::Present`] means that the insert was answered no, as the key is there;
+    /// [`StillInHand::OutOfSteps`] that the steps didn't suffice, and no call was made. After either the
+    /// slot is still in hand.
+    ///
+    /// While the other passes stand still, a budget of 9n + 11 is enough, with n nodes in the key's
+    /// bucket, and an answered call took at most 9n + 6 steps.
     #[inline]
     pub fn insert_held(
         &self,
@@ -162,7 +173,9 @@ impl VbrSet<Entries> {
         AtSet { set: self, pass }.remove_exactly(key, entry, budget)
     }
 
-    /// Adds a key with its value by the slot in hand, in at most `budget` steps: [`insert_entry_held`].
+    /// Adds a key with its value by the slot in hand, in at most `budget` steps. It is the `insert_held` of
+    /// a set, with the same budgets and refusals. Storing the value takes one step more, so an answer
+    /// takes at most one more.
     #[inline]
     pub fn insert_held(
         &self,
@@ -185,8 +198,15 @@ impl VbrSet<Entries> {
         answer
     }
 
-    /// Gives a key a value by the slot in hand, whether the key is there or not, in at most `budget`
-    /// steps, and returns the value that it had: [`put_held`].
+    /// Gives a key a value by the slot in hand, whether the key is there or not, in at most `budget` steps.
+    /// Returns the value that the key had, or none if it was absent. This very slot becomes the node of
+    /// the key, with the birth that it has in hand. The call takes no other slot.
+    ///
+    /// Its calls in the history are those of an [`AtSet::put`]. A replaced node is then out of its list,
+    /// unless fewer than eight steps of the budget are left.
+    ///
+    /// Its only refusal is for want of steps: the hand comes back, with the number of steps made, and no
+    /// call was made. Budgets and steps are as for [`VbrSet::replace_held`].
     #[inline]
     pub fn put_held(
         &self,
@@ -207,8 +227,18 @@ impl VbrSet<Entries> {
         answer
     }
 
-    /// Puts the slot in hand, with a value, in the place of this entry's node, in at most `budget`
-    /// steps: [`replace_held`].
+    /// Puts the slot in hand, with a value, in the place of this entry's node, and of no other, in at most
+    /// `budget` steps. In the history the key is removed with the value that it had, and inserted with
+    /// this one, next to each other. The old node is then out of its list, unless fewer than eight steps
+    /// of the budget are left. The call takes no other slot.
+    ///
+    /// [`NotReplaced::Other`] means that at a moment of the call the key was absent, or its node wasn't
+    /// the entry's; [`NotReplaced::OutOfSteps`] that the steps didn't suffice. After either the slot is
+    /// still in hand, and no call was made.
+    ///
+    /// While the other passes stand still, a budget of 9n + 11 is enough, with n nodes in the key's
+    /// bucket, and with eight more the old node has left its list. A replacement takes at most 9n + 17
+    /// steps, and the answer that another is there 9n + 3.
     #[inline]
     pub fn replace_held(
         &self,

@@ -148,7 +148,7 @@ pub fn has_three(report: &MapReport) -> bool {
         && (report.epoch, report.live, report.marked, report.free) == (1, 3, 0, 1)
 }
 
-// Opens a map with three entries, tells what is in it, and closes it.
+// Opens a map with three entries, reports what is in it, and closes it.
 fn map_tells_and_closes(alloc: Global) -> Option<bool> {
     let shape = Shape::new(4, 2, 10).ok()?;
     let (map, mut passes, refused) = open_with::<Entries>(alloc, shape, &ENTRIES)?;

@@ -142,7 +142,7 @@ fn tell_and_close(
     Some((told, report, refused | refused_report | refused_close))
 }
 
-// Opens a map, makes three calls, and tells and closes it by all members at once.
+// Opens a map, makes three calls, and reports and closes it by all members at once.
 fn closes_at_once(alloc: Global) -> Option<bool> {
     let (mut one, mut other, refused) = open_two(alloc)?;
     let is_answered = one.insert(2, 71, 100) == Ok(true)

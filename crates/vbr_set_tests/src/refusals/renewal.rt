@@ -32,7 +32,7 @@ impl Renewed for Entries {
 }
 
 // A fresh set with the three items that are in this one, which has this shape, and whether memory was refused.
-// Where nothing is left of the set, its report lists them, and they go on.
+// If nothing is left of the set, its report lists them, and they go on.
 fn renew<N: Renewed>(
     alloc: Global,
     set: VbrSet<N>,
@@ -60,7 +60,7 @@ fn renew<N: Renewed>(
     }
 }
 
-// The same where it was refused once. A refusal that follows comes before anything is changed.
+// The same if it was refused once. A refusal that follows comes before anything is changed.
 fn renew_again<N: Kind>(
     alloc: Global,
     set: VbrSet<N>,

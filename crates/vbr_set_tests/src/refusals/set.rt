@@ -102,7 +102,7 @@ fn have_one_and_two(told: &Report, last: &Report) -> bool {
         && last.keys.as_slice() == [2, 9].as_slice()
 }
 
-// Opens a set, makes a call, tells what is in it, makes another, and closes it.
+// Opens a set, makes a call, reports what is in it, makes another, and closes it.
 fn tells_and_closes(alloc: Global) -> Option<bool> {
     let shape = Shape::new(4, 2, 10).ok()?;
     let (set, mut passes, refused) = open(alloc, shape)?;

@@ -18,7 +18,7 @@ unfoldable pub tried_in : ℕ → List Event → ℕ → ℕ
 tried_in who [] before = before
 tried_in who (e ∷ events) before = tried_in who events (if e.pass == who then tried_by e.step before else before)
 
--- the slot with which a pass of so many begins: where keys are spread, the first of a flag word, so that the passes begin as far apart as may be; else slot 0
+-- the slot with which a pass of so many begins: if keys are spread, the first of a flag word, so that the passes begin as far apart as may be; else slot 0
 abbrev pub first_tried : Dimensions → ℕ → ℕ → ℕ
 first_tried shape passes who = if is_some shape.spread then FLAGS * (who * flag_words shape.slots / passes) else 0
 

@@ -111,11 +111,11 @@ pub record Kept (opening : TableStart) (s : Standing (Unit {0}) (List Witness)) 
 
 -- ---- steps
 
--- an event, where none was picked yet
+-- an event, if none was picked yet
 abbrev pub no_event : Event
 no_event = record { pass = 0; step = ReadEpoch }
 
--- an opening, where none was picked yet
+-- an opening, if none was picked yet
 abbrev pub no_opening : TableStart
 no_opening = record { start = empty_start (record { slots = 0; buckets = 0; spread = None; last_epoch = 0; values = false }); passes = 0 }
 
@@ -124,7 +124,7 @@ pub record Shows (step : Step) (r n : ℕ) : Type 0 where
   pub answers : effect_of step r ≡ effect_of step n
   pub teaches : (stamp : ℕ) (know : Know) → learn step r stamp know ≡ learn step n stamp know
 
--- what a step at the table tells: the first witness of the seat did the event, after what it had seen and what others did since, and is of a table that opened with these keys and values; it was shown r; and the other witnesses of the seat still begin the run
+-- what a step at the table promises: the first witness of the seat did the event, after what it had seen and what others did since, and is of a table that opened with these keys and values; it was shown r; and the other witnesses of the seat still begin the run
 pub record Told (opening : TableStart) (e : Event) (m : Me (Unit {0}) (List Witness)) (r : ℕ) (n : Me (Unit {0}) (List Witness)) : Type 0 where
   pub rest : List Event
   pub none : NoneOf e.pass rest
@@ -133,7 +133,7 @@ pub record Told (opening : TableStart) (e : Event) (m : Me (Unit {0}) (List Witn
   pub shows : Shows e.step r (found opening.start (world_after opening.start (first_seen m.0 ++ rest)) e.step)
   pub others : EachBegins ((first_seen m.0 ++ rest) ++ e ∷ []) (tail_of m.0)
 
--- what catching up tells, which is no event: the pass of the first witness has then seen all of the run, which goes on after what it had seen by events of others; the tokens beside it, which are then spent, begin that run
+-- what catching up promises, which is no event: the pass of the first witness has then seen all of the run, which goes on after what it had seen by events of others; the tokens beside it, which are then spent, begin that run
 pub record Caught (opening : TableStart) (who : ℕ) (m n : Me (Unit {0}) (List Witness)) : Type 0 where
   pub rest : List Event
   pub none : NoneOf who rest

@@ -65,7 +65,7 @@ pub record IsWordAt (opening : TableStart) (ms : List Witness) (index r : ℕ) :
   pub latest : IsLatest run ms
   pub found : (place : Place) → IsIn opening.start.shape place → index_of opening.start.shape place ≡ index → r ≡ kept_at opening.start.shape place (word_at opening.start (world_after opening.start run) place)
 
--- what a load tells a seat that has the witnesses of all passes: the word after what these have seen, and nothing of the seat changes
+-- what a load promises a seat that has the witnesses of all passes: the word after what these have seen, and nothing of the seat changes
 pub record ReadsWord (opening : TableStart) (index : ℕ) (m : Me (Unit {0}) (List Witness)) (r : ℕ) (n : Me (Unit {0}) (List Witness)) : Type 0 where
   pub same : n ≡ m
   pub word : IsWordAt opening m.0 index r

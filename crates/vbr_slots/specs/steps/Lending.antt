@@ -7,7 +7,7 @@ use Rattle.vbr_slots.specs.views.Views.{PassView}
 
 -- ---- alone
 
--- the work tells how many steps the pass took
+-- the work says how many steps the pass took
 abbrev pub TellsSteps : {F R : Type 0} → Once F (MutBor PassView × Unit {0}) ((R × ℕ) × (MutBor PassView × Unit {0})) → F → PassView → Type 0
 TellsSteps {F} {R} g f p = (told : R × ℕ) (q : PassView) → FnOnceReturnsAtMut g f p told q → Took p.trace q.trace told.1
 
@@ -31,7 +31,7 @@ pub record ReturnsWith {F T A R : Type 0} (g : Once F (MutBor T × (A × Unit {0
   pub met : g.post f (shown, (a, tt)) (r, (left, tt))
   pub leaves : left.now ≡ x'
 
--- the work tells how many steps the pass took
+-- the work says how many steps the pass took
 abbrev pub TellsStepsWith : {F A R : Type 0} → Once F (MutBor PassView × (A × Unit {0})) ((R × ℕ) × (MutBor PassView × Unit {0})) → F → PassView → A → Type 0
 TellsStepsWith {F} {A} {R} g f p a =
     (told : R × ℕ) (q : PassView) → ReturnsWith g f p a told q → Took p.trace q.trace told.1

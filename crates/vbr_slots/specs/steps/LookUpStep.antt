@@ -12,7 +12,7 @@ look_up true key (Slot s) word = ConfirmPresent Has s word
 look_up true key (Head b) word = ConfirmAbsent Has key (Head b) word
 look_up false key place word = ConfirmAbsent Has key place word
 
--- the index of the link word at a place, where the words of slots begin at this one, and each slot has so many
+-- the index of the link word at a place, if the words of slots begin at this index, and each slot has so many
 abbrev pub link_from : ℕ → ℕ → At → ℕ
 link_from slots words (Head b) = 2 + b
 link_from slots words (Slot s) = slots + words * s

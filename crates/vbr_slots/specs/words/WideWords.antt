@@ -9,6 +9,6 @@ use Rattle.vbr_slots.specs.declared.at_table.AtTable.{AtTable}
 abbrev pub wide_in : TableView → ℕ → ℕ
 wide_in table kept = unpacked (slot_bits table.start.shape.slots) kept
 
--- so it is at the table of a pass
+-- the number of the link word that the table of a pass keeps so
 abbrev pub wide_at : {N : Type 0} {kind : Ghosts N} → AtTable N kind → ℕ → ℕ
 wide_at at kept = wide_in at.slots.now kept

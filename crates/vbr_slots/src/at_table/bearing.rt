@@ -85,7 +85,7 @@ impl<N: Nodes> AtTable<'_, N> {
         slots.store::<Brand>(&mut stepper.runner, step, Place::Key(slot), key);
     }
 
-    /// Stores the value of the incarnation in hand, in one step, where nodes have values.
+    /// Stores the value of the incarnation in hand, in one step, if nodes have values.
     #[inline]
     pub fn store_value(&mut self, slot: u32, value: u64)
         requires values { self.old.slots.now.start.shape.values ≡ true }

@@ -41,7 +41,7 @@ impl<N: Nodes> AtTable<'_, N> {
         slots.load::<Brand>(stepper, Step::LoadBirth { slot }, Place::Birth(slot))
     }
 
-    /// Loads the birth of a slot, whoever has it, in one step. The pass learns nothing by it: it tells which
+    /// Loads the birth of a slot, whoever has it, in one step. The pass learns nothing by it: it shows which
     /// incarnation was born there last.
     #[inline]
     pub fn peek_birth(&mut self, slot: u32) -> u64
@@ -67,7 +67,7 @@ impl<N: Nodes> AtTable<'_, N> {
         slots.load::<Brand>(stepper, Step::LoadKey { slot }, Place::Key(slot))
     }
 
-    /// Loads the value of a held slot, in one step, where nodes have values.
+    /// Loads the value of a held slot, in one step, if nodes have values.
     #[inline]
     pub fn load_value(&mut self, slot: u32) -> u64
         requires values { self.old.slots.now.start.shape.values ≡ true }

@@ -60,7 +60,7 @@ impl<N: Nodes> AtTable<'_, N> {
     }
 
     /// The slot that the pass tried last to take out of the shared pool; at the opening the one with which it
-    /// begins, 0 where keys aren't spread.
+    /// begins, 0 if keys aren't spread.
     #[inline]
     pub fn last_tried(&self) -> u32
         ensures tried { result ≡ last_tried (trace_of self.now) }

@@ -1,4 +1,4 @@
-//! Loads in a row that end with a read of the epoch. What they loaded is checked where the epoch is the
+//! Loads in a row that end with a read of the epoch. What they loaded is checked if the epoch is the
 //! one that the pass read before.
 ghost use Rattle.std.specs.Prelude.{◌≡◌, ◌↔◌, ◌<◌, true, IsTrue};
 ghost use Rattle.vbr_machine.specs.Acceptance.{IsAtIn};
@@ -17,7 +17,7 @@ use vbr_words::{At, Nodes, Place, place_index_in};
 
 impl<N: Nodes> AtTable<'_, N> {
     /// Loads the link word of a head or of a held slot, and reads the epoch, in two steps: returns
-    /// the word and the epoch. Where that stays as the pass read it before, the read is checked; where it has
+    /// the word and the epoch. If that stays as the pass read it before, the read is checked; if it has
     /// moved, the pass knows of no reads any more.
     #[inline]
     pub fn read_link(&mut self, holder: At) -> (u64, EpochRead)

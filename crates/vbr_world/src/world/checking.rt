@@ -45,7 +45,7 @@ impl Lists {
     }
 
     // The word of the link that an accepted step writes. The words have room for what the step
-    // writes where it succeeds: a birth is an epoch that the pass has read.
+    // writes if it succeeds: a birth is an epoch that the pass has read.
     pub(super) fn link_written(&self, event: &Event) -> WideWord
         requires { IsAcceptedIn self.now event.now }
         ensures link { link_of result

@@ -45,7 +45,7 @@ impl Model for Lists {
 }
 
 impl Lists {
-    // One step: the tests, then the pass learns, and a step that isn't lost writes. Where a step is
+    // One step: the tests, then the pass learns, and a step that isn't lost writes. If a step is
     // refused, nothing changes.
     pub(super) fn step(&mut self, event: &Event) -> Result<Effect, CoreRefusal>
         ensures made { IfOk result (IsMade self.old self.new event.now) }

@@ -19,7 +19,7 @@ use vbr_words::link::MAX_SLOTS;
 use vbr_words::{At, Link, Shape, WideWord};
 
 impl Lists {
-    // The world that opens with these keys, and their values where nodes have values: they are
+    // The world that opens with these keys, and their values if nodes have values: they are
     // linked from the last one on, so that each finds the next of its bucket at the head of the
     // list.
     pub(super) fn opened(

@@ -151,7 +151,7 @@ impl PassState {
             && reads::key_in(&self.checked, slot).is_some()
     }
 
-    // Whether the value of a slot is checked, where nodes have values.
+    // Whether the value of a slot is checked, if nodes have values.
     fn holds_value(&self, start: &Start, slot: u32) -> bool
         ensures { IsTrue result ↔ HasValue start.now.shape.values (value_in self.now.checked slot) }
     {
@@ -266,7 +266,7 @@ impl PassState {
         }
     }
 
-    // Whether what is in hand has the link to what a link names, and a value where nodes have values.
+    // Whether what is in hand has the link to what a link names, and a value if nodes have values.
     fn is_linked_to(&self, start: &Start, known: Unpublished, next: Option<u32>) -> bool
         ensures { IsTrue result
             ↔ ((known.link ≡ Some
@@ -430,7 +430,7 @@ impl PassState {
         holdings::key_in_hand(self.holding(slot))
     }
 
-    // The value of a slot in hand that a publication or a replacement tells: none where nodes have no
+    // The value of a slot in hand that a publication or a replacement records: none if nodes have no
     // values.
     fn value_stored(&self, start: &Start, slot: u32) -> Option<u64>
         requires { slot < length self.now.own }
@@ -443,7 +443,7 @@ impl PassState {
         }
     }
 
-    // The value of a node that a removal or a replacement tells: none where nodes have no values.
+    // The value of a node that a removal or a replacement records: none if nodes have no values.
     fn value_removed(&self, start: &Start, slot: u32) -> Option<u64>
         ensures { result ≡ payload_kept start.now (value_in self.now.checked slot) }
     {
@@ -454,7 +454,7 @@ impl PassState {
         }
     }
 
-    // The value of a present node that an operation tells.
+    // The value of a present node that an operation gives.
     fn present_value(&self, op: Op, slot: u32) -> Option<u64>
         ensures { result ≡ present_value op (value_in self.now.checked slot) }
     {
@@ -471,7 +471,7 @@ impl PassState {
         reads::key_in(&self.checked, slot).unwrap_or(0)
     }
 
-    // The call that the step makes ahead of its own, if it makes one where it succeeds.
+    // The call that the step makes ahead of its own, if it makes one when it succeeds.
     pub fn call_ahead(&self, who: u32, start: &Start, step: Step) -> Option<Call>
         ensures { result ≡ call_ahead start.now who (know_of self.now) step }
     {
@@ -487,7 +487,7 @@ impl PassState {
         }
     }
 
-    // The call of the step, if it makes one where it succeeds.
+    // The call of the step, if it makes one when it succeeds.
     pub fn call(&self, who: u32, start: &Start, step: Step) -> Option<Call>
         requires slots { length self.now.own ≡ start.now.shape.slots }
         requires in_shape { IsInShape start.now step }

@@ -210,7 +210,7 @@ fn ends_at(reads: &[Read], above: Option<u64>, next: Option<u32>) -> bool
 }
 
 // Whether in at most so many turns marked links lead from what a link names to where a walk ends. The
-// walk is given up where it stands still.
+// walk is given up if it stands still.
 fn leads(reads: &[Read], most: u32, above: Option<u64>, next: Option<u32>) -> bool
     ensures { IsTrue result ↔ LeadsOn most reads.now above next }
 {

@@ -10,7 +10,7 @@ use std::marker::Model;
 use vbr_words::Shape;
 use vbr_words::shape::shape_word;
 
-// A shape, and the keys that a world of it opens with, with their values where nodes have values.
+// A shape, and the keys that a world of it opens with, with their values if nodes have values.
 #[derive(Drop)]
 pub struct Start {
     shape: Shape,

@@ -43,7 +43,7 @@ fn is_op_in(start: &Start, op: Op) -> bool
 }
 
 // Whether the slots and places that the step's fields name are those of the shape, and nodes have
-// values where the step asks for one.
+// values if the step asks for one.
 pub fn is_in_shape(start: &Start, step: Step) -> bool
     ensures { IsTrue result ↔ IsInShape start.now step }
 {

@@ -156,7 +156,7 @@ impl PassState {
     }
 
     // Learns what the step teaches, from the word that it found and the stamp that was shown.
-    // Where memory is refused nothing is learned, and there would have been more reads.
+    // If memory is refused nothing is learned, and there would have been more reads.
     pub fn learn(
         &mut self,
         start: &Start,
