@@ -245,7 +245,7 @@ namespace detail {
    value, `value`, `*` and `->` throw vbr::refused, or end a program that is compiled without exceptions.
 
        vbr::result<bool> added = mine.insert_within(7, vbr::steps{5000});
-       if (!added.has_value()) return 1; // added.error() tells why
+       if (!added.has_value()) return 1; // added.error() says why
        if (*added) count++; // this call added 7 */
 template <class T>
 class [[nodiscard]] result {
@@ -327,7 +327,7 @@ private:
 /* The result of a call that returns no value.
 
        vbr::result<void> renewed = vbr::handle::renew_all(both, vbr::shape::for_keys(4096, 2));
-       if (!renewed) return 1; // renewed.error() tells why */
+       if (!renewed) return 1; // renewed.error() says why */
 template <>
 class [[nodiscard]] result<void> {
 public:

@@ -283,7 +283,7 @@ struct cache_table {
 /* A handle of a cache on loan, which makes all calls. It goes back at the end of this, and may go to another thread before.
 
    The loan keeps no handle while a loader of it runs, while it waits for another one, and during a renewal: it gives its handle back, and
-   borrows another one afterwards, and no call tells. So a call may wait for a free handle. A loader may make calls by the same loan.
+   borrows another one afterwards, and no call shows it. So a call may wait for a free handle. A loader may make calls by the same loan.
 
    There may be none: it is tested by `if (loan)`, and its calls are refused by refusal::no_handle then.
 

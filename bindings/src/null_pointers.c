@@ -1,14 +1,18 @@
-/* Null pointers. Where a program gives a handle up: vbr_close answers as of an empty handle, and vbr_drop does nothing, as free
-   does; vbr_map_close and vbr_map_drop are the same for the handle of a map. And where a call on a map would tell what was there,
-   or which value a key has, and nobody asks. And where no key is looked up, keys and answers may be null. The proved exports are of a
-   pointer that is there; in the archive they have the names close_handle, drop_handle, map_close_handle, map_drop_handle,
-   map_get_found, map_replace_found and so on, and these stand before them. So do those of look-ups of several keys, has_all_keys,
-   map_has_all_keys and map_get_all_keys, which get how many the answers are: they are as many as the keys. And so do reports with
-   slots, report_keys_slots and map_report_entries_slots, which get how much room the slots have: as much as the keys or entries.
+/* The calls for which a pointer may be null. The proved exports are of a pointer that is there; in the archive they have the names
+   close_handle, drop_handle, map_close_handle, map_drop_handle, map_get_found, map_replace_found and so on, and these stand before them.
 
-   And where handles are ended, end_handles and map_end_handles, of which a program has copied one: it is ended once. What it owns is
-   then in no other of them. The calls of all handles see by its pass that a handle stands twice, and refuse it; an end has no answer,
-   and its handles may be of several sets.
+   - A handle that is given up: vbr_close answers as for an empty handle, and vbr_drop does nothing, as free does. The same holds for
+     vbr_map_close and vbr_map_drop.
+   - Where a call writes a value or what was there: a program that doesn't ask for it passes null.
+   - Keys and answers, if no key is looked up.
+
+   Some proved exports also get a number that the interface has once. A look-up of several keys (has_all_keys, map_has_all_keys,
+   map_get_all_keys) gets how many answers there are: as many as keys. A report with slots (report_keys_slots,
+   map_report_entries_slots) gets how much room the slots have: as much as the keys or entries.
+
+   Handles that are ended (end_handles, map_end_handles) may have copies among them: each is ended once, since a copy owns what the
+   other one does. The calls of all handles see by its pass that a handle stands twice, and refuse it; an end has no answer, and its
+   handles may be of several sets.
 
    It includes nothing, so that the kit's compiler makes the same bytes of it on every machine. */
 enum { VBR_NO_HANDLE = -4 }; /* of vbr.h */

@@ -246,7 +246,7 @@ static void unmap(struct share *share)
     munmap(share, size);
 }
 
-/* Whether so many slots leave room for a last epoch, as vbr_max_epoch of vbr.h tells. */
+/* Whether so many slots leave room for a last epoch, as vbr_max_epoch of vbr.h says. */
 static int is_last_epoch(word last_epoch, unsigned slots)
 {
     word most = ~(word)0 >> 1;

@@ -83,7 +83,7 @@ static int results() {
     vbr::handle mine = std::move(vbr::open(vbr::shape::for_keys(8, 1), 1).value()[0]);
     int count = 0, absent = 0, tired = 0;
     vbr::result<bool> added = mine.insert_within(7, vbr::steps{5000});
-    if (!added.has_value()) return 1; // added.error() tells why
+    if (!added.has_value()) return 1; // added.error() says why
     if (*added) count++; // this call added 7
     CHECK(count == 1 && added == true && added != false && added.error() == vbr::refusal{} && added != vbr::refusal::no_slot);
     if (vbr::is_refusal(mine.insert(9))) return 1;
@@ -423,7 +423,7 @@ static int all_handles() {
     CHECK(vbr::handle::renew_all(both, {0, 1, 100}) == vbr::refusal::bad_shape);
     CHECK(vbr::handle::renew_all(both, {1, 1, 100}) == vbr::refusal::no_room && both[0].slots() == 4);
     vbr::result<void> renewed = vbr::handle::renew_all(both, vbr::shape::for_keys(4096, 2));
-    if (!renewed) return 1; // renewed.error() tells why
+    if (!renewed) return 1; // renewed.error() says why
     CHECK(both[0].buckets() == 4096 && both[0].balance() == 2);
     std::vector<vbr::handle> other = vbr::open(vbr::shape::for_keys(8, 1), 1).value(), mixed(2), none;
     CHECK(vbr::handle::report_all(none) == vbr::refusal::missing && vbr::handle::report_all(mixed) == vbr::refusal::no_handle);

@@ -137,7 +137,7 @@ crate::record! {
     /// What a record begins with.
     #[derive(Clone, Copy)]
     pub(crate) struct Head {
-        /// That of the key, so that a slot tells whose it is.
+        /// The number of the key, so that a slot says whose it is.
         number: u64,
         /// In nanoseconds of the clock and one more; 0: never.
         pub(crate) expires: u64,

@@ -10,7 +10,7 @@ use std::time::{Duration, Instant};
 /// A handle of a cache on loan, which makes all calls. It goes back at the end of this, and may go to another thread before.
 ///
 /// The loan keeps no handle while a loader of it runs, while it waits for another one, and during a renewal: it gives its
-/// handle back, and borrows another one afterwards, and no call tells. So a call may wait for a free handle.
+/// handle back, and borrows another one afterwards, and no call shows it. So a call may wait for a free handle.
 ///
 /// For a renewal each loan has to be given back, or to begin a call. Until the last epoch is spent, years later in most
 /// caches, nobody waits more than a millisecond for that. From then on calls that store a value wait for the other loans:
