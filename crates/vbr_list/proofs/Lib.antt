@@ -1,4 +1,4 @@
--- What proofs of this crate name of std and of the crates below it, from one place.
+-- What proofs of this crate name of its specs, of std and of the crates below it, from one place.
 mod Names
 -- The pieces of a call, one after another: what they add up to, and what they keep.
 mod pieces

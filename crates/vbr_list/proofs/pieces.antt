@@ -3,6 +3,7 @@ pub mod WideWords
 pub mod Going
 pub mod KeptHands
 pub mod Observing
+pub mod CountedSteps
 pub mod Tiring
 pub mod LonePasses
 pub mod Told

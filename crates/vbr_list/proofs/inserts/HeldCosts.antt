@@ -1,14 +1,9 @@
 -- What a call with a slot in hand costs, and which budgets are enough for it.
 use Rattle.vbr_list.proofs.Names.{◌≡◌, ℕ, ◌+◌, ◌*◌, ◌<◌, ◌≤◌, Bool, true, false, refl, inl, inr, arith, mul-le}
-use Rattle.vbr_list.proofs.Names.{Begins, begins_refl, begins_run, bucket_of, Call, Insert, IsAlone, IsRun, IsStart}
-use Rattle.vbr_list.proofs.Names.{MadeTwo, PIECE, Quiet, Remove, Trace}
-use Rattle.vbr_list.specs.calls.Budgets.{enough_to_search, listed_for}
-use Rattle.vbr_list.specs.traversals.Disturbed.{costs_in_hand_among, disturbed, enough_in_hand_among}
-use Rattle.vbr_list.specs.updates.Holding.{CostsInHand, LacksInHand}
-use Rattle.vbr_list.specs.updates.Inserting.{Searches}
-use Rattle.vbr_list.specs.traversals.Leaving.{LeavesReplaced}
-use Rattle.vbr_list.specs.updates.Settling.{StoredIn}
-use Rattle.vbr_list.specs.traversals.Searching.{met_since}
+use Rattle.vbr_list.proofs.Names.{Begins, begins_refl, begins_run, bucket_of, Call, costs_in_hand_among, CostsInHand}
+use Rattle.vbr_list.proofs.Names.{disturbed, enough_in_hand_among, enough_to_search, Insert, IsAlone, IsRun, IsStart}
+use Rattle.vbr_list.proofs.Names.{LacksInHand, LeavesReplaced, listed_for, MadeTwo, met_since, PIECE, Quiet, Remove}
+use Rattle.vbr_list.proofs.Names.{Searches, StoredIn, Trace}
 use Rattle.vbr_list.proofs.traversals.Disturbing.{alone_undisturbed, met_less, met_quiet, undisturbed}
 use Rattle.vbr_list.proofs.stores.LateSearches.{met_replaced}
 use Rattle.vbr_list.proofs.traversals.Searching.{disturbed_on, searched_in}

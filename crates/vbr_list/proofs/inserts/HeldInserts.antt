@@ -1,20 +1,9 @@
 -- An insert by a slot in hand: what it tells of a slot that is published, or stays in hand.
-use Rattle.vbr_list.proofs.Names.{◌≡◌, ℕ, ◌+◌, ◌≤◌, Bool, true, false, ap, subst, arith}
-use Rattle.vbr_list.proofs.Names.{Ghosts, HandView, Made, PassLaw}
-use Rattle.vbr_list.proofs.Names.{steps_to_update}
-use Rattle.vbr_at_table.specs.answers.Records.{PublishesSlot}
-use Rattle.vbr_list.specs.updates.Holding.{AnswersHeld, HoldsOn, PublishesHeld}
-use Rattle.vbr_list.specs.updates.HeldStores.{KeepsUnstored, still_in_hand}
-use Rattle.vbr_list.specs.updates.Inserting.{SearchesFor}
-use Rattle.vbr_list.specs.updates.Settling.{LinksNode}
-use Rattle.vbr_list.specs.calls.Pieces.{GoesOn, pass_in, trace_in}
-use Rattle.vbr_list.specs.calls.Told.{stored_in}
-use Rattle.vbr_list.specs.traversals.Traversing.{SearchFinds}
-use Rattle.vbr_list.specs.declared.call.PendingCall.{PendingCall}
-use Rattle.vbr_list.specs.declared.found.Found.{Found}
-use Rattle.vbr_list.specs.declared.wanted.Wanted.{Wanted}
-use Rattle.vbr_list.specs.declared.storing.Unstored.{Unstored}
-use Rattle.vbr_list.specs.declared.storing.Unstored.TheVariants.{Otherwise, OutOfSteps}
+use Rattle.vbr_list.proofs.Names.{◌≡◌, ℕ, ◌+◌, ◌≤◌, Bool, true, false, ap, subst, arith, AnswersHeld, Found, Ghosts}
+use Rattle.vbr_list.proofs.Names.{GoesOn, HandView, HoldsOn, KeepsUnstored, LinksNode, Made, Otherwise, pass_in}
+use Rattle.vbr_list.proofs.Names.{PassLaw, PendingCall, PublishesHeld, PublishesSlot, SearchesFor, SearchFinds}
+use Rattle.vbr_list.proofs.Names.{steps_to_update, still_in_hand, stored_in, trace_in, Unstored, Wanted}
+use Rattle.vbr_list.specs.declared.storing.Unstored.TheVariants.{OutOfSteps}
 use Rattle.vbr_list.proofs.traversals.Disturbing.{run_at}
 use Rattle.vbr_list.proofs.inserts.HeldCosts.{costs_after}
 use Rattle.vbr_list.proofs.named_entries.Publishing.{published_since}

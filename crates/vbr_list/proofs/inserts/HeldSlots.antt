@@ -1,60 +1,21 @@
 -- A slot that a pass holds is in its hand alone between calls, and throughout those that take none.
-use Rattle.std.proofs.Common.{◌≡◌, ℕ, ◌+◌, Bool, true, cond, List, [], ◌∷◌, ◌++◌, Option, Some, None, refl, arith}
-use Rattle.std.proofs.Common.{sym, subst, ap, ◌∙◌, eq-eqb}
-use Rattle.std.specs.Prelude.{◌==◌, ◌&&◌, count_by}
-use Rattle.std.proofs.lemmas.List.Sums.{sum_by-append}
-use Rattle.vbr_machine.specs.Start.{Start, IsStart}
-use Rattle.vbr_machine.specs.Acceptance.{IsInHand}
-use Rattle.vbr_machine.specs.Knowledge.{Know}
-use Rattle.vbr_machine.specs.Learning.{birth_in_hand}
-use Rattle.vbr_machine.specs.Records.{IsInHandAlone, IsTry, NoneTries}
-use Rattle.vbr_machine.specs.Runs.{Begins, BeginsFor, IsRun, know_after}
-use Rattle.vbr_machine.specs.declared.event.Event.{Event}
-use Rattle.vbr_machine.specs.declared.event.Step.{Step}
-use Rattle.vbr_machine.specs.declared.knowledge.Holding.{Holding}
-use Rattle.vbr_machine.specs.declared.knowledge.Holding.TheVariants.{Free, Unlinked, InHand}
-use Rattle.vbr_machine.specs.declared.knowledge.Unpublished.{Unpublished}
-use Rattle.vbr_machine.proofs.Lemmas.{begins_for_know, begins_refl, begins_run, begins_trans, in_hand_alone}
-use Rattle.vbr_machine.proofs.Lemmas.{in_hand_throughout}
-use Rattle.vbr_slots.specs.steps.Calls.{IsSame}
-use Rattle.vbr_slots.specs.steps.PassLaw.{PassLaw}
-use Rattle.vbr_slots.specs.pools.Pools.{HandFits}
-use Rattle.vbr_slots.specs.views.Views.{PassView, Trace, knows}
-use Rattle.vbr_at_table.specs.hands.Hands.{HandView, IsHandOf}
-use Rattle.vbr_at_table.specs.hands.KeptSlots.{TakesNoSlot}
-use Rattle.vbr_at_table.specs.answers.Records.{PublishesSlot}
-use Rattle.vbr_at_table.specs.costs.StepKinds.{flags_tried, is_try}
-use Rattle.vbr_list.specs.updates.Settling.{PublishedSlot}
+use Rattle.vbr_list.proofs.Names.{◌≡◌, ℕ, ◌+◌, true, List, [], ◌∷◌, ◌++◌, Option, Some, None, refl, arith, sym, subst}
+use Rattle.vbr_list.proofs.Names.{ap, ◌∙◌, append_assoc, Begins, begins_for_know, begins_refl, begins_run}
+use Rattle.vbr_list.proofs.Names.{begins_trans, BeginsFor, birth_in_hand, Event, flags_tried, Free, HandFits}
+use Rattle.vbr_list.proofs.Names.{HandView, Holding, in_hand_alone, in_hand_throughout, InHand, is_try, IsHandOf}
+use Rattle.vbr_list.proofs.Names.{IsInHand, IsInHandAlone, IsRun, IsSame, IsStart, IsTry, Know, know_after, knows}
+use Rattle.vbr_list.proofs.Names.{NoneTries, PassLaw, PassView, PublishedSlot, PublishesSlot, Start, Step}
+use Rattle.vbr_list.proofs.Names.{TakesNoSlot, Trace, Unlinked, Unpublished}
+use Rattle.vbr_list.proofs.pieces.CountedSteps.{MakesNone, none_between}
 
 -- ---- no flag is tried
 
 is_try_of : (step : Step) → IsTry step → is_try step ≡ true
 is_try_of step h = grind arith
 
-tried : ℕ → List Event → ℕ
-tried who events = count_by (λ (e : Event). (e.pass == who) && is_try e.step) events
-
-tried-append : (who : ℕ) (xs ys : List Event) → tried who (xs ++ ys) ≡ tried who xs + tried who ys
-unfolding tried
-tried-append who xs ys = sum_by-append (λ (e : Event). cond ((e.pass == who) && is_try e.step) 1 0) xs ys
-
-none_tried : (who : ℕ) (events : List Event) → tried who events ≡ 0 → NoneTries who events
-unfolding tried
-none_tried who [] none = tt
-none_tried who (event ∷ events) none =
-    let sum = tried-append who (event ∷ []) events in (
-      λ mine try.
-          one (event.pass == who) (is_try event.step) (eq-eqb event.pass who mine) (is_try_of event.step try)
-          (omega (arith, none, sum)),
-      none_tried who events (omega (arith, none, sum)),
-    )
-  where
-    one : (p q : Bool) → p ≡ true → q ≡ true → 0 + cond (p && q) 1 0 ≡ 0 → ⊥
-    one p q a b z = grind arith
-
-none-append : (who : ℕ) (xs ys : List Event) → NoneTries who xs → NoneTries who ys → NoneTries who (xs ++ ys)
-none-append who [] ys a b = b
-none-append who (x ∷ xs) ys a b = (a.0, none-append who xs ys a.1 b)
+none_tries : (who : ℕ) (events : List Event) → MakesNone IsTry who events → NoneTries who events
+none_tries who [] none = tt
+none_tries who (event ∷ events) none = (none.0, none_tries who events none.1)
 
 -- ---- what is in hand
 
@@ -97,44 +58,21 @@ held_between : (p q : Trace) (slot birth : ℕ) (moment end : List Event) → Is
     IsRun q.start q.passes q.seen → flags_tried q ≡ flags_tried p → IsKnown (knows p) slot birth →
     IsKnown (know_after p.start end p.who) slot birth → Begins p.seen moment → Begins moment end → Begins end q.seen →
     IsInHand ((know_after p.start moment p.who).own slot)
-unfolding tried
 held_between p q slot birth moment end is same ok count first last a b c =
     let R : Start × ℕ → Type 0 = λ x. IsRun x.0 x.1 q.seen in
     let ok_p : IsRun p.start p.passes q.seen = subst R (λ i. (same.start i, same.passes i)) ok in
     let ok_end = begins_run p.start p.passes end q.seen c ok_p in
-    let one = tried-append p.who p.seen a.0 in
-    let two = tried-append p.who moment b.0 in
-    let three = tried-append p.who end c.0 in
-    let e1 = ap (tried p.who) a.1 in
-    let e2 = ap (tried p.who) b.1 in
-    let e3 = ap (tried p.who) c.1 in
-    let who : tried q.who q.seen ≡ tried p.who q.seen = ap (λ w. tried w q.seen) same.who in
-    let kept : tried q.who q.seen ≡ tried p.who p.seen = count in
-    let none = none-append p.who a.0 b.0 (none_tried p.who a.0 (omega (arith, one, two, three, e1, e2, e3, who, kept)))
-    (none_tried p.who b.0 (omega (arith, one, two, three, e1, e2, e3, who, kept))) in
     let at_end : end ≡ (p.seen ++ a.0) ++ b.0 = b.1 ∙ ap (λ (l : List Event). l ++ b.0) a.1 in
+    let none = none_between is_try IsTry is_try_of p q same count (begins_refl p.seen)
+    (a.0 ++ b.0, at_end ∙ append_assoc p.seen a.0 b.0) c in
     let E : List Event → Type 0 = λ l. (know_after p.start l p.who).own slot ≡ Some (InHand last.known) in
     let O : List Event → Type 0 = IsRun p.start p.passes in
     let M : List Event → Type 0 = λ l. IsInHand ((know_after p.start l p.who).own slot) in
     subst M (sym a.1)
     (in_hand_throughout p.start p.passes p.seen a.0 b.0 p.who slot first.known last.known is (subst O at_end ok_end)
-    first.own (subst E at_end last.own) (last.birth_is ∙ sym first.birth_is) none)
+    first.own (subst E at_end last.own) (last.birth_is ∙ sym first.birth_is)
+    (none_tries p.who (a.0 ++ b.0) none))
 
-pub held_until_published : (p q : PassView) (hand : HandView) (key : ℕ) (moment : List Event)
-    (slot : PublishesSlot p.trace q.trace hand.slot hand.birth key) → PassLaw p → PassLaw q →
-    IsSame p.trace q.trace → IsHandOf p hand → TakesNoSlot p q → Begins p.trace.seen moment →
-    Begins moment slot.moment → IsInHand ((know_after p.trace.start moment p.trace.who).own hand.slot)
-held_until_published p q hand key moment slot law later same is none a b =
-    let K : Start × ℕ → Type 0 = λ x. (know_after x.0 slot.moment x.1).own hand.slot ≡ Some (InHand slot.known) in
-    held_between p.trace q.trace hand.slot hand.birth moment slot.moment law.start same later.is_run none.tries
-    (hand_known p hand law is)
-    (record {
-      known = slot.known;
-      own = subst K (λ i. (same.start i, same.who i)) slot.in_hand;
-      birth_is = slot.birth_is;
-    }) a b (slot.event ∷ [], slot.last)
-
--- so it is where the call went on after the publication
 pub held_until_placed : (p q : PassView) (hand : HandView) (key : ℕ) (moment : List Event)
     (slot : PublishedSlot p.trace q.trace hand.slot hand.birth key) → PassLaw p → PassLaw q →
     IsSame p.trace q.trace → IsHandOf p hand → TakesNoSlot p q → Begins p.trace.seen moment →
@@ -149,6 +87,16 @@ held_until_placed p q hand key moment slot law later same is none a b =
       own = subst K (λ i. (slot.same.start i, slot.same.who i)) x.in_hand;
       birth_is = x.birth_is;
     }) a b (begins_trans x.moment slot.ended.seen q.trace.seen (x.event ∷ [], x.last) slot.to)
+
+-- so it is where the publication was the end of the call
+pub held_until_published : (p q : PassView) (hand : HandView) (key : ℕ) (moment : List Event)
+    (slot : PublishesSlot p.trace q.trace hand.slot hand.birth key) → PassLaw p → PassLaw q →
+    IsSame p.trace q.trace → IsHandOf p hand → TakesNoSlot p q → Begins p.trace.seen moment →
+    Begins moment slot.moment → IsInHand ((know_after p.trace.start moment p.trace.who).own hand.slot)
+held_until_published p q hand key moment slot law later same is none a b =
+    held_until_placed p q hand key moment
+    (record { ended = q.trace; same = same; to = begins_refl q.trace.seen; published = slot }) law later same is none a
+    b
 
 pub held_throughout : (p q : PassView) (hand : HandView) (moment : List Event) → PassLaw p → PassLaw q →
     IsSame p.trace q.trace → IsHandOf p hand → IsHandOf q hand → TakesNoSlot p q → Begins p.trace.seen moment →

@@ -1,16 +1,9 @@
 -- With a slot in hand, search follows search until the call is answered or its budget has no room.
-use Rattle.vbr_list.proofs.Names.{◌≡◌, ℕ, ◌+◌, ◌≤◌, Bool, Option, None, Some, sym}
-use Rattle.vbr_list.proofs.Names.{subst, arith, Bor, option_copied}
-use Rattle.vbr_list.proofs.Names.{CountsSteps, Ghosts, had_grown, had_on, HandView, HasStill, Held}
-use Rattle.vbr_list.proofs.Names.{IsSucc, Know, knows, none_on, PassLaw}
-use Rattle.vbr_list.proofs.Names.{Quiet, quiet_on, TakesNoSlot, Took}
-use Rattle.vbr_list.specs.updates.Inserting.{CountsWithin, HasHandAndRoom}
-use Rattle.vbr_list.specs.calls.Pieces.{GoesOn, IsSameCall, pass_in, trace_in}
-use Rattle.vbr_list.specs.traversals.Places.{IsCur, IsEnd, Locates}
-use Rattle.vbr_list.specs.traversals.Traversing.{SearchFinds, LocatesFor}
-use Rattle.vbr_list.specs.traversals.Searching.{LosesFound}
-use Rattle.vbr_list.specs.declared.call.PendingCall.{PendingCall}
-use Rattle.vbr_list.specs.declared.found.Found.{Found}
+use Rattle.vbr_list.proofs.Names.{◌≡◌, ℕ, ◌+◌, ◌≤◌, Bool, Option, None, Some, sym, subst, arith, Bor, option_copied}
+use Rattle.vbr_list.proofs.Names.{◌<◌, CountsSteps, CountsWithin, Found, Ghosts, GoesOn, had_grown, had_on, HandView}
+use Rattle.vbr_list.proofs.Names.{HasHandAndRoom, HasStill, Held, IsCur, IsEnd, IsSameCall, IsSucc, Know, knows}
+use Rattle.vbr_list.proofs.Names.{Locates, LocatesFor, LosesFound, MaySettle, none_on, pass_in, PassLaw, PendingCall}
+use Rattle.vbr_list.proofs.Names.{Quiet, quiet_on, SearchFinds, TakesNoSlot, Took, trace_in}
 use Rattle.vbr_list.proofs.pieces.Going.{call_on, counts_step, within_call}
 use Rattle.vbr_list.proofs.traversals.LostTraversals.{search_lost}
 use Rattle.vbr_list.proofs.inserts.Preparing.{within_on}
@@ -32,12 +25,13 @@ pub record TakesOn {N : Type 0} {kind : Ghosts N} (c d : PendingCall N kind) : T
   pub takes_no_slot : TakesNoSlot (pass_in c) (pass_in d)
 
 -- one of so many steps
-pub takes_on : {N : Type 0} {kind : Ghosts N} → {c d : PendingCall N kind} (steps : ℕ) → IsSameCall c d →
-    d.used ≡ c.used + steps → Took (trace_in c) (trace_in d) steps → TakesNoSlot (pass_in c) (pass_in d) → TakesOn c d
-takes_on {c = c} {d = d} steps same used took none = record {
+pub settles_in : {N : Type 0} {kind : Ghosts N} → {c d : PendingCall N kind} (steps : ℕ) → IsSameCall c d →
+    d.used ≡ c.used + steps → 0 < steps → Took (trace_in c) (trace_in d) steps → TakesNoSlot (pass_in c) (pass_in d) →
+    MaySettle c d
+settles_in {c = c} {d = d} steps same used some took none = record {
   call = same;
   counts = subst (CountsSteps (trace_in c) (trace_in d) c.used) (sym used) (counts_step c.used steps took);
-  more = omega (arith, used);
+  more = omega (arith, used, some);
   takes_no_slot = none;
 }
 

@@ -1,15 +1,12 @@
 -- The steps of an insert, and what its refusals say.
 use Rattle.vbr_list.proofs.Names.{◌≡◌, ◌≢◌, ℕ, ◌+◌, ◌-◌, ◌<◌, ◌≤◌, true, false, List, [], ◌∷◌, length, Result, Ok}
-use Rattle.vbr_list.proofs.Names.{Err, inl, inr, refl, sym, ◌∙◌, subst, arith, IfOk, IfErr, is_err}
-use Rattle.vbr_list.proofs.Names.{counts_on, CountsSteps, EpochSpent, Ghosts, had_grown, had_on, in_need_after}
-use Rattle.vbr_list.proofs.Names.{none_in_need}
-use Rattle.vbr_list.proofs.Names.{IsSpent, LeavesRoom, missed_after, needed_after, NoSlot}
-use Rattle.vbr_list.proofs.Names.{OutOfSteps, PassView, Quiet, Refusal, shared_taken, shares_more}
-use Rattle.vbr_list.proofs.Names.{slots_kept_on, some_grown, Start, TakesNoSlot, took_all, TookWithin, Trace}
-use Rattle.vbr_list.proofs.Names.{TriesNoFlag, TriesOnlyWhere, TriesWhereEmpty}
-use Rattle.vbr_list.specs.updates.Inserting.{CountsWithin, InsertShowsSpent, Prepares, TakesNone}
-use Rattle.vbr_list.specs.calls.Pieces.{GoesOn, IsSameCall, pass_in, trace_in}
-use Rattle.vbr_list.specs.declared.call.PendingCall.{PendingCall}
+use Rattle.vbr_list.proofs.Names.{Err, inl, inr, refl, sym, ◌∙◌, subst, arith, IfOk, IfErr, is_err, counts_on}
+use Rattle.vbr_list.proofs.Names.{CountsSteps, CountsWithin, EpochSpent, Ghosts, GoesOn, had_grown, had_on}
+use Rattle.vbr_list.proofs.Names.{in_need_after, InsertShowsSpent, IsSpent, LeavesRoom, Meeting, missed_after}
+use Rattle.vbr_list.proofs.Names.{needed_after, none_in_need, NoSlot, OutOfSteps, pass_in, PassView, PendingCall}
+use Rattle.vbr_list.proofs.Names.{Prepares, Quiet, Refusal, shared_taken, shares_more, slots_kept_on, some_grown}
+use Rattle.vbr_list.proofs.Names.{Start, TakesNone, TakesNoSlot, took_all, TookWithin, Trace, trace_in, TriesNoFlag}
+use Rattle.vbr_list.proofs.Names.{TriesOnlyWhere, TriesWhereEmpty}
 use Rattle.vbr_list.proofs.pieces.Going.{call_on, counts_step, within_call}
 
 -- more steps after those that are within the budget
@@ -30,18 +27,18 @@ steps_gone x = record { counts = x.goes.counts; within = (x.more, within_call x.
 -- ---- before a slot is linked
 
 -- what takes no slot and keeps the hand
-pub prepares_none : {N : Type 0} {kind : Ghosts N} → (c d : PendingCall N kind) → IsSameCall c d →
-    CountsWithin (trace_in c) (trace_in d) c.used d.used c.budget → TakesNoSlot (pass_in c) (pass_in d) →
-    (pass_in d).hand ≡ (pass_in c).hand → Prepares c d
-prepares_none c d same counts none hand = record {
-  call = same;
-  counts = counts;
-  advances = inl none.count;
-  kept = none.kept;
-  had = had_grown (pass_in c) (pass_in d) none.grows hand;
-  shared = shares_more (pass_in c) (pass_in d) none.shared;
-  wins = none_in_need (pass_in c) (pass_in d) none.wins;
-}
+pub prepares_none : {N : Type 0} {kind : Ghosts N} → {c d : PendingCall N kind} → Meeting c d → Prepares c d
+prepares_none {c = c} {d = d} x =
+    let none = x.hand.takes_no_slot in
+    record {
+      call = x.call;
+      counts = x.counts;
+      advances = inl none.count;
+      kept = none.kept;
+      had = had_grown (pass_in c) (pass_in d) none.grows x.hand.hand;
+      shared = shares_more (pass_in c) (pass_in d) none.shared;
+      wins = none_in_need (pass_in c) (pass_in d) none.wins;
+    }
 
 -- a slot is taken after that
 pub prepares_on : {N : Type 0} {kind : Ghosts N} → {c d e : PendingCall N kind} → GoesOn c d →

@@ -1,16 +1,10 @@
 -- The steps of an insert: of a slot, and of a pass that was alone.
-use Rattle.vbr_list.proofs.Names.{◌≡◌, ◌≢◌, ℕ, ◌<◌, ◌≤◌, List, [], Result, Ok, Err, sym, subst, arith, IfErr}
-use Rattle.vbr_list.proofs.Names.{IfOk, OnOk}
-use Rattle.vbr_list.proofs.Names.{alone_gained, Begins, gained, gained_on, gained_since, Ghosts, IsAlone, more_lost}
-use Rattle.vbr_list.proofs.Names.{most_to_take, most_to_take_among, none_lost, PassView, Quiet, Refusal}
-use Rattle.vbr_list.proofs.Names.{some_grown, Start, steps_to_take_among, TookWithin, Trace}
-use Rattle.vbr_list.specs.calls.Budgets.{LacksSteps, enough_to_look_up}
-use Rattle.vbr_list.specs.calls.Budgets.{enough_to_search}
-use Rattle.vbr_list.specs.calls.Budgets.{listed_for}
-use Rattle.vbr_list.specs.traversals.Disturbed.{disturbed, enough_among, enough_to_search_among}
-use Rattle.vbr_list.specs.traversals.Disturbed.{steps_for_slot}
-use Rattle.vbr_list.specs.calls.Pieces.{GoesOn, pass_in, trace_in}
-use Rattle.vbr_list.specs.declared.call.PendingCall.{PendingCall}
+use Rattle.vbr_list.proofs.Names.{◌≡◌, ◌≢◌, ℕ, ◌<◌, ◌≤◌, List, [], Result, Ok, Err, sym, subst, arith, IfErr, IfOk}
+use Rattle.vbr_list.proofs.Names.{OnOk, alone_gained, Begins, disturbed, enough_among, enough_to_look_up}
+use Rattle.vbr_list.proofs.Names.{enough_to_search, enough_to_search_among, gained, gained_on, gained_since, Ghosts}
+use Rattle.vbr_list.proofs.Names.{GoesOn, IsAlone, LacksSteps, listed_for, more_lost, most_to_take}
+use Rattle.vbr_list.proofs.Names.{most_to_take_among, none_lost, pass_in, PassView, PendingCall, Quiet, Refusal}
+use Rattle.vbr_list.proofs.Names.{some_grown, Start, steps_for_slot, steps_to_take_among, TookWithin, Trace, trace_in}
 use Rattle.vbr_list.proofs.traversals.Disturbing.{undisturbed}
 
 -- where an own pool with slots keeps some, a slot is taken in no more steps than were allowed for before

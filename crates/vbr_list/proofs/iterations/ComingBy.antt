@@ -1,22 +1,16 @@
 -- An iteration goes from bucket to bucket.
 use Rattle.vbr_list.proofs.Names.{◌≡◌, ℕ, zero, suc, ◌+◌, ◌-◌, ◌*◌, ◌<◌, ◌≤◌, Bool, true, false, Option, Some, None}
 use Rattle.vbr_list.proofs.Names.{Result, Ok, Err, IfErr, IfOk, refl, sym, ap, ◌∙◌, subst, arith, inl, inr, mul-le}
-use Rattle.vbr_list.proofs.Names.{advances, bucket_of, IsAlone, IsRun, OutOfSteps, PassLaw, PassView, PIECE, Quiet}
-use Rattle.vbr_list.proofs.Names.{quiet_on, Refusal, Start, took_all, TookWithin, Trace}
-use Rattle.vbr_list.specs.calls.Budgets.{nodes_listed_in, steps_to_value_of}
-use Rattle.vbr_list.specs.look_ups.Cursors.{HasStayedOrMoved, IsBehindKey, IsPastKey, PassesBy}
-use Rattle.vbr_list.specs.look_ups.Cursors.{SeesMore, StopsShort, costs_over, costs_over_among, enough_to_come_among}
-use Rattle.vbr_list.specs.look_ups.Cursors.{entered_by, going_costs, next_bucket}
-use Rattle.vbr_list.specs.traversals.Disturbed.{disturbed_in, enough_among, seek_costs_among}
-use Rattle.vbr_list.specs.look_ups.Next.{HasNoNext, enough_to_seek}
-use Rattle.vbr_list.specs.calls.Pieces.{Goes, Observes}
-use Rattle.vbr_list.specs.look_ups.Seeking.{GivesNextNode, IteratesNodes, Sought, steps_besides}
-use Rattle.vbr_list.specs.traversals.Searching.{SearchesIn}
-use Rattle.vbr_list.specs.declared.cursor.Cursor.{Cursor}
-use Rattle.vbr_list.specs.declared.seeking.NextNode.{NextNode}
+use Rattle.vbr_list.proofs.Names.{advances, bucket_of, costs_over, costs_over_among, Cursor, disturbed_in}
+use Rattle.vbr_list.proofs.Names.{enough_among, enough_to_come_among, enough_to_seek, entered_by, GivesNextNode, Goes}
+use Rattle.vbr_list.proofs.Names.{going_costs, HasNoNext, HasStayedOrMoved, IsAlone, IsBehindKey, IsPastKey, IsRun}
+use Rattle.vbr_list.proofs.Names.{IteratesNodes, next_bucket, NextNode, nodes_listed_in, Observes, OutOfSteps}
+use Rattle.vbr_list.proofs.Names.{PassesBy, PassLaw, PassView, PIECE, Quiet, quiet_on, Refusal, SearchesIn}
+use Rattle.vbr_list.proofs.Names.{seek_costs_among, SeesMore, Sought, Start, steps_besides, steps_to_value_of}
+use Rattle.vbr_list.proofs.Names.{StopsShort, took_all, TookWithin, Trace}
 use Rattle.vbr_list.proofs.iterations.Cursors.{entry_since, passes_bucket, passes_key, passes_last, passes_on}
 use Rattle.vbr_list.proofs.iterations.Cursors.{passes_still}
-use Rattle.vbr_list.proofs.traversals.Disturbing.{enough_among_more, grows_disturbed, run_at, seek_costs_more}
+use Rattle.vbr_list.proofs.traversals.Disturbing.{enough_among_more, grows_disturbed, run_of, seek_costs_more}
 use Rattle.vbr_list.proofs.traversals.Disturbing.{undisturbed_in}
 use Rattle.vbr_list.proofs.named_entries.EntryAnswers.{there_since}
 use Rattle.vbr_list.proofs.named_entries.SeenEntries.{full_since}
@@ -170,7 +164,7 @@ module _ {p q : PassView} (r : PassView) (law : PassLaw p) (c d : Cursor) (used 
       omega (arith, before, more)
     where
       ok : IsRun p.trace.start p.trace.passes r.trace.seen
-      ok = let whole = quiet_on x.goes.quiet quiet in run_at p.trace r.trace whole.same (whole.is_run law.is_run)
+      ok = run_of law (quiet_on x.goes.quiet quiet)
 
       grows : (bucket : ℕ) → disturbed_in p.trace q.trace bucket ≤ disturbed_in p.trace r.trace bucket
       grows bucket =

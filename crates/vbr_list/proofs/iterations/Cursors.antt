@@ -1,15 +1,12 @@
 -- From cursor to cursor, and what an iteration has given.
 use Rattle.vbr_list.proofs.Names.{◌≡◌, ℕ, ◌+◌, ◌^◌, ◌<◌, ◌≤◌, Bool, true, false, List, [], ◌∷◌, ◌++◌, Option, Some}
-use Rattle.vbr_list.proofs.Names.{None, sym, ap, ◌∙◌, subst, arith, inl, inr, append-nil, option_to_list, ◌⊎◌, Contains}
-use Rattle.vbr_list.proofs.Names.{IfSome, AllByRecursion, Contains-append_left, Contains-append_right, Contains-push}
-use Rattle.vbr_list.proofs.Names.{Contains-push_cases}
-use Rattle.vbr_list.proofs.Names.{begins_trans, bucket_of, moment_after, opening_keys, opening_payloads, same_on}
-use Rattle.vbr_list.proofs.Names.{set_after, Start, Trace, values_after, WasEntry, WasSo, world_after}
-use Rattle.vbr_list.specs.look_ups.Cursors.{AreInOrder, ComesFirst, HasGiven, HasGivenAll, IsToCome, IsAtEnd}
-use Rattle.vbr_list.specs.look_ups.Cursors.{IsBehindKey}
-use Rattle.vbr_list.specs.look_ups.Cursors.{IsBeforeCursor, PassesBy, SeesMore, first_cursor, next_bucket}
-use Rattle.vbr_list.specs.look_ups.Next.{HasNoNext, IsNextKey}
-use Rattle.vbr_list.specs.declared.cursor.Cursor.{Cursor}
+use Rattle.vbr_list.proofs.Names.{None, sym, ap, ◌∙◌, subst, arith, inl, inr, append-nil, option_to_list, ◌⊎◌}
+use Rattle.vbr_list.proofs.Names.{Contains, IfSome, AllByRecursion, Contains-append_left, Contains-append_right}
+use Rattle.vbr_list.proofs.Names.{Contains-push, Contains-push_cases, AreInOrder, begins_trans, bucket_of, ComesFirst}
+use Rattle.vbr_list.proofs.Names.{Cursor, first_cursor, HasGiven, HasGivenAll, HasNoNext, IsAtEnd, IsBeforeCursor}
+use Rattle.vbr_list.proofs.Names.{IsBehindKey, IsNextKey, IsToCome, moment_after, next_bucket, opening_keys}
+use Rattle.vbr_list.proofs.Names.{opening_payloads, PassesBy, same_on, SeesMore, set_after, Start, Trace}
+use Rattle.vbr_list.proofs.Names.{values_after, WasEntry, WasSo, world_after}
 use Rattle.vbr_list.proofs.pieces.Going.{by_either}
 use Rattle.vbr_list.proofs.traversals.Moments.{later_moment, so_later}
 

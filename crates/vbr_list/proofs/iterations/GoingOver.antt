@@ -1,17 +1,11 @@
 -- What it costs to go over buckets, where each advance of the epoch counts once.
-use Rattle.std.proofs.Math.Nat.{le-max_left, le-max_right, max-le}
-use Rattle.std.specs.Prelude.{max}
-use Rattle.vbr_list.proofs.Names.{◌≡◌, ℕ, zero, suc, ◌+◌, ◌-◌, ◌*◌, ◌≤◌, ap, ◌∙◌, subst, arith, mul-le}
-use Rattle.vbr_list.proofs.Names.{advances, begins_refl, IsRun, PassLaw, PassView, Quiet, quiet_on}
-use Rattle.vbr_list.proofs.Names.{Trace}
-use Rattle.vbr_list.specs.calls.Budgets.{nodes_listed_in, steps_to_value_of}
-use Rattle.vbr_list.specs.look_ups.Cursors.{going_costs, greatest_walk_costs, walk_costs, walks_cost}
-use Rattle.vbr_list.specs.traversals.Disturbed.{advances_since, changes_since, disturbed_at, disturbed_in}
-use Rattle.vbr_list.specs.look_ups.Seeking.{steps_besides}
-use Rattle.vbr_list.specs.traversals.Searching.{SearchesIn, met_in, nodes_after}
+use Rattle.vbr_list.proofs.Names.{le-max_left, le-max_right, max-le, max, ◌≡◌, ℕ, zero, suc, ◌+◌, ◌-◌, ◌*◌, ◌≤◌, ap}
+use Rattle.vbr_list.proofs.Names.{◌∙◌, subst, arith, mul-le, advances, advances_since, begins_refl, changes_since}
+use Rattle.vbr_list.proofs.Names.{disturbed_at, disturbed_in, going_costs, greatest_walk_costs, IsRun, met_in}
+use Rattle.vbr_list.proofs.Names.{nodes_after, nodes_listed_in, PassLaw, PassView, Quiet, quiet_on, SearchesIn}
+use Rattle.vbr_list.proofs.Names.{steps_besides, steps_to_value_of, Trace, walk_costs, walks_cost}
 use Rattle.vbr_list.proofs.traversals.Disturbing.{advances_disturb, disturbed_there, epochs_grow, grows_disturbed}
-use Rattle.vbr_list.proofs.traversals.Disturbing.{met_after}
-use Rattle.vbr_list.proofs.traversals.Disturbing.{met_unanswered, run_at}
+use Rattle.vbr_list.proofs.traversals.Disturbing.{grown_disturbed, met_after, met_unanswered, run_of}
 
 -- ---- one bucket more
 
@@ -65,7 +59,7 @@ module _ {p : PassView} {q r : Trace} (law : PassLaw p) (first : Quiet p.trace q
   whole = quiet_on first last
 
   ok : IsRun p.trace.start p.trace.passes r.seen
-  ok = run_at p.trace r whole.same (whole.is_run law.is_run)
+  ok = run_of law whole
 
   abbrev epoch_of : Trace → ℕ
   epoch_of t = (nodes_after p.trace t.seen).epoch
@@ -92,8 +86,7 @@ module _ {p : PassView} {q r : Trace} (law : PassLaw p) (first : Quiet p.trace q
     times : (disturbed_by_then bucket p.trace ≤ disturbed_by_then bucket q)
         × (disturbed_by_then bucket q ≤ disturbed_by_then bucket r)
     times = (
-      grows_disturbed p.trace q law.start (run_at p.trace q first.same (first.is_run law.is_run)) bucket p.trace.seen
-          first.seen,
+      grown_disturbed law first bucket,
       grows_disturbed p.trace r law.start ok bucket q.seen last.seen,
     )
 

@@ -1,19 +1,13 @@
 -- The nodes of a list now are no more than those of it before and what disturbed the pass since.
-use Rattle.std.specs.Prelude.{if◌then◌else◌}
-use Rattle.std.proofs.lemmas.Bool.{and_from, and_parts, cases_Bool, cases_eq, ne_eqb}
-use Rattle.vbr_list.proofs.Names.{◌≡◌, ◌≢◌, ℕ, zero, suc, ◌+◌, ◌*◌, ◌<◌, ◌≤◌, Bool, true, false, not, Option, Some}
-use Rattle.vbr_list.proofs.Names.{None, refl, sym, ap, ◌∙◌, subst, arith, inl, inr, ◌⊎◌, ◌==◌, ◌&&◌, eq-eqb, mul-le}
-use Rattle.vbr_list.proofs.Names.{begins_refl, bucket_of, Head, incarnations_after, met, PassLaw}
-use Rattle.vbr_list.proofs.Names.{PassView, Quiet, quiet_on, run_agrees, Start, Trace}
-use Rattle.vbr_machine.specs.Disturbances.{has_left, is_inserted, is_met}
-use Rattle.vbr_machine.specs.Incarnations.{Incarnations, State}
-use Rattle.vbr_machine.specs.Nodes.{behind, count_below, is_behind}
-use Rattle.vbr_machine.specs.Sound.{IsListed, Sound}
-use Rattle.vbr_machine.proofs.Lemmas.{InList, in_list_from, slot_is_one}
-use Rattle.vbr_list.specs.calls.Budgets.{nodes_listed_in}
-use Rattle.vbr_list.specs.traversals.Disturbed.{disturbed_in, enough_among}
-use Rattle.vbr_list.specs.traversals.Searching.{met_in}
-use Rattle.vbr_list.proofs.traversals.Disturbing.{disturbed_there, grows_disturbed, met_after, met_unanswered, run_at}
+use Rattle.vbr_list.proofs.Names.{if◌then◌else◌, and_from, and_parts, cases_Bool, cases_eq, ne_eqb, ◌≡◌, ◌≢◌, ℕ, zero}
+use Rattle.vbr_list.proofs.Names.{suc, ◌+◌, ◌*◌, ◌<◌, ◌≤◌, Bool, true, false, not, Option, Some, None, refl, sym, ap}
+use Rattle.vbr_list.proofs.Names.{◌∙◌, subst, arith, inl, inr, ◌⊎◌, ◌==◌, ◌&&◌, eq-eqb, mul-le, begins_refl, behind}
+use Rattle.vbr_list.proofs.Names.{bucket_of, count_below, disturbed_in, enough_among, has_left, Head, in_list_from}
+use Rattle.vbr_list.proofs.Names.{Incarnations, incarnations_after, InList, is_behind, is_inserted, is_met, IsListed}
+use Rattle.vbr_list.proofs.Names.{met, met_in, nodes_listed_in, PassLaw, PassView, Quiet, quiet_on, run_agrees}
+use Rattle.vbr_list.proofs.Names.{slot_is_one, Sound, Start, State, Trace}
+use Rattle.vbr_list.proofs.traversals.Disturbing.{disturbed_there, grown_disturbed, grows_disturbed, met_after}
+use Rattle.vbr_list.proofs.traversals.Disturbing.{met_unanswered, run_of}
 
 -- ---- counts
 
@@ -157,7 +151,7 @@ listed_met {start} {a} s bucket h =
 pub listed_later : {p : PassView} {q : Trace} → PassLaw p → Quiet p.trace q → (bucket : ℕ) →
     nodes_listed_in q bucket ≤ nodes_listed_in p.trace bucket + disturbed_in p.trace q bucket
 listed_later {p} {q} law quiet bucket =
-    let ok = run_at p.trace q quiet.same (quiet.is_run law.is_run) in
+    let ok = run_of law quiet in
     let now = listed_met {a = incarnations_after p.trace.start q.seen}
     (run_agrees p.trace.start p.trace.passes q.seen law.start ok).sound bucket bucket in
     let same : nodes_listed_in q bucket ≡ behind p.trace.start (incarnations_after p.trace.start q.seen) bucket
@@ -180,10 +174,8 @@ enough_later {p} {q} {r} law first last bucket =
     let whole = quiet_on first last in
     let here = disturbed_there p.trace q bucket q.seen first.same in
     let there = disturbed_there p.trace q bucket r.seen first.same in
-    let grows = grows_disturbed p.trace q law.start (run_at p.trace q first.same (first.is_run law.is_run)) bucket
-    p.trace.seen first.seen in
-    let more = grows_disturbed p.trace r law.start (run_at p.trace r whole.same (whole.is_run law.is_run)) bucket
-    q.seen last.seen in
+    let grows = grown_disturbed law first bucket in
+    let more = grows_disturbed p.trace r law.start (run_of law whole) bucket q.seen last.seen in
     let times : disturbed_in q r bucket ≤ disturbed_in p.trace r bucket = omega (arith, here, there, grows) in
     let all : nodes_listed_in q bucket + disturbed_in q r bucket
     ≤ nodes_listed_in p.trace bucket + disturbed_in p.trace r bucket =

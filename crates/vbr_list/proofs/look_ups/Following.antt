@@ -1,27 +1,16 @@
 -- A traversal of loads alone goes on from place to place, past the keys that a seek tells of.
 use Rattle.vbr_list.proofs.Names.{◌≡◌, ℕ, ◌+◌, ◌<◌, ◌≤◌, Bool, true, false, Option, Some, None, sym, ap, ◌∙◌, subst}
-use Rattle.vbr_list.proofs.Names.{arith, is_none, is_some, refl}
-use Rattle.vbr_list.proofs.Names.{At, behind_kept, bucket_of, Held, held_in_kept, held_in_next, held_kept, held_of}
-use Rattle.vbr_list.proofs.Names.{IsRead, IsRun, IsSame, IsStart, itself, Keeps, keeps_on, KeyAt, knows, link_of}
-use Rattle.vbr_list.proofs.Names.{Marked, moment_after, onward, PassLaw, PassView, PIECE, Quiet, quiet_on, quiet_refl}
-use Rattle.vbr_list.proofs.Names.{ReadsIn, Slot, StandsBefore, StandsBehind, Start, stood_before, Trace, ValueAt}
-use Rattle.vbr_list.proofs.Names.{was_absent, was_absent_on, was_entry, was_present, WasSo}
-use Rattle.vbr_list.specs.calls.Budgets.{steps_to_value_of}
-use Rattle.vbr_list.specs.look_ups.Next.{HasNoNext}
-use Rattle.vbr_list.specs.calls.Pieces.{LooksOn, Peeks}
-use Rattle.vbr_list.specs.look_ups.Seeking.{TellsNode, steps_besides}
-use Rattle.vbr_list.specs.look_ups.Valuing.{ReadsValue}
-use Rattle.vbr_list.specs.traversals.Visiting.{IsVisit, MeetsBehind, StartsAt}
-use Rattle.vbr_list.specs.traversals.Searching.{IsDisturbed, MovesEpoch, TraversesOnce}
-use Rattle.vbr_machine.specs.Membership.{Knows}
-use Rattle.vbr_machine.specs.declared.knowledge.Read.TheVariants.{ValueOf}
-use Rattle.vbr_list.specs.named_entries.Entries.{entry_of}
-use Rattle.vbr_list.specs.declared.entries.Entry.{Entry}
-use Rattle.vbr_list.specs.declared.seeking.NextNode.{NextNode}
+use Rattle.vbr_list.proofs.Names.{arith, is_none, is_some, refl, At, behind_kept, Beyond, bucket_of, Entry, entry_of}
+use Rattle.vbr_list.proofs.Names.{HasNoNext, Held, held_in_kept, held_in_next, held_kept, held_of, IsDisturbed}
+use Rattle.vbr_list.proofs.Names.{IsRead, IsRun, IsSame, IsStart, IsVisit, itself, Keeps, keeps_on, KeyAt, Knows}
+use Rattle.vbr_list.proofs.Names.{knows, link_of, LooksOn, Marked, MeetsBehind, moment_after, MovesEpoch, NextNode}
+use Rattle.vbr_list.proofs.Names.{onward, PassLaw, PassView, Peeks, PIECE, Quiet, quiet_on, quiet_refl, ReadsIn}
+use Rattle.vbr_list.proofs.Names.{ReadsValue, Slot, Smaller, StandsBefore, StandsBehind, Start, StartsAt}
+use Rattle.vbr_list.proofs.Names.{steps_besides, steps_to_value_of, stood_before, TellsNode, Trace, TraversesOnce}
+use Rattle.vbr_list.proofs.Names.{ValueAt, ValueOf, Visited, was_absent, was_absent_on, was_entry, was_present, WasSo}
 use Rattle.vbr_list.proofs.named_entries.SeenEntries.{entry_at_slot, named_same, was_full, was_there}
-use Rattle.vbr_list.specs.declared.visiting.Visited.{Visited}
-use Rattle.vbr_list.specs.declared.visiting.Visited.TheVariants.{Beyond, Marked as MarkedNode, Smaller}
-use Rattle.vbr_list.proofs.traversals.Disturbing.{grows_disturbed, met_until, run_at}
+use Rattle.vbr_list.specs.declared.visiting.Visited.TheVariants.{Marked as MarkedNode}
+use Rattle.vbr_list.proofs.traversals.Disturbing.{grown_disturbed, met_until, run_of}
 use Rattle.vbr_list.proofs.pieces.Going.{goes_counted, keeps_still}
 use Rattle.vbr_list.proofs.pieces.Observing.{reads_observe}
 use Rattle.vbr_list.proofs.look_ups.Passing.{leads_kept, peeks_on, peeks_refl}
@@ -78,9 +67,7 @@ module _ {p q r : PassView} (law : PassLaw p) {bucket from a b c budget : ℕ} {
   pub visit_lost : is_some (link_of here.word).slot ≡ true → MovesEpoch q.trace r.trace →
       (a < c) × TraversesOnce 5 3 p.trace r.trace bucket a c × IsDisturbed p.trace r.trace bucket
   visit_lost some moves =
-      let before =
-      grows_disturbed p.trace q.trace law.start (run_at p.trace q.trace first.same (first.is_run law.is_run)) bucket
-      p.trace.seen first.seen in
+      let before = grown_disturbed law first bucket in
       let less = visit_moved law bucket first looks.goes.quiet looks.observes x.fresh moves in
       let low = x.some in (
         omega (arith, low, few),
@@ -95,7 +82,7 @@ module _ {p q r : PassView} (law : PassLaw p) {bucket from a b c budget : ℕ} {
     whole = quiet_on first looks.goes.quiet
 
     ok : IsRun p.trace.start p.trace.passes s.trace.seen
-    ok = let all = quiet_on whole reads.quiet in run_at p.trace s.trace all.same (all.is_run law.is_run)
+    ok = run_of law (quiet_on whole reads.quiet)
 
     pub value_paid : TraversesOnce 5 (steps_besides p.trace) p.trace s.trace bucket a (c + n)
     value_paid =
@@ -111,9 +98,7 @@ module _ {p q r : PassView} (law : PassLaw p) {bucket from a b c budget : ℕ} {
         (a < c + n) × TraversesOnce 5 (steps_besides p.trace) p.trace s.trace bucket a (c + n) ×
         IsDisturbed p.trace s.trace bucket
     value_lost moves =
-        let before =
-        grows_disturbed p.trace r.trace law.start (run_at p.trace r.trace whole.same (whole.is_run law.is_run)) bucket
-        p.trace.seen whole.seen in
+        let before = grown_disturbed law whole bucket in
         let less = visit_moved law bucket whole reads.quiet (reads_observe reads) m.fresh moves in
         let low = x.some in
         (omega (arith, low, few), value_paid, omega (arith, before, less))
@@ -190,8 +175,12 @@ passed_by {p} {q} r {bucket} {from} {pred = pred} {here = here} start x quiet ke
     place.unmarked other (link_of here.word) (leads_kept (link_of pred.word) (link_of here.word) keeps x.leads)
     (place.behind other now high) before
 
-no_slot : (o : Option ℕ) → is_none o ≡ true → o ≡ None
+-- what isn't some is none
+pub no_slot : (o : Option ℕ) → is_some o ≡ false → o ≡ None
 no_slot o e = grind arith
+
+is_last_slot : (o : Option ℕ) → is_none o ≡ true → o ≡ None
+is_last_slot o e = grind arith
 
 -- there is no next key
 pub tells_none : {p q : PassView} {bucket from a b budget : ℕ} {pred here : Held} → IsStart p.trace.start →
@@ -254,7 +243,7 @@ tells_next {p} {q} {r} s {bucket} {from} {a} {b} {c} {budget} {pred} {here} key 
             is ∙ sym of_bucket in
             let S : Start → Type 0 = λ t. bucket_of t.shape other ≡ bucket_of t.shape key in
             let now = subst S (sym whole.same.start) same_bucket in
-            let none = no_slot (link_of node.word).slot (sym last_is ∙ last) in
+            let none = is_last_slot (link_of node.word).slot (sym last_is ∙ last) in
             was_absent node start whole.same read k.unmarked other
             (behind_node s.trace.start (knows s.trace) node.at n.slot key other n.place there now
             (omega (arith, high))) (rw none tt);

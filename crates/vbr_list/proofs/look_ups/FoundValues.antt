@@ -1,18 +1,11 @@
 -- What a search found is read, and answers a get.
-use Rattle.vbr_list.proofs.Names.{◌≡◌, ℕ, ◌+◌, ◌<◌, ◌≤◌, Bool, true, false, Option, Some, None, arith, refl, sym, subst}
-use Rattle.vbr_list.proofs.Names.{is_some, IsSome}
-use Rattle.vbr_list.proofs.Names.{counts_on, CountsSteps, entry_call, Ghosts, Held, held_kept, Insert, IsSame}
-use Rattle.vbr_list.proofs.Names.{Keeps, KeepsIn, Know, knows, link_of, Made, made_on, MadeTwo, payload_kept, Quiet}
-use Rattle.vbr_list.proofs.Names.{ReadsIn, Remove, Start, steps_to_birth, Trace, ValueAt}
-use Rattle.vbr_at_table.specs.costs.StepCosts.{birth_steps}
-use Rattle.vbr_list.specs.calls.Budgets.{steps_where}
-use Rattle.vbr_list.specs.calls.Pieces.{GoesOn, IsSameCall, pass_in, trace_in}
-use Rattle.vbr_list.specs.traversals.Places.{IsEnd, Locates}
-use Rattle.vbr_list.specs.updates.Preparing.{Asks, told_otherwise}
-use Rattle.vbr_list.specs.look_ups.Telling.{IsFoundValue, IsThere, TellsThere}
-use Rattle.vbr_list.specs.calls.Told.{given_call, stored_call}
-use Rattle.vbr_list.specs.declared.call.PendingCall.{PendingCall}
-use Rattle.vbr_list.specs.declared.found.Found.{Found}
+use Rattle.vbr_list.proofs.Names.{◌≡◌, ℕ, ◌+◌, ◌<◌, ◌≤◌, Bool, true, false, Option, Some, None, arith, refl, sym}
+use Rattle.vbr_list.proofs.Names.{subst, is_some, IsSome, Asks, birth_steps, counts_on, CountsSteps, entry_call}
+use Rattle.vbr_list.proofs.Names.{Found, Ghosts, given_call, GoesOn, Held, held_kept, Insert, IsEnd, IsFoundValue}
+use Rattle.vbr_list.proofs.Names.{IsSame, IsSameCall, IsThere, Keeps, KeepsIn, Know, knows, link_of, Locates, Made}
+use Rattle.vbr_list.proofs.Names.{made_on, MadeTwo, pass_in, payload_kept, PendingCall, Quiet, ReadsIn, Remove, Start}
+use Rattle.vbr_list.proofs.Names.{steps_to_birth, steps_where, stored_call, TellsThere, told_otherwise, Trace}
+use Rattle.vbr_list.proofs.Names.{trace_in, ValueAt}
 use Rattle.vbr_list.proofs.pieces.Going.{call_on, counts_step, goes_read, settles_step}
 use Rattle.vbr_list.proofs.pieces.KeptHands.{hand_on, own_kept}
 use Rattle.vbr_list.proofs.traversals.Reaching.{key_kept, pred_on}

@@ -1,9 +1,7 @@
 -- A traversal of loads alone goes on: behind a place before the number known marked links lead on.
-use Rattle.vbr_list.proofs.Names.{◌≡◌, ℕ, ◌≤◌, Bool, true, false, Option, None, subst}
-use Rattle.vbr_list.proofs.Names.{bucket_of, Held, IsSame, itself, Keeps, Know, knows, LeadsTo, Link, link_of, LinkAt}
-use Rattle.vbr_list.proofs.Names.{onward, PassView, Slot, StandsBeforeOn, Start, Trace}
-use Rattle.vbr_list.specs.calls.Pieces.{Goes, Observes, Peeks}
-use Rattle.vbr_list.specs.traversals.Places.{IsCur, IsEnd, IsPred, IsSight}
+use Rattle.vbr_list.proofs.Names.{◌≡◌, ℕ, ◌≤◌, Bool, true, false, Option, None, subst, bucket_of, Goes, Held, IsCur}
+use Rattle.vbr_list.proofs.Names.{IsEnd, IsPred, IsSame, IsSight, itself, Keeps, Know, knows, LeadsTo, Link, link_of}
+use Rattle.vbr_list.proofs.Names.{LinkAt, Observes, onward, PassView, Peeks, Slot, StandsBeforeOn, Start, Trace}
 use Rattle.vbr_list.specs.declared.looking.Sight.TheVariants.{Present, Absent}
 use Rattle.vbr_list.proofs.pieces.Going.{tries_on, tries_refl}
 use Rattle.vbr_list.proofs.traversals.Moments.{before_cur, stands_before, key_known}

@@ -1,11 +1,9 @@
 -- What is lost after a call that read is lost since.
-use Rattle.vbr_list.proofs.Names.{◌≡◌, ℕ, Option, Some, None, ap, sym, subst, ◌∙◌, inl, inr}
-use Rattle.vbr_list.proofs.Names.{begins_trans, ChangesNone, Held, incarnations_after, Keeps, knows, LostExchange}
-use Rattle.vbr_list.proofs.Names.{PassLaw, PassView, Quiet, ReadsIn, Rollback, Start, Trace, unchanged_by_none}
-use Rattle.vbr_at_table.specs.answers.Exchanges.{LosesExchange}
-use Rattle.vbr_list.specs.traversals.Searching.{LosesFound, LosesNext, LosesPlace}
-use Rattle.vbr_list.specs.declared.found.Found.{Found}
-use Rattle.vbr_list.proofs.traversals.Disturbing.{lost_place_later, run_at}
+use Rattle.vbr_list.proofs.Names.{◌≡◌, ℕ, Option, Some, None, ap, sym, subst, ◌∙◌, inl, inr, begins_trans}
+use Rattle.vbr_list.proofs.Names.{ChangesNone, Found, Held, incarnations_after, Keeps, knows, LosesExchange}
+use Rattle.vbr_list.proofs.Names.{LosesFound, LosesNext, LosesPlace, LostExchange, PassLaw, PassView, Quiet, ReadsIn}
+use Rattle.vbr_list.proofs.Names.{Rollback, Start, Trace}
+use Rattle.vbr_list.proofs.traversals.Disturbing.{lost_place_later, unchanged_of}
 
 -- a place that is lost after what only read was lost since
 pub place_lost_since : {p q r : Trace} (held : Held) → Quiet p q → Keeps (knows p) (knows q) → ChangesNone p q →
@@ -28,9 +26,7 @@ next_lost_since p q r (Some cur) a keeps none x = place_lost_since cur a keeps n
 
 -- what only read changed no list
 reads_unchanged : {p q : PassView} {n : ℕ} → PassLaw p → ReadsIn p q n → ChangesNone p.trace q.trace
-reads_unchanged {p} {q} law x =
-    unchanged_by_none law.start (run_at p.trace q.trace x.quiet.same (x.quiet.is_run law.is_run)) x.quiet.same
-    x.quiet.seen x.adds_none
+reads_unchanged law x = unchanged_of law x.quiet x.adds_none
 
 -- so it is of a node that was found, whose link another exchanged
 pub cur_lost_since : {p q : PassView} {r : Trace} {n : ℕ} {cur : Held} {rollback : Rollback} (found : Found) →

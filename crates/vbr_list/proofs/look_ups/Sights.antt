@@ -1,12 +1,9 @@
 -- What a look-up came to, as what its answer asks.
 use Rattle.vbr_list.proofs.Names.{◌≡◌, ◌≢◌, ℕ, ◌≤◌, Bool, true, false, None, Option, is_some, arith, refl, sym, subst}
-use Rattle.vbr_list.proofs.Names.{At, Call, Get, Ghosts, Insert, IsSlot, KeyAt, Know}
-use Rattle.vbr_list.proofs.Names.{set_call}
-use Rattle.vbr_at_table.specs.answers.Answering.{IsAnswered}
-use Rattle.vbr_list.specs.look_ups.LookUpPieces.{LookUpAnswers, steps_to_answer}
-use Rattle.vbr_list.specs.calls.Pieces.{trace_in}
-use Rattle.vbr_list.specs.calls.Told.{given_by, kept_call, look_up_op}
-use Rattle.vbr_list.specs.declared.call.PendingCall.{PendingCall}
+use Rattle.vbr_list.proofs.Names.{At, Call, FindsAnother, Get, Ghosts, given_by, Insert, IsAnswered, IsSlot}
+use Rattle.vbr_list.proofs.Names.{kept_call, KeyAt, Know, look_up_op, LookUpAnswers, LookUpRollsBack, PendingCall}
+use Rattle.vbr_list.proofs.Names.{Rollback, set_call, Sight, sighted, steps_to_answer, trace_in}
+use Rattle.vbr_list.proofs.traversals.Disturbing.{loses_link}
 use Rattle.vbr_list.proofs.pieces.Told.{told_bare}
 
 pub keyed_slot : (know : Know) (place : At) (key : ℕ) → KeyAt know place key → IsSlot place
@@ -41,6 +38,12 @@ op_other false = λ e. absurd (cc)
 pub op_gets : (gives : Bool) → look_up_op gives ≡ Get → gives ≡ true
 op_gets true e = refl
 op_gets false e = absurd (cc)
+
+-- another link stood than the one that was to show it
+pub look_up_lost : {N : Type 0} {kind : Ghosts N} {c d : PendingCall N kind} (sight : Sight) (why rollback : Rollback) →
+    FindsAnother (trace_in c) (trace_in d) (sighted sight) why → LookUpRollsBack c d sight rollback
+look_up_lost sight why rollback x =
+    record { quiet = x.quiet; adds_none = x.adds_none; loses = loses_link (sighted sight) why x.lost }
 
 -- ---- what its answer costs
 

@@ -1,13 +1,10 @@
 -- Reading a value, and the steps that it takes.
-use Rattle.vbr_list.proofs.Names.{◌≡◌, ℕ, ◌+◌, ◌<◌, ◌≤◌, Bool, true, arith, sym, ap, ◌∙◌, subst}
-use Rattle.vbr_list.proofs.Names.{At, counts_on, CountsSteps, Ghosts, Held, IsSame, IsSlot, KeepsIn, Know, PassView}
-use Rattle.vbr_list.proofs.Names.{ReadsIn, Start, steps_to_update, Trace}
-use Rattle.vbr_list.specs.calls.Budgets.{steps_to_value_of, steps_where}
-use Rattle.vbr_list.specs.calls.Pieces.{Goes, IsSameCall, KeepsHand, Settles, pass_in, trace_in}
-use Rattle.vbr_list.specs.declared.call.PendingCall.{PendingCall}
+use Rattle.vbr_list.proofs.Names.{◌≡◌, ℕ, ◌+◌, ◌<◌, ◌≤◌, Bool, true, arith, sym, ap, ◌∙◌, subst, At, counts_on}
+use Rattle.vbr_list.proofs.Names.{CountsSteps, Ghosts, Goes, Held, IsCur, IsSame, IsSameCall, IsSlot, KeepsHand}
+use Rattle.vbr_list.proofs.Names.{KeepsIn, Know, pass_in, PassView, PendingCall, ReadsIn, Settles, Start}
+use Rattle.vbr_list.proofs.Names.{steps_to_update, steps_to_value_of, steps_where, Trace, trace_in}
 use Rattle.vbr_list.proofs.pieces.Going.{counts_step, goes_counted}
 use Rattle.vbr_list.proofs.pieces.KeptHands.{hand_on, own_kept}
-use Rattle.vbr_list.specs.traversals.Places.{IsCur}
 
 -- whether the nodes of a pass's table have values is what the kind of its nodes says
 pub values_as : {now table : Start} {kind says test : Bool} → now ≡ table → table.shape.values ≡ kind → says ≡ kind →

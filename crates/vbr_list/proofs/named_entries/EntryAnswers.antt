@@ -1,35 +1,12 @@
 -- An entry by which a get is answered, and what the birth that its slot shows says of it.
-use Rattle.std.proofs.Common.{◌≡◌, ℕ, ◌≤◌, ◌<◌, ◌==◌, Bool, true, false, eq-eqb, eqb-true, Option, Some, None}
-use Rattle.std.proofs.Common.{refl, sym, subst, ap, ◌∙◌}
-use Rattle.std.specs.Prelude.{is_some}
-use Rattle.vbr_words.specs.declared.nodes.Nodes.{Ghosts}
-use Rattle.vbr_words.specs.declared.place.At.{At}
-use Rattle.vbr_words.specs.declared.place.At.TheVariants.{Head, Slot}
-use Rattle.vbr_machine.specs.Start.{Start}
-use Rattle.vbr_machine.specs.History.{set_after, values_after}
-use Rattle.vbr_machine.specs.Knowledge.{Know}
-use Rattle.vbr_machine.specs.Membership.{KeyAt}
-use Rattle.vbr_machine.specs.Opened.{opening_keys, opening_payloads}
-use Rattle.vbr_machine.specs.Records.{IsEntry}
-use Rattle.vbr_machine.specs.Runs.{world_after}
-use Rattle.vbr_slots.specs.steps.Calls.{Quiet}
-use Rattle.vbr_slots.specs.views.Views.{PassView, Trace}
-use Rattle.vbr_slots.proofs.Lemmas.{moment_after}
-use Rattle.vbr_at_table.specs.reads.Moments.{ShowsBirth}
-use Rattle.vbr_at_table.specs.answers.Records.{WasHeldEntry, WasHeldValue}
-use Rattle.vbr_at_table.specs.declared.held.Held.{Held}
-use Rattle.vbr_list.specs.named_entries.Entries.{EntryAnswers, FindsNamedEntry, TellsStill, WasThereIf, entry_at}
-use Rattle.vbr_list.specs.named_entries.Entries.{entry_of}
-use Rattle.vbr_list.specs.named_entries.Entries.{value_of_entry, value_given, HasNoValue, entry_in}
-use Rattle.vbr_list.specs.calls.Budgets.{steps_where}
-use Rattle.vbr_list.specs.calls.CallBounds.{BoundsOfLookUp, CallsAs}
-use Rattle.std.specs.Prelude.{Result, Ok, Err}
-use Rattle.vbr_list.specs.calls.Told.{given_in, look_up_op}
-use Rattle.vbr_at_table.specs.declared.refusal.Refusal.{Refusal}
-use Rattle.vbr_list.specs.look_ups.LookUpPieces.{GivesValueOf, LookUpAnswers}
-use Rattle.vbr_list.specs.calls.Pieces.{trace_in}
-use Rattle.vbr_list.specs.declared.call.PendingCall.{PendingCall}
-use Rattle.vbr_list.specs.declared.entries.Entry.{Entry}
+use Rattle.vbr_list.proofs.Names.{◌≡◌, ℕ, ◌≤◌, ◌<◌, ◌==◌, Bool, true, false, eq-eqb, eqb-true, Option, Some, None}
+use Rattle.vbr_list.proofs.Names.{refl, sym, subst, ap, ◌∙◌, is_some, Result, Ok, Err, At, BoundsOfLookUp, CallsAs}
+use Rattle.vbr_list.proofs.Names.{Entry, entry_at, entry_in, entry_of, EntryAnswers, FindsNamedEntry, Ghosts}
+use Rattle.vbr_list.proofs.Names.{given_in, GivesValueOf, HasNoValue, Head, Held, IsEntry, KeyAt, Know, look_up_op}
+use Rattle.vbr_list.proofs.Names.{LookUpAnswers, moment_after, opening_keys, opening_payloads, PassView, PendingCall}
+use Rattle.vbr_list.proofs.Names.{Quiet, Refusal, set_after, ShowsBirth, Slot, Start, steps_where, TellsStill, Trace}
+use Rattle.vbr_list.proofs.Names.{trace_in, value_given, value_of_entry, values_after, WasHeldEntry, WasHeldValue}
+use Rattle.vbr_list.proofs.Names.{WasThereIf, world_after}
 use Rattle.vbr_list.proofs.named_entries.SeenEntries.{full_since, named_same}
 use Rattle.vbr_list.proofs.pieces.Told.{calls_read, calls_refused, look_up_read, look_up_refused}
 

@@ -1,9 +1,5 @@
 -- A publication in a part of what a pass did is one in the whole.
-use Rattle.std.proofs.Common.{ℕ}
-use Rattle.vbr_machine.proofs.Lemmas.{begins_trans}
-use Rattle.vbr_slots.specs.steps.Calls.{Quiet}
-use Rattle.vbr_slots.specs.views.Views.{Trace}
-use Rattle.vbr_at_table.specs.answers.Records.{PublishesSlot}
+use Rattle.vbr_list.proofs.Names.{ℕ, begins_trans, PublishesSlot, Quiet, Trace}
 
 pub published_since : {p q r : Trace} {slot birth key : ℕ} → Quiet p q → PublishesSlot q r slot birth key →
     PublishesSlot p r slot birth key

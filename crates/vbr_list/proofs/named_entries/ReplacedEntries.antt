@@ -1,45 +1,21 @@
 -- The node that a pass replaces was an entry right before.
-use Rattle.std.proofs.Common.{◌≡◌, ℕ, zero, suc, ◌<◌, ◌≤◌, Bool, true, false, cond, List, [], ◌∷◌, ◌++◌}
-use Rattle.std.proofs.Common.{Option, Some, None, refl, sym, ap, ◌∙◌, subst, inl, inr, ⊎_elim, arith, append-nil}
-use Rattle.std.proofs.Common.{append_assoc, eq-eqb, eqb-true}
-use Rattle.std.specs.Prelude.{◌==◌, ◌⊎◌, Contains}
-use Rattle.std.specs.List.{AllByRecursion}
-use Rattle.std.proofs.lemmas.Bool.{cases_Bool, cases_order}
-use Rattle.std.proofs.lemmas.List.{append_cancel_left}
-use Rattle.std.proofs.lemmas.List.Elements.{Contains-append_cases, filter-append}
-use Rattle.vbr_words.specs.Flags.{has_flag}
-use Rattle.vbr_machine.specs.Start.{Start, IsStart}
-use Rattle.vbr_machine.specs.Accounts.{after_giving_up, chronicle, entry_of_call, happens, incarnations_after}
-use Rattle.vbr_machine.specs.Accounts.{notes_after, own_entries}
-use Rattle.vbr_machine.specs.Agreement.{FitsNotes, IsGood, IsHeldIncarnation, IsOfHeldOne, reads_of}
-use Rattle.vbr_machine.specs.Chronicles.{Entry, Happening, Bears, IsLawful, Raises, Replaces, entries_by}
-use Rattle.vbr_machine.specs.Incarnations.{Incarnations, IsLate, Linked, State, last_in}
-use Rattle.vbr_machine.specs.Knowledge.{Know}
-use Rattle.vbr_machine.specs.Learning.{call_of}
-use Rattle.vbr_machine.specs.Machine.{World, found}
-use Rattle.vbr_machine.specs.Membership.{Knows}
-use Rattle.vbr_machine.specs.Notes.{Note, Notes}
-use Rattle.vbr_machine.specs.Opened.{opening_keys}
-use Rattle.vbr_machine.specs.Removals.{HasReplaced, ReplacedAt}
-use Rattle.vbr_machine.specs.Runs.{Begins, IsRun, know_after, world_after}
-use Rattle.vbr_machine.specs.Sound.{IsInserted, IsPassed, SlotsSound, TimesFit}
-use Rattle.vbr_machine.specs.declared.event.Event.{Event}
-use Rattle.vbr_machine.specs.declared.event.Step.{Step}
-use Rattle.vbr_machine.specs.declared.event.Step.TheVariants.{ReadEpoch, Advance, LoadStamp, PeekBirth, StoreStamp}
-use Rattle.vbr_machine.specs.declared.event.Step.TheVariants.{Raise}
-use Rattle.vbr_machine.specs.declared.event.Step.TheVariants.{TakeFlag, StoreBirth, StoreKey, StoreLink, LoadLink}
-use Rattle.vbr_machine.specs.declared.event.Step.TheVariants.{LoadBirth, LoadKey, Publish, Mark, Replace, Unlink}
-use Rattle.vbr_machine.specs.declared.event.Step.TheVariants.{ConfirmPresent, ConfirmAbsent, StoreValue, LoadValue}
-use Rattle.vbr_machine.specs.declared.history.Call.{Call}
-use Rattle.vbr_machine.specs.declared.knowledge.Holding.{Holding}
-use Rattle.vbr_machine.specs.declared.knowledge.Holding.TheVariants.{Free, Unlinked, InHand}
-use Rattle.vbr_machine.specs.declared.knowledge.Read.{Read}
-use Rattle.vbr_machine.specs.declared.knowledge.Read.TheVariants.{BirthOf, KeyOf, ValueOf}
-use Rattle.vbr_machine.proofs.Lemmas.{Since, begins_refl, begins_run, begins_trans, birth_held, held_key, is_run_last}
-use Rattle.vbr_slots.specs.steps.Calls.{IsSame, Quiet}
-use Rattle.vbr_slots.specs.views.Views.{Trace, knows}
-use Rattle.vbr_machine.proofs.Lemmas.{others_leave_entries, own_entries-snoc, run_agrees, since, step_agrees}
-use Rattle.vbr_list.specs.named_entries.OtherEntries.{ReplacedEntry}
+use Rattle.vbr_list.proofs.Names.{◌≡◌, ℕ, zero, suc, ◌<◌, ◌≤◌, Bool, true, false, cond, List, [], ◌∷◌, ◌++◌, Option}
+use Rattle.vbr_list.proofs.Names.{Some, None, refl, sym, ap, ◌∙◌, subst, inl, inr, ⊎_elim, arith, append-nil}
+use Rattle.vbr_list.proofs.Names.{append_assoc, eq-eqb, eqb-true, ◌==◌, ◌⊎◌, Contains, AllByRecursion, cases_Bool}
+use Rattle.vbr_list.proofs.Names.{cases_order, append_cancel_left, Contains-append_cases, filter-append, Advance}
+use Rattle.vbr_list.proofs.Names.{after_giving_up, Bears, Begins, begins_refl, begins_run, begins_trans, birth_held}
+use Rattle.vbr_list.proofs.Names.{BirthOf, Call, call_of, chronicle, ConfirmAbsent, ConfirmPresent, entries_by}
+use Rattle.vbr_list.proofs.Names.{entry_of_call, Event, FitsNotes, found, Free, Happening, happens, has_flag}
+use Rattle.vbr_list.proofs.Names.{HasReplaced, held_key, Holding, Incarnations, incarnations_after, InHand}
+use Rattle.vbr_list.proofs.Names.{is_run_last, IsGood, IsHeldIncarnation, IsInserted, IsLate, IsLawful, IsOfHeldOne}
+use Rattle.vbr_list.proofs.Names.{IsPassed, IsRun, IsSame, IsStart, KeyOf, Know, know_after, Knows, knows, last_in}
+use Rattle.vbr_list.proofs.Names.{Linked, LoadBirth, LoadKey, LoadLink, LoadStamp, LoadValue, Mark, Note, Notes}
+use Rattle.vbr_list.proofs.Names.{notes_after, opening_keys, others_leave_entries, own_entries, own_entries-snoc}
+use Rattle.vbr_list.proofs.Names.{PeekBirth, Publish, Quiet, Raise, Raises, Read, ReadEpoch, reads_of, Replace}
+use Rattle.vbr_list.proofs.Names.{ReplacedAt, ReplacedEntry, Replaces, run_agrees, Since, since, SlotsSound, Start}
+use Rattle.vbr_list.proofs.Names.{State, Step, step_agrees, StoreBirth, StoreKey, StoreLink, StoreStamp, StoreValue}
+use Rattle.vbr_list.proofs.Names.{TakeFlag, TimesFit, Trace, Unlink, Unlinked, ValueOf, World, world_after}
+use Rattle.vbr_machine.specs.Chronicles.{Entry}
 
 -- ---- lists of events
 

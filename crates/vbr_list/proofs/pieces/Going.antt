@@ -1,12 +1,9 @@
 -- Pieces one after another: they make no call, their steps add up, and the slot in hand stays.
 use Rattle.vbr_list.proofs.Names.{◌≡◌, ℕ, ◌+◌, ◌≤◌, Result, Ok, Err, refl, sym, ◌∙◌, subst, arith, inl, inr, ◌⊎◌}
-use Rattle.vbr_list.proofs.Names.{IfOk}
-use Rattle.vbr_list.proofs.Names.{AtTable, counts_none, counts_on, CountsSteps, Ghosts, IsOf, IsSame}
-use Rattle.vbr_list.proofs.Names.{IsSameTable, Keeps, KeepsIn, KeepsOwn, Know, LeavesRoom, PassView, PIECE, Quiet}
-use Rattle.vbr_list.proofs.Names.{quiet_on, quiet_refl, ReadsIn, TableView, TakesNoSlot, Took, took_all}
-use Rattle.vbr_list.proofs.Names.{TookWithin, Trace}
-use Rattle.vbr_list.specs.calls.Pieces.{Goes, GoesOn, IsSameCall, Settles, Tries, pass_in, trace_in}
-use Rattle.vbr_list.specs.declared.call.PendingCall.{PendingCall}
+use Rattle.vbr_list.proofs.Names.{IfOk, ◌-◌, ◌<◌, AtTable, counts_none, counts_on, CountsSteps, Ghosts, Goes, GoesOn}
+use Rattle.vbr_list.proofs.Names.{IsOf, IsSame, IsSameCall, IsSameTable, Keeps, KeepsIn, KeepsOwn, Know, LeavesRoom}
+use Rattle.vbr_list.proofs.Names.{pass_in, PassView, PendingCall, PIECE, Quiet, quiet_on, quiet_refl, ReadsIn}
+use Rattle.vbr_list.proofs.Names.{Settles, TableView, TakesNoSlot, Took, took_all, TookWithin, Trace, trace_in, Tries}
 use Rattle.vbr_list.proofs.pieces.KeptHands.{hand_refl, hand_on, own_kept}
 
 -- what follows of the one and of the other
@@ -99,6 +96,15 @@ settles_step {c = c} {d = d} same used keeps =
 -- the steps of a call are within the budget that it began with
 pub within_call : {N : Type 0} {kind : Ghosts N} → {c d : PendingCall N kind} → IsSameCall c d → d.used ≤ c.budget
 within_call {c} {d} x = let u = d.within in let e = x.budget in omega (arith, u, e)
+
+-- steps that it made leave less of the budget
+pub less_left : {N : Type 0} {kind : Ghosts N} → {c d e : PendingCall N kind} → GoesOn c d → IsSameCall d e →
+    d.used < e.used → e.budget - e.used < c.budget - c.used
+less_left {e = e} went same less =
+    let more = went.more in
+    let budget = (call_on went.call same).budget in
+    let high = e.within in
+    omega (arith, more, less, budget, high)
 
 -- what follows of each value is so of the value that was given
 pub ok_as : {T E : Type 0} {P Q : T → Type 0} (x : Result T E) → ((value : T) → P value → Q value) → IfOk x P → IfOk x Q

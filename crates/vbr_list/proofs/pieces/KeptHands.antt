@@ -1,12 +1,10 @@
 -- The slot in hand stays while others are read and retired.
 use Rattle.vbr_list.proofs.Names.{◌≡◌, ◌≢◌, ℕ, suc, ◌-◌, ◌<◌, Bool, true, false, cond, List, [], ◌∷◌, ◌++◌, length}
 use Rattle.vbr_list.proofs.Names.{Option, Some, None, refl, sym, ap, ◌∙◌, subst, arith, inl, inr, ◌⊎◌, cases_Bool}
-use Rattle.vbr_list.proofs.Names.{nat_tests}
-use Rattle.vbr_list.proofs.Names.{Free, Holding, is_kept, IsInHand, IsUnlinked, KeepsOwn, KeepsUnlinked, Know}
-use Rattle.vbr_list.proofs.Names.{know_retired, knows, none_on, none_refl, own_read, OwnPool, PassView, POOL}
-use Rattle.vbr_list.proofs.Names.{pool_retired, put_here, put_other, read_epoch, reread, StaysInTurn, TakesNoSlot}
-use Rattle.vbr_list.proofs.Names.{unlinks_none}
-use Rattle.vbr_list.specs.calls.Pieces.{KeepsHand}
+use Rattle.vbr_list.proofs.Names.{nat_tests, Free, Holding, is_kept, IsInHand, IsUnlinked, KeepsHand, KeepsOwn}
+use Rattle.vbr_list.proofs.Names.{KeepsUnlinked, Know, know_retired, knows, none_on, none_refl, own_read, OwnPool}
+use Rattle.vbr_list.proofs.Names.{PassView, POOL, pool_retired, put_here, put_other, read_epoch, reread, StaysInTurn}
+use Rattle.vbr_list.proofs.Names.{TakesNoSlot, unlinks_none}
 use Rattle.vbr_slots.specs.pools.Pools as pools
 
 pub hand_refl : (p : PassView) → KeepsHand p p

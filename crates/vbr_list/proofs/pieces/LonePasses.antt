@@ -1,11 +1,10 @@
 -- A pass that is its table's only one made all the calls of its run, and those are legal.
-use Rattle.vbr_list.proofs.Names.{◌≡◌, ℕ, ◌<◌, List, [], ◌∷◌, ◌++◌, refl, sym, ap, ◌∙◌, subst, arith}
-use Rattle.vbr_list.proofs.Names.{added_own, after, AreAccepted, Call, calls_added, calls_after, calls_by}
-use Rattle.vbr_list.proofs.Names.{calls_by-append, Event, every_run, GiveStored, IsLegal, IsRun, IsSame, IsStart, Keys}
-use Rattle.vbr_list.proofs.Names.{keys_after, Made, made_by, opening, opening_keys, opening_payloads, Payloads}
-use Rattle.vbr_list.proofs.Names.{payloads_after, set_after, Start, Trace, values_after, World, world_from}
-use Rattle.vbr_list.specs.calls.LoneReplies.{AnswersAlone, AreAnsweredAlone}
-use Rattle.vbr_list.specs.calls.CallBounds.{GivesAlone}
+use Rattle.vbr_list.proofs.Names.{◌≡◌, ℕ, ◌<◌, List, [], ◌∷◌, ◌++◌, refl, sym, ap, ◌∙◌, subst, arith, added_own}
+use Rattle.vbr_list.proofs.Names.{after, AnswersAlone, AreAccepted, AreAnsweredAlone, Call, calls_added, calls_after}
+use Rattle.vbr_list.proofs.Names.{calls_by, calls_by-append, Event, every_run, GivesAlone, GiveStored, IsLegal, IsRun}
+use Rattle.vbr_list.proofs.Names.{IsSame, IsStart, Keys, keys_after, Made, made_by, opening, opening_keys}
+use Rattle.vbr_list.proofs.Names.{opening_payloads, Payloads, payloads_after, set_after, Start, Trace, values_after}
+use Rattle.vbr_list.proofs.Names.{World, world_from}
 
 -- the last calls of a legal history have the replies of the set before them
 legal_after : (keys : Keys) (calls more : List Call) → IsLegal keys (calls ++ more) →
@@ -53,7 +52,7 @@ pub alone_all : {p q : Trace} (calls : List Call) → IsStart p.start → p.who 
     IsRun q.start q.passes q.seen → made_by q ≡ made_by p ++ calls → AreAnsweredAlone p calls
 alone_all {p} {q} calls start low same run made one =
     let low_now : q.who < q.passes = rw (same.who, same.passes) low in
-    let now : IsStart q.start = (let P : Start → Type 0 = IsStart in subst P (sym same.start) start) in
+    let now = subst IsStart (sym same.start) start in
     let legal = subst (λ (d : Start). IsLegal (opening_keys d) (made_by q)) same.start
     (lone_legal q now low_now run (same.passes ∙ one)) in
     let stored =

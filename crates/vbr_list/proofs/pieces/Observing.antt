@@ -1,8 +1,6 @@
 -- Loads alone, one after another.
-use Rattle.vbr_list.proofs.Names.{ℕ}
-use Rattle.vbr_list.proofs.Names.{adds_on, adds_refl, AddsNone, loads_on, loads_refl, OnlyLoads, PassView, ReadsIn}
-use Rattle.vbr_list.proofs.Names.{Trace}
-use Rattle.vbr_list.specs.calls.Pieces.{Observes}
+use Rattle.vbr_list.proofs.Names.{ℕ, adds_on, adds_refl, AddsNone, loads_on, loads_refl, Observes, OnlyLoads}
+use Rattle.vbr_list.proofs.Names.{PassView, ReadsIn, Trace}
 
 pub observes_refl : (p : Trace) → Observes p p
 observes_refl p = record { only_loads = loads_refl p; adds_none = adds_refl p }

@@ -1,13 +1,9 @@
 -- A remove or a look-up is refused for want of steps only with a budget below what is enough.
 -- Enough is said for a pass that is alone, and for one that is disturbed.
-use Rattle.vbr_list.proofs.Names.{◌≡◌, ℕ, ◌+◌, ◌<◌, ◌≤◌, Bool, None, Result, Err, arith}
-use Rattle.vbr_list.proofs.Names.{Call, IsRun, OutOfSteps, PassLaw, PassView, PIECE, Refusal, took_all}
-use Rattle.vbr_list.specs.traversals.Leaving.{BoundsOfRemove}
-use Rattle.vbr_list.specs.calls.Pieces.{Goes, Observes, Tries}
-use Rattle.vbr_list.specs.calls.Refusals.{IsTired}
-use Rattle.vbr_list.specs.calls.CallBounds.{CallsAs, BoundsOfLookUp}
-use Rattle.vbr_list.specs.traversals.Searching.{TraversesAgain}
-use Rattle.vbr_list.proofs.traversals.Disturbing.{run_at}
+use Rattle.vbr_list.proofs.Names.{◌≡◌, ℕ, ◌+◌, ◌<◌, ◌≤◌, Bool, None, Result, Err, arith, BoundsOfLookUp}
+use Rattle.vbr_list.proofs.Names.{BoundsOfRemove, Call, CallsAs, Goes, IsRun, IsTired, Observes, OutOfSteps, PassLaw}
+use Rattle.vbr_list.proofs.Names.{PassView, PIECE, Refusal, took_all, TraversesAgain, Tries}
+use Rattle.vbr_list.proofs.traversals.Disturbing.{run_of}
 use Rattle.vbr_list.proofs.pieces.Going.{goes_on, within_of}
 use Rattle.vbr_list.proofs.pieces.Observing.{observes_on}
 use Rattle.vbr_list.proofs.inserts.Sufficing.{look_up_lacks, search_lacks}
@@ -20,7 +16,7 @@ module _ {p q r : PassView} (law : PassLaw p) (key : ℕ) {a b budget : ℕ} (tr
   whole = goes_on tries.goes went
 
   ok : IsRun p.trace.start p.trace.passes r.trace.seen
-  ok = run_at p.trace r.trace whole.quiet.same (whole.quiet.is_run law.is_run)
+  ok = run_of law whole.quiet
 
   tired : IsTired p r budget (OutOfSteps b)
   tired = record { took = took_all whole.counts; within = within; short = short }

@@ -1,12 +1,10 @@
 -- The calls that answers tell, at tables of both kinds, and the same record of a call with another answer.
 use Rattle.vbr_list.proofs.Names.{◌≡◌, ℕ, Bool, true, false, Option, None, Result, Ok, Err, refl, sym, ap, subst}
-use Rattle.vbr_list.proofs.Names.{is_some, if◌then◌else◌, arith, ◌≤◌, IfErr, IfOk}
-use Rattle.vbr_list.proofs.Names.{AddsAnswer, AddsNone, answer_on, Call, CountsSteps, Insert, IsSame, Made, made_on, Op}
-use Rattle.vbr_list.proofs.Names.{PassLaw, PassView, payload_kept, Quiet, Refusal, set_call, Start, Trace}
-use Rattle.vbr_list.specs.calls.LoneReplies.{AnswersAlone}
-use Rattle.vbr_list.specs.calls.CallBounds.{CallsAs, CallsEntry, BoundsOfLookUp}
-use Rattle.vbr_list.specs.traversals.Leaving.{BoundsOfRemove}
-use Rattle.vbr_list.specs.calls.Told.{given_call, given_in, is_yes, kept_call, stored_call, stored_in}
+use Rattle.vbr_list.proofs.Names.{is_some, if◌then◌else◌, arith, ◌≤◌, IfErr, IfOk, AddsAnswer, AddsNone, answer_on}
+use Rattle.vbr_list.proofs.Names.{AnswersAlone, BoundsOfLookUp, BoundsOfRemove, Call, CallsAs, CallsEntry}
+use Rattle.vbr_list.proofs.Names.{CountsSteps, given_call, given_in, Insert, is_yes, IsSame, kept_call, Made, made_on}
+use Rattle.vbr_list.proofs.Names.{Op, PassLaw, PassView, payload_kept, Quiet, Refusal, set_call, Start, stored_call}
+use Rattle.vbr_list.proofs.Names.{stored_in, Trace}
 use Rattle.vbr_list.proofs.pieces.Going.{within_of}
 use Rattle.vbr_list.proofs.pieces.LonePasses.{alone, gives_alone}
 

@@ -1,16 +1,7 @@
 -- What calls hold and find, with wide words: what stays so.
-use Rattle.vbr_list.proofs.Names.{◌≡◌, ap, refl, Bor, None, Option, option_copied, Some, ◌∙◌}
-use Rattle.vbr_list.proofs.Names.{Ghosts, Held, ℕ}
-use Rattle.vbr_at_table.specs.reads.Held.{said, said_if, said_succ}
-use Rattle.vbr_slots.specs.views.Views.{TableView}
-use Rattle.vbr_words.specs.Packing.{slot_bits}
-use Rattle.vbr_slots.specs.declared.at_table.AtTable.{AtTable}
-use Rattle.vbr_slots.specs.steps.AtTables.{IsSameTable}
-use Rattle.vbr_list.specs.named_entries.OtherEntries.{IsNodeOf}
-use Rattle.vbr_list.specs.calls.Words.{wide_found, wide_held}
-use Rattle.vbr_list.specs.declared.call.PendingCall.{PendingCall}
-use Rattle.vbr_list.specs.declared.entries.Entry.{Entry}
-use Rattle.vbr_list.specs.declared.found.Found.{Found}
+use Rattle.vbr_list.proofs.Names.{◌≡◌, ap, refl, Bor, None, Option, option_copied, Some, ◌∙◌, ℕ, AtTable, Entry}
+use Rattle.vbr_list.proofs.Names.{Found, Ghosts, Held, IsNodeOf, IsSameTable, PendingCall, said, said_if, said_succ}
+use Rattle.vbr_list.proofs.Names.{slot_bits, TableView, wide_found, wide_held}
 
 -- what is there is there with wide words
 pub wide_is : {N : Type 0} {kind : Ghosts N} (c : PendingCall N kind) {found : Option Held} {held : Held} →

@@ -1,8 +1,6 @@
 -- What a remove takes out, and the call that it tells.
 use Rattle.vbr_list.proofs.Names.{◌≡◌, ℕ, Bool, true, false, Option, Some, None, refl, ap, is_some, if◌then◌else◌}
-use Rattle.vbr_list.proofs.Names.{Get, Op, Remove, Trace}
-use Rattle.vbr_list.specs.updates.Expecting.{op_to_remove, takes_out}
-use Rattle.vbr_list.specs.calls.Told.{given_in}
+use Rattle.vbr_list.proofs.Names.{Get, given_in, Op, op_to_remove, Remove, takes_out, Trace}
 
 -- what is taken out tells a remove
 pub taken_removes : (expected there : Option ℕ) → takes_out expected there ≡ true → op_to_remove expected there ≡ Remove

@@ -1,14 +1,7 @@
 -- The mark of a node that was found, once its value was read.
-use Rattle.vbr_list.proofs.Names.{◌≡◌, ℕ, true, Some}
-use Rattle.vbr_list.proofs.Names.{Begins, begins_trans, Held, Keeps, knows, Made, Marked, PassView, ReadsIn, Remove}
-use Rattle.vbr_list.proofs.Names.{Trace}
-use Rattle.vbr_at_table.specs.answers.Records.{MarksHeld, MarksSlot}
-use Rattle.vbr_at_table.specs.answers.Values.{MarksEntry}
-use Rattle.vbr_list.specs.traversals.Places.{IsPred, Locates}
-use Rattle.vbr_list.specs.updates.Removing.{MarksFound}
-use Rattle.vbr_list.specs.calls.Told.{given_in}
-use Rattle.vbr_list.specs.look_ups.Valuing.{ReadsValue}
-use Rattle.vbr_list.specs.declared.found.Found.{Found}
+use Rattle.vbr_list.proofs.Names.{◌≡◌, ℕ, true, Some, Begins, begins_trans, Found, given_in, Held, IsPred, Keeps}
+use Rattle.vbr_list.proofs.Names.{knows, Locates, Made, Marked, MarksEntry, MarksFound, MarksHeld, MarksSlot}
+use Rattle.vbr_list.proofs.Names.{PassView, ReadsIn, ReadsValue, Remove, Trace}
 use Rattle.vbr_list.proofs.traversals.Moments.{key_found_since}
 use Rattle.vbr_list.proofs.traversals.Reaching.{pred_on}
 use Rattle.vbr_list.proofs.pieces.Told.{given_same, told_since}

@@ -3,30 +3,22 @@
 use Rattle.vbr_list.proofs.Names.{◌≡◌, ◌≢◌, ℕ, ◌+◌, ◌*◌, ◌<◌, ◌≤◌, true, false, Option, Result, is_err, IfErr, refl}
 use Rattle.vbr_list.proofs.Names.{sym, ap, ◌∙◌, subst, inl, inr, arith, ◌⊎◌, IfNone, IfSome, cases_lt, mul-le}
 use Rattle.vbr_list.proofs.Names.{AddsNone, advances, ahead, At, Begins, begins_refl, begins_run, begins_trans}
-use Rattle.vbr_list.proofs.Names.{bucket_of, Call, disturbances_grow, Ghosts, Head, Held, HeldIn, incarnations_after}
-use Rattle.vbr_list.proofs.Names.{inserts_in, inserts_in-remove, IsAlone, IsHeld, IsOpenIn, IsRun, IsSame, IsStart}
-use Rattle.vbr_list.proofs.Names.{KeyAt, known_open, knows, LeavesOthers, link_of, link_shown_at, Made, marked_fewer}
-use Rattle.vbr_list.proofs.Names.{met_bound_uninserted, one_key, own_calls, own_changes, PassView, Quiet, quiet_on}
-use Rattle.vbr_list.proofs.Names.{Remove, same_on, same_refl, since, Slot, StandsBehind, Start, Trace}
-use Rattle.vbr_list.proofs.Names.{undisturbed_shown}
-use Rattle.vbr_list.specs.calls.Budgets.{listed_for, steps_to_value_of}
-use Rattle.vbr_list.specs.traversals.Disturbed.{changed_after, disturbed, disturbed_after, remove_costs_among}
-use Rattle.vbr_list.specs.traversals.Leaving.{Leaves}
-use Rattle.vbr_list.specs.calls.Pieces.{trace_in}
-use Rattle.vbr_list.specs.updates.Removing.{MarksAndSearches, MarksBehind, SearchesOn}
-use Rattle.vbr_list.specs.traversals.Helping.{GoesIn}
-use Rattle.vbr_list.specs.traversals.Traversing.{SearchFinds, LastTraversal, SearchTires}
-use Rattle.vbr_list.specs.traversals.Searching.{KnowsEpoch, LosesPlace, StandsStill, TraversesAgain, met_since}
-use Rattle.vbr_list.specs.traversals.Searching.{nodes_after}
-use Rattle.vbr_list.specs.declared.call.PendingCall.{PendingCall}
-use Rattle.vbr_list.specs.declared.found.Found.{Found}
+use Rattle.vbr_list.proofs.Names.{bucket_of, Call, changed_after, disturbances_grow, disturbed, disturbed_after}
+use Rattle.vbr_list.proofs.Names.{Found, Ghosts, GoesIn, Head, Held, HeldIn, incarnations_after, inserts_in}
+use Rattle.vbr_list.proofs.Names.{inserts_in-remove, IsAlone, IsHeld, IsOpenIn, IsRun, IsSame, IsStart, KeyAt}
+use Rattle.vbr_list.proofs.Names.{known_open, knows, KnowsEpoch, LastTraversal, Leaves, LeavesOthers, link_of}
+use Rattle.vbr_list.proofs.Names.{link_shown_at, listed_for, LosesPlace, Made, marked_fewer, MarksAndSearches}
+use Rattle.vbr_list.proofs.Names.{MarksBehind, met_bound_uninserted, met_since, nodes_after, one_key, own_calls}
+use Rattle.vbr_list.proofs.Names.{own_changes, PassView, PendingCall, Quiet, quiet_on, Remove, remove_costs_among}
+use Rattle.vbr_list.proofs.Names.{same_on, same_refl, SearchesOn, SearchFinds, SearchTires, since, Slot, StandsBehind}
+use Rattle.vbr_list.proofs.Names.{StandsStill, Start, steps_to_value_of, Trace, trace_in, TraversesAgain}
+use Rattle.vbr_list.proofs.Names.{undisturbed_shown, wide_found}
 use Rattle.vbr_list.proofs.traversals.Disturbing.{alone_undisturbed, changed_same, disturbed_same, grows_disturbed}
-use Rattle.vbr_list.proofs.traversals.Disturbing.{loses_place_disturb, met_before, met_less, met_quiet, run_at, run_to}
-use Rattle.vbr_list.proofs.traversals.Disturbing.{same_between, unchanged_at, undisturbed}
+use Rattle.vbr_list.proofs.traversals.Disturbing.{loses_place_disturb, met_before, met_less, met_quiet, run_at}
+use Rattle.vbr_list.proofs.traversals.Disturbing.{run_to, same_between, unchanged_at, undisturbed}
 use Rattle.vbr_list.proofs.pieces.Going.{by_either}
 use Rattle.vbr_list.proofs.inserts.Preparing.{if_failed}
 use Rattle.vbr_list.proofs.traversals.Searching.{HasRepeated, call_paid}
-use Rattle.vbr_list.specs.calls.Words.{wide_found}
 
 -- ---- a search
 

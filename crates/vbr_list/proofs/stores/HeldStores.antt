@@ -1,31 +1,21 @@
 -- What a store by a slot in hand tells, and what an insert does, seen from before its searches.
 use Rattle.vbr_list.proofs.Names.{◌≡◌, ℕ, ◌+◌, ◌≤◌, Bool, true, false, Option, Some, None, arith, refl, subst, sym}
-use Rattle.vbr_list.proofs.Names.{Ghosts, had_on, HandView, HasAllButOne, Insert, none_on, PassLaw, PassView, PIECE}
-use Rattle.vbr_list.proofs.Names.{Start, steps_to_update, TakesNoSlot}
-use Rattle.vbr_list.specs.calls.Pieces.{GoesOn, IsSameCall, pass_in, trace_in}
-use Rattle.vbr_list.specs.updates.HeldStores.{SaysUnstored, StoresWanted}
-use Rattle.vbr_list.specs.updates.Preparing.{Asks, ReadsWanted, TellsOther}
-use Rattle.vbr_list.specs.updates.Settling.{LinksNode, MaySettle, StoresByHand}
-use Rattle.vbr_list.specs.updates.Wanted.{wants}
-use Rattle.vbr_list.specs.traversals.Traversing.{SearchFinds, SearchTires}
-use Rattle.vbr_list.specs.declared.call.PendingCall.{PendingCall}
-use Rattle.vbr_list.specs.declared.found.Found.{Found}
-use Rattle.vbr_list.specs.declared.storing.Unstored.TheVariants.{Otherwise, OutOfSteps}
-use Rattle.vbr_list.specs.declared.wanted.Wanted.{Wanted}
-use Rattle.vbr_list.specs.declared.wanted.Wanted.TheVariants.{Absent}
+use Rattle.vbr_list.proofs.Names.{Absent, Asks, begins_refl, CountsWithin, Found, Ghosts, GoesOn, had_on, HandView}
+use Rattle.vbr_list.proofs.Names.{HasAllButOne, Insert, IsSameCall, KnowsThere, LinksNode, MaySettle, none_on}
+use Rattle.vbr_list.proofs.Names.{Otherwise, pass_in, PassLaw, PassView, PendingCall, PIECE, ReadsWanted}
+use Rattle.vbr_list.proofs.Names.{SaysUnstored, SearchFinds, SearchTires, Start, steps_to_update, StoresByHand}
+use Rattle.vbr_list.proofs.Names.{StoresWanted, TakesNoSlot, TellsOther, trace_in, Wanted, wants}
+use Rattle.vbr_list.specs.declared.storing.Unstored.TheVariants.{OutOfSteps}
 use Rattle.vbr_list.proofs.inserts.HeldInserts.{held_answers, held_linked}
 use Rattle.vbr_list.proofs.inserts.Linking.{IsLinking, begun, counts_until, had_until, none_until, quiet_until}
 use Rattle.vbr_list.proofs.inserts.Preparing.{within_on}
 use Rattle.vbr_list.proofs.pieces.Going.{call_on, within_call}
-use Rattle.vbr_list.specs.updates.Inserting.{CountsWithin}
-use Rattle.vbr_list.specs.look_ups.Telling.{KnowsThere}
 use Rattle.vbr_list.proofs.stores.Stores.{unless_since}
 use Rattle.vbr_list.proofs.look_ups.FoundValues.{insert_told}
 use Rattle.vbr_list.proofs.look_ups.ValueReads.{few_to_update}
 use Rattle.vbr_list.proofs.pieces.Told.{told_as, told_bare}
 use Rattle.vbr_list.proofs.stores.Settled.{Changes, each_lost}
 use Rattle.vbr_list.proofs.stores.SettledSoon.{had_asked, held_stores, held_told, searched_out, takes_settled}
-use Rattle.vbr_machine.proofs.Lemmas.{begins_refl}
 
 -- an insert at a table whose nodes have values stores one
 linked_stores : {N : Type 0} {kind : Ghosts N} {c d : PendingCall N kind} {hand : HandView} (value : ℕ)

@@ -1,17 +1,11 @@
 -- What a store costs that replaced a node and lost the place before the old one.
-use Rattle.vbr_list.proofs.Names.{◌≡◌, ℕ, ◌+◌, ◌*◌, ◌<◌, ◌≤◌, sym, ap, ◌∙◌, subst, arith, mul-le}
-use Rattle.vbr_list.proofs.Names.{Begins, begins_run, bucket_of, Call, disturbances_grow, Insert, inserts_in}
-use Rattle.vbr_list.proofs.Names.{inserts_in-two, IsRun, IsSame, IsStart, MadeTwo, met_bound_made, own_calls, PIECE}
-use Rattle.vbr_list.proofs.Names.{Quiet, quiet_on, Remove, same_on, since, Trace}
-use Rattle.vbr_list.specs.calls.Budgets.{listed_for}
-use Rattle.vbr_list.specs.traversals.Disturbed.{disturbed, store_costs_among}
-use Rattle.vbr_list.specs.updates.Inserting.{SearchedFor}
-use Rattle.vbr_list.specs.updates.Removing.{MarksAndSearches}
-use Rattle.vbr_list.specs.updates.Settling.{AnswersLate}
-use Rattle.vbr_list.specs.traversals.Traversing.{LastTraversal}
-use Rattle.vbr_list.specs.traversals.Searching.{met_since}
-use Rattle.vbr_list.specs.declared.found.Found.{Found}
-use Rattle.vbr_list.proofs.traversals.Disturbing.{disturbed_same, met_before, met_less, met_quiet, run_to, same_between}
+use Rattle.vbr_list.proofs.Names.{◌≡◌, ℕ, ◌+◌, ◌*◌, ◌<◌, ◌≤◌, sym, ap, ◌∙◌, subst, arith, mul-le, AnswersLate, Begins}
+use Rattle.vbr_list.proofs.Names.{begins_run, bucket_of, Call, disturbances_grow, disturbed, Found, Insert}
+use Rattle.vbr_list.proofs.Names.{inserts_in, inserts_in-two, IsRun, IsSame, IsStart, LastTraversal, listed_for}
+use Rattle.vbr_list.proofs.Names.{MadeTwo, MarksAndSearches, met_bound_made, met_since, own_calls, PIECE, Quiet}
+use Rattle.vbr_list.proofs.Names.{quiet_on, Remove, same_on, SearchedFor, since, store_costs_among, Trace}
+use Rattle.vbr_list.proofs.traversals.Disturbing.{disturbed_same, met_before, met_less, met_quiet, run_to}
+use Rattle.vbr_list.proofs.traversals.Disturbing.{same_between}
 use Rattle.vbr_list.proofs.removes.Marks.{late_rounds, same_searched, to_searched}
 use Rattle.vbr_list.proofs.traversals.Searching.{HasRepeated, disturbed_on, searched_first}
 

@@ -1,22 +1,12 @@
 -- What a store's change returns once what was there was read, seen from before that.
 use Rattle.vbr_list.proofs.Names.{◌≡◌, ℕ, ◌+◌, ◌≤◌, Bool, true, false, Option, Some, None, inl, inr, arith, subst, ap}
-use Rattle.vbr_list.proofs.Names.{refl}
-use Rattle.vbr_list.proofs.Names.{counts_on, Ghosts, had_grown, had_on, HandView, HasStill, Keeps, Know, knows, Made}
-use Rattle.vbr_list.proofs.Names.{none_on, PassLaw, PIECE}
-use Rattle.vbr_list.proofs.Names.{quiet_on, ReadsIn, same_on, steps_to_update}
-use Rattle.vbr_at_table.specs.answers.Records.{PublishesSlot}
-use Rattle.vbr_list.specs.calls.Budgets.{steps_where}
-use Rattle.vbr_list.specs.traversals.Leaving.{LeavesReplaced}
-use Rattle.vbr_list.specs.calls.Pieces.{GoesOn, IsSameCall, pass_in, trace_in}
-use Rattle.vbr_list.specs.updates.Removing.{MarksAndSearches}
-use Rattle.vbr_list.specs.updates.Settling.{LeavesInHand, LinksNode, MaySettle, SettlesIn, SettlesSoon}
-use Rattle.vbr_list.specs.updates.Settling.{StoresByHand, had_node}
-use Rattle.vbr_list.specs.updates.Storing.{Makes, storing_calls}
-use Rattle.vbr_list.specs.look_ups.Telling.{IsThere}
-use Rattle.vbr_list.specs.calls.Told.{stored_in}
-use Rattle.vbr_list.specs.declared.call.PendingCall.{PendingCall}
-use Rattle.vbr_list.specs.declared.found.Found.{Found}
-use Rattle.vbr_list.proofs.traversals.Disturbing.{run_at}
+use Rattle.vbr_list.proofs.Names.{refl, counts_on, Found, Ghosts, GoesOn, had_grown, had_node, had_on, HandView}
+use Rattle.vbr_list.proofs.Names.{HasStill, IsSameCall, IsThere, Keeps, Know, knows, LeavesInHand, LeavesReplaced}
+use Rattle.vbr_list.proofs.Names.{LinksNode, Made, Makes, MarksAndSearches, MaySettle, none_on, pass_in, PassLaw}
+use Rattle.vbr_list.proofs.Names.{PendingCall, PIECE, PublishesSlot, quiet_on, ReadsIn, same_on, SettlesIn}
+use Rattle.vbr_list.proofs.Names.{SettlesSoon, steps_to_update, steps_where, stored_in, StoresByHand, storing_calls}
+use Rattle.vbr_list.proofs.Names.{trace_in}
+use Rattle.vbr_list.proofs.traversals.Disturbing.{run_of}
 use Rattle.vbr_list.proofs.look_ups.FoundValues.{few_where, read_goes}
 use Rattle.vbr_list.proofs.look_ups.ReadFirst.{found_lost_since}
 use Rattle.vbr_list.proofs.named_entries.Publishing.{published_since}
@@ -97,9 +87,7 @@ module _ {N : Type 0} {kind : Ghosts N} (b c d : PendingCall N kind) (found : Fo
       inr (record {
         marked = x.marked;
         marks = marks_later (trace_in b) (trace_in c) x.marked b.key found.pred law.start
-            (run_at (trace_in b) (trace_in c) quiet.same (quiet.is_run law.is_run)) quiet read.adds_none
-            keeps.epoch
-            went.goes.hand.takes_no_slot.count x.marks;
+            (run_of law quiet) quiet read.adds_none keeps.epoch went.goes.hand.takes_no_slot.count x.marks;
         used = x.used;
         few = let then = x.few in omega (arith, then, used, few);
         searches = x.searches;

@@ -1,27 +1,13 @@
 -- What a call with a slot in hand costs that stores a value, seen from before its searches.
-use Rattle.vbr_list.proofs.Names.{◌≡◌, ◌<◌, ◌≤◌, ℕ, ◌+◌, Bool, true, false, Option, subst, inl, inr, arith, ◌∙◌}
-use Rattle.vbr_list.proofs.Names.{begins_refl, Call, Ghosts, HandView, Insert, MadeTwo, PassLaw, PIECE, refl, Remove}
-use Rattle.vbr_list.proofs.Names.{had_grown, HasStill, None, Quiet, same_on, Some, Trace}
-use Rattle.vbr_at_table.specs.answers.Records.{PublishesSlot}
-use Rattle.vbr_list.specs.updates.HeldStores.{AnswersOther}
-use Rattle.vbr_list.specs.updates.Holding.{FindsOtherEntry, LacksInHand, StoresHeld}
-use Rattle.vbr_list.specs.updates.Inserting.{RunsShort, Searches}
-use Rattle.vbr_list.specs.named_entries.OtherEntries.{WasOther}
-use Rattle.vbr_list.specs.traversals.Leaving.{LeavesReplaced}
-use Rattle.vbr_list.specs.calls.Pieces.{GoesOn, IsSameCall, pass_in, trace_in}
-use Rattle.vbr_list.specs.look_ups.Telling.{TellsThere}
-use Rattle.vbr_list.specs.updates.Removing.{MarksAndSearches}
-use Rattle.vbr_list.specs.updates.Preparing.{Asks}
-use Rattle.vbr_list.specs.updates.Settling.{LeavesInHand, MaySettle, SearchesWith, SettlesIn, SettlesSoon, StoredIn}
-use Rattle.vbr_list.specs.updates.Settling.{StoredSoon, StoresByHand, had_node}
-use Rattle.vbr_list.specs.updates.Storing.{Makes, storing_calls}
-use Rattle.vbr_list.specs.traversals.Traversing.{LastTraversal, SearchFinds, SearchTires}
-use Rattle.vbr_list.specs.traversals.Searching.{LosesFound}
-use Rattle.vbr_list.specs.declared.call.PendingCall.{PendingCall}
-use Rattle.vbr_list.specs.declared.found.Found.{Found}
-use Rattle.vbr_list.specs.calls.Told.{given_call, stored_call}
-use Rattle.vbr_list.specs.declared.entries.Entry.{Entry}
-use Rattle.vbr_list.proofs.traversals.Disturbing.{run_at}
+use Rattle.vbr_list.proofs.Names.{◌≡◌, ◌<◌, ◌≤◌, ℕ, ◌+◌, Bool, true, false, Option, subst, inl, inr, arith, ◌∙◌, refl}
+use Rattle.vbr_list.proofs.Names.{None, Some, AnswersOther, Asks, begins_refl, Call, Entry, FindsOtherEntry, Found}
+use Rattle.vbr_list.proofs.Names.{Ghosts, given_call, GoesOn, had_grown, had_node, HandView, HasStill, Insert}
+use Rattle.vbr_list.proofs.Names.{IsSameCall, LacksInHand, LastTraversal, LeavesInHand, LeavesReplaced, LosesFound}
+use Rattle.vbr_list.proofs.Names.{MadeTwo, Makes, MarksAndSearches, MaySettle, pass_in, PassLaw, PendingCall, PIECE}
+use Rattle.vbr_list.proofs.Names.{PublishesSlot, Quiet, Remove, RunsShort, same_on, Searches, SearchesWith}
+use Rattle.vbr_list.proofs.Names.{SearchFinds, SearchTires, SettlesIn, SettlesSoon, stored_call, StoredIn, StoredSoon}
+use Rattle.vbr_list.proofs.Names.{StoresByHand, StoresHeld, storing_calls, TellsThere, Trace, trace_in, WasOther}
+use Rattle.vbr_list.proofs.traversals.Disturbing.{run_at, run_of}
 use Rattle.vbr_list.proofs.inserts.HeldCosts.{costs_after, lacks_after, stored_costs, stored_leaves}
 use Rattle.vbr_list.proofs.stores.LateSearches.{late_searched}
 use Rattle.vbr_list.proofs.inserts.Linking.{begun, counts_until, has_until, IsLinking, lost_then, quiet_until}
@@ -197,8 +183,7 @@ searched_out {b = b} {d = d} law so went tired each few =
     in (
       record { counts = counts_until so went; short = short },
       searches,
-      lacks_after each (trace_in b) (trace_in d) law.start
-          (run_at (trace_in b) (trace_in d) quiet.same (quiet.is_run law.is_run)) b.key quiet b.used b.budget searches,
+      lacks_after each (trace_in b) (trace_in d) law.start (run_of law quiet) b.key quiet b.used b.budget searches,
     )
 
 -- the key was found otherwise
@@ -214,7 +199,6 @@ held_finds {b = b} {d = d} law so went found finds entry was =
     record {
       was = was;
       searches = searches;
-      costs = costs_after 12 0 (trace_in b) (trace_in d) (trace_in d) law.start
-          (run_at (trace_in b) (trace_in d) quiet.same (quiet.is_run law.is_run)) b.key quiet
+      costs = costs_after 12 0 (trace_in b) (trace_in d) (trace_in d) law.start (run_of law quiet) b.key quiet
           (begins_refl (trace_in d).seen) b.used d.used d.used 3 searches (omega arith);
     }

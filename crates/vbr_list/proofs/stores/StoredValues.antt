@@ -1,42 +1,26 @@
 -- A store, or an insert, at its end: what it tells, answered or refused.
-use Rattle.vbr_list.proofs.Names.{◌≡◌, ℕ, ◌+◌, ◌*◌, ◌≤◌, Bool, true, false, Option, Some, None, Ok, Err, IfOk, inl, inr}
-use Rattle.vbr_list.proofs.Names.{refl, subst, sym, ap, ◌∙◌, arith, mul-le, List}
-use Rattle.vbr_list.proofs.Names.{AdvancesWhereNeeded, Begins, Call, counts_on, Get, Ghosts, HandView, HasAllButOne}
-use Rattle.vbr_list.proofs.Names.{had_on, HasStill, HasUnpublished, in_need_before, Insert, IsAlone, IsRun, KeepsSlots}
-use Rattle.vbr_list.proofs.Names.{longer, Made, MadeTwo, needed_before, PassLaw, PassView, Quiet, quiet_on}
-use Rattle.vbr_list.proofs.Names.{LeavesRoom, Refusal, Remove, shared_on, shares_more, SharesWhereFull, slots_kept_on}
-use Rattle.vbr_list.proofs.Names.{steps_to_update, steps_to_value, TakesNoSlot, took_all, TookWithin, Trace}
-use Rattle.vbr_list.proofs.Names.{TriesOnlyWhere, WinsInNeed}
-use Rattle.vbr_list.specs.calls.Budgets.{LacksSteps, enough_past, enough_to_insert, enough_to_store, enough_to_unlist}
-use Rattle.vbr_list.specs.calls.Budgets.{insert_costs, listed_for, store_costs}
-use Rattle.vbr_list.specs.calls.CallBounds.{BoundsOfInsert, CallsAs}
-use Rattle.vbr_list.specs.calls.Told.{given_call, stored_call, stored_in}
-use Rattle.vbr_list.specs.traversals.Disturbed.{disturbed, enough_to_insert_among, insert_costs_among, searches_more}
-use Rattle.vbr_list.specs.traversals.Disturbed.{steps_for_slot, steps_to_prepare, store_costs_among}
-use Rattle.vbr_list.specs.traversals.Leaving.{LeavesReplaced}
-use Rattle.vbr_list.specs.calls.Pieces.{pass_in, trace_in}
-use Rattle.vbr_list.specs.updates.HeldStores.{SaysUnstored, StoresOrInserts, StoresWanted, answer_unstored}
-use Rattle.vbr_list.specs.updates.Holding.{AnswersHeld, StoresHeld}
-use Rattle.vbr_list.specs.updates.Inserting.{CountsWithin, Prepares, RunsShort, SearchedFor, Searches, SearchesInVain}
-use Rattle.vbr_list.specs.updates.Inserting.{TakesNone, TriesFor}
-use Rattle.vbr_list.specs.updates.NewValues.{value_after, value_by}
-use Rattle.vbr_list.specs.updates.Outcomes.{ChangedAsWanted}
-use Rattle.vbr_list.specs.updates.Preparing.{HasPrepared, told_otherwise}
-use Rattle.vbr_list.specs.updates.Settling.{StoredIn, StoredSoon}
-use Rattle.vbr_list.specs.updates.Storing.{CallsStore, HasUnlessStored, IsRefusedStore, Makes, replaced, stored_calls}
-use Rattle.vbr_list.specs.updates.Storing.{storing_calls}
-use Rattle.vbr_list.specs.updates.Updating.{CallsUpdate, MayUpdate}
-use Rattle.vbr_list.specs.updates.Wanted.{WasWanted, WasWantedFor, steps_to_compare, wants}
+use Rattle.vbr_list.proofs.Names.{◌≡◌, ℕ, ◌+◌, ◌*◌, ◌≤◌, Bool, true, false, Option, Some, None, Ok, Err, IfOk, inl}
+use Rattle.vbr_list.proofs.Names.{inr, refl, subst, sym, ap, ◌∙◌, arith, mul-le, List, Absent, AdvancesWhereNeeded}
+use Rattle.vbr_list.proofs.Names.{answer_unstored, AnswersHeld, Begins, BoundsOfInsert, Call, CallsAs, CallsStore}
+use Rattle.vbr_list.proofs.Names.{CallsUpdate, Changed, ChangedAsWanted, counts_on, CountsWithin, disturbed}
+use Rattle.vbr_list.proofs.Names.{enough_past, enough_to_insert, enough_to_insert_among, enough_to_store}
+use Rattle.vbr_list.proofs.Names.{enough_to_unlist, Exactly, Get, Ghosts, given_call, had_on, HandView, HasAllButOne}
+use Rattle.vbr_list.proofs.Names.{HasPrepared, HasStill, HasUnlessStored, HasUnpublished, in_need_before, Insert}
+use Rattle.vbr_list.proofs.Names.{insert_costs, insert_costs_among, IsAlone, IsRefusedStore, IsRun, KeepsSlots}
+use Rattle.vbr_list.proofs.Names.{LacksSteps, LeavesReplaced, LeavesRoom, listed_for, longer, Made, MadeTwo, Makes}
+use Rattle.vbr_list.proofs.Names.{MayUpdate, needed_before, NewValue, Otherwise, pass_in, PassLaw, PassView}
+use Rattle.vbr_list.proofs.Names.{PendingCall, Prepares, Quiet, quiet_on, Refusal, Remove, replaced, RunsShort}
+use Rattle.vbr_list.proofs.Names.{SaysUnstored, SearchedFor, Searches, searches_more, SearchesInVain, shared_on}
+use Rattle.vbr_list.proofs.Names.{shares_more, SharesWhereFull, slots_kept_on, steps_for_slot, steps_to_compare}
+use Rattle.vbr_list.proofs.Names.{steps_to_prepare, steps_to_update, steps_to_value, store_costs, store_costs_among}
+use Rattle.vbr_list.proofs.Names.{stored_call, stored_calls, stored_in, StoredIn, StoredSoon, StoresHeld}
+use Rattle.vbr_list.proofs.Names.{StoresOrInserts, StoresWanted, storing_calls, Sum, TakesNone, TakesNoSlot}
+use Rattle.vbr_list.proofs.Names.{told_otherwise, took_all, TookWithin, Trace, trace_in, TriesFor, TriesOnlyWhere}
+use Rattle.vbr_list.proofs.Names.{Unchanged, Unstored, value_after, value_by, Wanted, wants, WasWanted, WasWantedFor}
+use Rattle.vbr_list.proofs.Names.{WinsInNeed}
 use Rattle.vbr_at_table.specs.declared.refusal.Refusal.TheVariants.{OutOfSteps as Short}
-use Rattle.vbr_list.specs.declared.call.PendingCall.{PendingCall}
-use Rattle.vbr_list.specs.declared.new_value.NewValue.{NewValue}
-use Rattle.vbr_list.specs.declared.new_value.NewValue.TheVariants.{Exactly, Sum}
-use Rattle.vbr_list.specs.declared.outcome.Outcome.TheVariants.{Changed, Unchanged}
-use Rattle.vbr_list.specs.declared.storing.Unstored.{Unstored}
-use Rattle.vbr_list.specs.declared.storing.Unstored.TheVariants.{Otherwise, OutOfSteps}
-use Rattle.vbr_list.specs.declared.wanted.Wanted.{Wanted}
-use Rattle.vbr_list.specs.declared.wanted.Wanted.TheVariants.{Absent}
-use Rattle.vbr_list.proofs.traversals.Disturbing.{alone_undisturbed, run_at}
+use Rattle.vbr_list.specs.declared.storing.Unstored.TheVariants.{OutOfSteps}
+use Rattle.vbr_list.proofs.traversals.Disturbing.{alone_undisturbed, run_at, run_of}
 use Rattle.vbr_list.proofs.pieces.Going.{room_left}
 use Rattle.vbr_list.proofs.pieces.Told.{call_answered, stored_same, told_as, told_bare, told_since}
 use Rattle.vbr_list.proofs.stores.LateSearches.{late_disturbs, late_paid}
@@ -269,8 +253,7 @@ module _ (value : ℕ) {wanted : Wanted} {p q : PassView} {key used budget : ℕ
       calls_refused gives values asked had quiet refusal (store_refused_first wanted p q key budget refusal says was)
       (lacks_more (enough_to_insert_among nodes times steps) (enough_of gives nodes times steps) budget refusal
       (omega (arith, more))
-      (vain_lacks p.trace q.trace law.start (run_at p.trace q.trace quiet.same (quiet.is_run law.is_run)) key budget
-      steps quiet refusal searches))
+      (vain_lacks p.trace q.trace law.start (run_of law quiet) key budget steps quiet refusal searches))
 
   -- it is answered without one
   pub calls_told : (gives values : Bool) → MayUpdate gives values wanted → HasStill p q → (there : Option ℕ) →
@@ -448,8 +431,7 @@ module _ {N : Type 0} {kind : Ghosts N} {b d : PendingCall N kind} (r : PassView
       let ends = ends_all quiet.seen quiet.is_run in
       let later = slot_later p q.trace r.trace quiet.seen in
       let first = ends_prepared begun prepares tried in
-      let few = both_lack p.trace q.trace r.trace law.start
-      (run_at p.trace r.trace whole.same (whole.is_run law.is_run)) b.key b.budget d.used
+      let few = both_lack p.trace q.trace r.trace law.start (run_of law whole) b.key b.budget d.used
       (steps_to_prepare wanted p q.trace) ready.quiet quiet (seven_least gives) searched last in
       calls_refused value law ends spent gives values asked (had_on p q r prepares.had had) whole (Short now) (record {
         took = took_all (counts_on first.counts.counts short.counts.counts);

@@ -1,23 +1,13 @@
 -- The calls of a store, its slots and its steps, and what its refusals say.
-use Rattle.vbr_list.proofs.Names.{◌≡◌, ◌≢◌, ℕ, ◌+◌, ◌*◌, ◌<◌, ◌≤◌, Bool, true, false, List, [], ◌∷◌, ◌++◌, Option, Some}
-use Rattle.vbr_list.proofs.Names.{None, Err, sym, ap, refl, ◌∙◌, arith, subst, if◌then◌else◌}
-use Rattle.vbr_list.proofs.Names.{Begins, birth_in_hand, Call, EpochSpent, Get, grows_same, had_grown}
-use Rattle.vbr_list.proofs.Names.{HandView, HasAllButOne, HasStill, IsRun, IsSame, IsStart, made_by, MadeTwo}
-use Rattle.vbr_list.proofs.Names.{made_on, most_to_take, NoSlot, OutOfSteps, PassView, Quiet, Refusal}
-use Rattle.vbr_list.proofs.Names.{Remove, took_all, Trace, two_on}
-use Rattle.vbr_list.specs.calls.LoneReplies.{AreAnsweredAlone}
-use Rattle.vbr_list.specs.calls.Budgets.{IsAnsweredOrSpent, LacksSteps}
-use Rattle.vbr_list.specs.updates.Inserting.{HasHandAndRoom}
-use Rattle.vbr_list.specs.updates.Inserting.{TakesNone}
-use Rattle.vbr_list.specs.calls.Pieces.{KeepsHand}
-use Rattle.vbr_list.specs.updates.Settling.{had_node}
-use Rattle.vbr_list.specs.updates.Storing.{HasUnlessStored, IsRefusedStore, Makes, replaced, stored_calls}
-use Rattle.vbr_list.specs.updates.Storing.{storing_calls}
-use Rattle.vbr_list.specs.calls.Told.{given_call, stored_call}
-use Rattle.vbr_list.specs.updates.Wanted.{WasWantedFor, wants}
-use Rattle.vbr_list.specs.declared.wanted.Wanted.{Wanted}
-use Rattle.vbr_list.specs.declared.wanted.Wanted.TheVariants.{Absent}
-use Rattle.vbr_list.specs.calls.Refusals.{IsRefusedInsert}
+use Rattle.vbr_list.proofs.Names.{◌≡◌, ◌≢◌, ℕ, ◌+◌, ◌*◌, ◌<◌, ◌≤◌, Bool, true, false, List, [], ◌∷◌, ◌++◌, Option}
+use Rattle.vbr_list.proofs.Names.{Some, None, Err, sym, ap, refl, ◌∙◌, arith, subst, if◌then◌else◌, Absent}
+use Rattle.vbr_list.proofs.Names.{AreAnsweredAlone, Begins, birth_in_hand, Call, EpochSpent, Get, given_call}
+use Rattle.vbr_list.proofs.Names.{grows_same, had_grown, had_node, HandView, HasAllButOne, HasHandAndRoom, HasStill}
+use Rattle.vbr_list.proofs.Names.{HasUnlessStored, IsAnsweredOrSpent, IsRefusedInsert, IsRefusedStore, IsRun, IsSame}
+use Rattle.vbr_list.proofs.Names.{IsStart, KeepsHand, LacksSteps, made_by, made_on, MadeTwo, Makes, most_to_take}
+use Rattle.vbr_list.proofs.Names.{NoSlot, OutOfSteps, PassView, Quiet, Refusal, Remove, replaced, stored_call}
+use Rattle.vbr_list.proofs.Names.{stored_calls, storing_calls, TakesNone, took_all, Trace, two_on, Wanted, wants}
+use Rattle.vbr_list.proofs.Names.{WasWantedFor}
 use Rattle.vbr_list.proofs.pieces.LonePasses.{alone_all}
 
 -- ---- the calls that it makes

@@ -1,23 +1,12 @@
 -- A store finds the key as it is wanted, or otherwise.
-use Rattle.vbr_list.proofs.Names.{◌≡◌, ℕ, ◌+◌, ◌≤◌, Bool, true, false, not, Option, Some, None, arith, refl, sym, subst}
-use Rattle.vbr_list.proofs.Names.{◌∙◌}
-use Rattle.vbr_list.proofs.Names.{nat_tests}
-use Rattle.vbr_list.proofs.Names.{At, Begins, EpochSpent, Ghosts, Held, held_kept, IsRun, IsSame, IsStart, Keeps, KeyAt}
-use Rattle.vbr_list.proofs.Names.{Know, knows, moment_before, NoSlot, OutOfSteps, Quiet, Refusal, stood_before, Trace}
-use Rattle.vbr_list.proofs.Names.{ValueAt, was_entry, WasEntry, WasSo}
-use Rattle.vbr_list.specs.calls.Budgets.{LacksSteps, steps_where}
-use Rattle.vbr_list.specs.traversals.Found.{CurStood, IsFound}
-use Rattle.vbr_list.specs.updates.Inserting.{SearchesFor, SearchesInVain}
-use Rattle.vbr_list.specs.traversals.Searching.{SearchesIn}
-use Rattle.vbr_list.specs.calls.Pieces.{GoesOn, trace_in}
-use Rattle.vbr_list.specs.traversals.Places.{IsCur, IsEnd}
-use Rattle.vbr_list.specs.updates.Preparing.{Meeting, has_wanted}
-use Rattle.vbr_list.specs.look_ups.Telling.{IsFoundValue, IsThere}
-use Rattle.vbr_list.specs.updates.Wanted.{WasWanted, WasWantedFor, steps_to_compare, wants}
-use Rattle.vbr_list.specs.declared.call.PendingCall.{PendingCall}
-use Rattle.vbr_list.specs.declared.found.Found.{Found}
-use Rattle.vbr_list.specs.declared.wanted.Wanted.{Wanted}
-use Rattle.vbr_list.specs.declared.wanted.Wanted.TheVariants.{Absent, Present, Anything, Value}
+use Rattle.vbr_list.proofs.Names.{◌≡◌, ℕ, ◌+◌, ◌≤◌, Bool, true, false, not, Option, Some, None, arith, refl, sym}
+use Rattle.vbr_list.proofs.Names.{subst, ◌∙◌, nat_tests, Absent, Anything, At, Begins, CurStood, EpochSpent, Found}
+use Rattle.vbr_list.proofs.Names.{Ghosts, GoesOn, has_wanted, Held, held_kept, IsCur, IsEnd, IsFound, IsFoundValue}
+use Rattle.vbr_list.proofs.Names.{IsRun, IsSame, IsStart, IsThere, Keeps, KeyAt, Know, knows, LacksSteps, Meeting}
+use Rattle.vbr_list.proofs.Names.{moment_before, NoSlot, OutOfSteps, PendingCall, Present, Quiet, Refusal}
+use Rattle.vbr_list.proofs.Names.{SearchesFor, SearchesIn, SearchesInVain, steps_to_compare, steps_where}
+use Rattle.vbr_list.proofs.Names.{stood_before, Trace, trace_in, Value, ValueAt, Wanted, wants, was_entry, WasEntry}
+use Rattle.vbr_list.proofs.Names.{WasSo, WasWanted, WasWantedFor}
 use Rattle.vbr_list.proofs.look_ups.FoundValues.{few_where}
 use Rattle.vbr_list.proofs.traversals.Moments.{key_known, later_moment, so_before, so_later}
 use Rattle.vbr_list.proofs.traversals.Reaching.{key_kept}

@@ -1,23 +1,17 @@
 -- A key is clear at a moment where no marked node of it is in a list.
 -- What a traversal to the key shows of that, and what follows for a node that the pass has marked.
 use Rattle.vbr_list.proofs.Names.{◌≡◌, ℕ, ◌+◌, ◌≤◌, arith, true, false, List, [], ◌∷◌, ◌++◌, Option, Some, None, refl}
-use Rattle.vbr_list.proofs.Names.{sym, ap, ◌∙◌, subst, IfSome, IfNone}
-use Rattle.vbr_list.proofs.Names.{Event, Ghosts, Held, incarnations_after, IsHeldPlace, IsRead, IsRun, IsSame, IsStart}
-use Rattle.vbr_list.proofs.Names.{IsTakenOut, KeyAt, KeyOf, Know, know_after, Knows, knows, left_since, Link, link_at}
-use Rattle.vbr_list.proofs.Names.{link_of, LinkAt, Made, marked_left, MarkedLeft, moment_after, moment_before, nodes}
+use Rattle.vbr_list.proofs.Names.{sym, ap, ◌∙◌, subst, IfSome, IfNone, Event, Found, Ghosts, Held, incarnations_after}
+use Rattle.vbr_list.proofs.Names.{IsFound, IsHeldPlace, IsRead, IsRun, IsSame, IsStart, IsTakenOut, KeyAt, KeyOf}
+use Rattle.vbr_list.proofs.Names.{Know, know_after, Knows, knows, Leaves, left_since, Link, link_at, link_of, LinkAt}
+use Rattle.vbr_list.proofs.Names.{Made, marked_left, MarkedLeft, moment_after, moment_before, nodes}
 use Rattle.vbr_list.proofs.Names.{none_marked_between, none_marked_here, none_marked_skipped, NoneMarked, out_on}
-use Rattle.vbr_list.proofs.Names.{own_calls, PIECE, Quiet, Remove, same_on, Slot, StandsBefore, StandsBehind, Start}
-use Rattle.vbr_list.proofs.Names.{Trace, WasShown, world_after}
+use Rattle.vbr_list.proofs.Names.{own_calls, PendingCall, PIECE, Quiet, Remove, same_on, SearchFinds, SearchTires}
+use Rattle.vbr_list.proofs.Names.{Slot, StandsBefore, StandsBehind, Start, Trace, trace_in, WasClear, WasShown}
+use Rattle.vbr_list.proofs.Names.{wide_found, world_after}
 use Rattle.vbr_machine.specs.declared.history.Call.{Call as ListedCall}
-use Rattle.vbr_list.specs.traversals.Found.{IsFound}
-use Rattle.vbr_list.specs.traversals.Leaving.{Leaves, WasClear}
-use Rattle.vbr_list.specs.calls.Pieces.{trace_in}
-use Rattle.vbr_list.specs.traversals.Traversing.{SearchFinds, SearchTires}
-use Rattle.vbr_list.specs.declared.call.PendingCall.{PendingCall}
-use Rattle.vbr_list.specs.declared.found.Found.{Found}
 use Rattle.vbr_list.proofs.traversals.Disturbing.{run_at}
 use Rattle.vbr_list.proofs.traversals.Moments.{by_found, key_known}
-use Rattle.vbr_list.specs.calls.Words.{wide_found}
 
 -- ---- what a read link shows
 
@@ -39,7 +33,7 @@ module _ {p q : Trace} (held : Held) (start : IsStart p.start) (same : IsSame p 
   }
 
   shape_now : IsStart q.start
-  shape_now = let P : Start → Type 0 = IsStart in subst P (sym same.start) start
+  shape_now = subst IsStart (sym same.start) start
 
   clear_then : (key : ℕ) → NoneMarked (incarnations_after q.start read.stood.moment) key → WasClear p q key
   clear_then key none = record {

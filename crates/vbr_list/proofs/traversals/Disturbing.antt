@@ -1,29 +1,24 @@
 -- A moved epoch, or a link that no longer stands open, shows that another pass disturbed a call.
 -- A pass that was alone was not disturbed.
-use Rattle.vbr_list.proofs.Names.{◌≡◌, ◌≢◌, ℕ, ◌+◌, ◌*◌, ◌<◌, ◌≤◌, Bool, true, false, cond, eq-eqb, Option, Some, None}
-use Rattle.vbr_list.proofs.Names.{List, [], ◌∷◌, ◌++◌, sym, ap, ◌∙◌, subst, inl, inr, arith, append_assoc, append-nil}
-use Rattle.vbr_list.proofs.Names.{◌==◌, ◌&&◌, count_by, sum_by-append, mul-le}
-use Rattle.vbr_list.proofs.Names.{AddsNone, advances, AdvancesNone, At, Begins, begins_refl, begins_run, begins_trans}
-use Rattle.vbr_list.proofs.Names.{bucket_of, changed_disturbed, ChangesNone, disturbances, disturbances_grow}
-use Rattle.vbr_list.proofs.Names.{disturbances_paid, EpochMoved, Event, found, FreshIfMoved, Held, held_in_kept, HeldIn}
-use Rattle.vbr_list.proofs.Names.{incarnations_after, is_advance, IsAdvance, IsAlone, IsFresh, IsHeld, IsLost}
-use Rattle.vbr_list.proofs.Names.{IsMovedOrLost, IsOpenIn, IsRun, IsSame, IsStart, Keeps, keeps_on, known_open, knows}
-use Rattle.vbr_list.proofs.Names.{link_loaded, link_of, link_shown_at, LoadLink, LostExchange, Marked, met}
-use Rattle.vbr_list.proofs.Names.{met_bound_quiet, met_later, met_on, moved_by_others, moved_disturbed, OnlyEventsOf}
-use Rattle.vbr_list.proofs.Names.{own_between, own_calls, own_changes, own_entries, own_unchanged, PassView, Quiet}
-use Rattle.vbr_list.proofs.Names.{quiet_on, Rollback, RollsBack, run_agrees, shown_there, since, StampsFreshly}
-use Rattle.vbr_list.proofs.Names.{StandsNow, Start, Step, Trace, undisturbed_by_itself, word_of, word_of-link_of}
-use Rattle.vbr_list.proofs.Names.{world_after}
-use Rattle.vbr_list.specs.traversals.Helping.{OpensPlace}
-use Rattle.vbr_list.specs.calls.Budgets.{listed_for, nodes_listed_in}
-use Rattle.vbr_list.specs.traversals.Disturbed.{changed_after, changed_at, disturbed, disturbed_after, disturbed_at}
-use Rattle.vbr_list.specs.traversals.Disturbed.{disturbed_in}
-use Rattle.vbr_list.specs.traversals.Disturbed.{enough_among, enough_to_insert_among, enough_to_search_among}
-use Rattle.vbr_list.specs.traversals.Disturbed.{enough_to_store_among, most_disturbed, seek_costs_among}
-use Rattle.vbr_list.specs.declared.found.Found.{Found}
-use Rattle.vbr_list.specs.traversals.Searching.{KnowsEpoch, LosesFound, LosesHeld, LosesNext, LosesPlace, MovesEpoch}
-use Rattle.vbr_list.specs.traversals.Searching.{MovesOn}
-use Rattle.vbr_list.specs.traversals.Searching.{NextStandsStill, StandsStill, StoodOpen, met_in, met_since, nodes_after}
+use Rattle.vbr_list.proofs.Names.{◌≡◌, ◌≢◌, ℕ, ◌+◌, ◌*◌, ◌<◌, ◌≤◌, true, false, Option, Some, None, List, [], ◌∷◌}
+use Rattle.vbr_list.proofs.Names.{◌++◌, sym, ap, ◌∙◌, subst, inl, inr, arith, append_assoc, append-nil, mul-le}
+use Rattle.vbr_list.proofs.Names.{AddsNone, advances, At, Begins, begins_refl, begins_run, begins_trans, bucket_of}
+use Rattle.vbr_list.proofs.Names.{changed_after, changed_at, changed_disturbed, ChangesNone, disturbances}
+use Rattle.vbr_list.proofs.Names.{disturbances_grow, disturbances_paid, disturbed, disturbed_after, disturbed_at}
+use Rattle.vbr_list.proofs.Names.{disturbed_in, enough_among, enough_to_insert_among, enough_to_search_among}
+use Rattle.vbr_list.proofs.Names.{enough_to_store_among, EpochMoved, Event, Found, found, FreshIfMoved, Held}
+use Rattle.vbr_list.proofs.Names.{held_in_kept, HeldIn, incarnations_after, is_advance, IsAdvance, IsAlone, IsFresh}
+use Rattle.vbr_list.proofs.Names.{IsHeld, IsLost, IsMovedOrLost, IsOpenIn, IsRun, IsSame, IsStart, Keeps, keeps_on}
+use Rattle.vbr_list.proofs.Names.{known_open, knows, KnowsEpoch, link_loaded, link_of, link_shown_at, listed_for}
+use Rattle.vbr_list.proofs.Names.{LoadLink, LosesFound, LosesHeld, LosesNext, LosesPlace, LostExchange, Marked, met}
+use Rattle.vbr_list.proofs.Names.{met_bound_quiet, met_in, met_later, met_on, met_since, most_disturbed}
+use Rattle.vbr_list.proofs.Names.{moved_by_others, moved_disturbed, MovesEpoch, MovesOn, NextStandsStill, nodes_after}
+use Rattle.vbr_list.proofs.Names.{nodes_listed_in, OnlyEventsOf, OpensPlace, own_between, own_calls, own_changes}
+use Rattle.vbr_list.proofs.Names.{own_entries, own_unchanged, PassLaw, PassView, Quiet, quiet_on, Rollback, RollsBack}
+use Rattle.vbr_list.proofs.Names.{run_agrees, seek_costs_among, shown_there, since, StampsFreshly, StandsNow}
+use Rattle.vbr_list.proofs.Names.{StandsStill, Start, Step, StoodOpen, Trace, unchanged_by_none}
+use Rattle.vbr_list.proofs.Names.{undisturbed_by_itself, word_of, word_of-link_of, world_after}
+use Rattle.vbr_list.proofs.pieces.CountedSteps.{none_between}
 
 -- ---- at the table of a pass
 
@@ -35,6 +30,14 @@ run_at p q s ok =
     let P : Start → Type 0 = λ start. IsRun start q.passes q.seen in
     let Q : ℕ → Type 0 = λ passes. IsRun p.start passes q.seen in
     subst Q s.passes (subst P s.start ok)
+
+-- of a pass that made no call
+pub run_of : {p : PassView} {q : Trace} → PassLaw p → Quiet p.trace q → IsRun p.trace.start p.trace.passes q.seen
+run_of {p} {q} law quiet = run_at p.trace q quiet.same (quiet.is_run law.is_run)
+
+-- and if it added no event to the chronicle, it changed no list
+pub unchanged_of : {p : PassView} {q : Trace} → PassLaw p → Quiet p.trace q → AddsNone p.trace q → ChangesNone p.trace q
+unchanged_of law quiet none = unchanged_by_none law.start (run_of law quiet) quiet.same quiet.seen none
 
 pub run_to : {p q : Trace} → IsSame p q → (run : List Event) → IsRun p.start p.passes run → IsRun q.start q.passes run
 run_to {p} {q} s run ok =
@@ -155,6 +158,12 @@ module _ (p r : Trace) (is : IsStart p.start) (ok : IsRun p.start p.passes r.see
       go (LostExchange word) m f =
           lost_disturbs q held (LostExchange word) sq b x
           (kept_between p p.seen x.moment r.seen is ok bucket x.from (begins_trans x.moment q.seen r.seen x.to b) own) m
+
+-- by a later moment at which a pass has made no call it was disturbed no less
+pub grown_disturbed : {p : PassView} {q : Trace} → PassLaw p → Quiet p.trace q → (bucket : ℕ) →
+    disturbed_at p.trace bucket p.trace.seen ≤ disturbed_at p.trace bucket q.seen
+grown_disturbed {p} {q} law quiet bucket =
+    grows_disturbed p.trace q law.start (run_of law quiet) bucket p.trace.seen quiet.seen
 
 -- ---- the nodes that can be met
 
@@ -337,41 +346,6 @@ lost_place_later {p} {q} {r} held (LostExchange word) a keeps none m adds = inr 
 is_advance_from : (step : Step) → IsAdvance step → is_advance step ≡ true
 is_advance_from step h = grind arith
 
-advance_steps : ℕ → List Event → ℕ
-advance_steps who events = count_by (λ (e : Event). (e.pass == who) && is_advance e.step) events
-
-steps-append : (who : ℕ) (xs ys : List Event) →
-    advance_steps who (xs ++ ys) ≡ advance_steps who xs + advance_steps who ys
-unfolding advance_steps
-steps-append who xs ys = sum_by-append (λ (e : Event). cond ((e.pass == who) && is_advance e.step) 1 0) xs ys
-
-none_counted : (who : ℕ) (events : List Event) → advance_steps who events ≡ 0 → AdvancesNone who events
-unfolding advance_steps
-none_counted who [] none = tt
-none_counted who (event ∷ events) none =
-    let sum = steps-append who (event ∷ []) events in (
-      λ mine advance.
-          one (event.pass == who) (is_advance event.step) (eq-eqb event.pass who mine)
-          (is_advance_from event.step advance) (omega (arith, none, sum)),
-      none_counted who events (omega (arith, none, sum)),
-    )
-  where
-    one : (p q : Bool) → p ≡ true → q ≡ true → 0 + cond (p && q) 1 0 ≡ 0 → ⊥
-    one p q a b z = grind arith
-
--- a pass that made no step that would advance the epoch made none since a moment of that
-pub advances_none : (p q : Trace) → IsSame p q → advances q ≡ advances p → (moment : List Event) →
-    Begins p.seen moment → (b : Begins moment q.seen) → AdvancesNone p.who b.0
-unfolding advance_steps
-advances_none p q s same moment a b =
-    let one = steps-append p.who p.seen a.0 in
-    let two = steps-append p.who moment b.0 in
-    let there = ap (advance_steps p.who) a.1 in
-    let last = ap (advance_steps p.who) b.1 in
-    let who : advance_steps q.who q.seen ≡ advance_steps p.who q.seen = ap (λ w. advance_steps w q.seen) s.who in
-    let kept : advance_steps q.who q.seen ≡ advance_steps p.who p.seen = same in
-    none_counted p.who b.0 (omega (arith, one, two, there, last, who, kept))
-
 module _ (p r : Trace) (is : IsStart p.start) (ok : IsRun p.start p.passes r.seen) (bucket : ℕ) (same_r : IsSame p r)
     (none : advances r ≡ advances p) where
   -- each advance between two moments disturbed the pass
@@ -379,16 +353,11 @@ module _ (p r : Trace) (is : IsStart p.start) (ok : IsRun p.start p.passes r.see
       (nodes_after p last).epoch + disturbed_at p bucket first
       ≤ (nodes_after p first).epoch + disturbed_at p bucket last
   advances_disturb first last a b c =
-      let whole : Begins first r.seen = (b.0 ++ c.0, c.1 ∙ ap (λ l. l ++ c.0) b.1 ∙ append_assoc first b.0 c.0) in
-      let front : AdvancesNone p.who b.0 = front_none p.who b.0 c.0 (advances_none p r same_r none first a whole) in
       let P : List Event → Type 0 =
       λ l. (nodes_after p l).epoch + disturbed_at p bucket first
       ≤ (nodes_after p first).epoch + disturbed_at p bucket l in
-      subst P (sym b.1) (moved_by_others p.start p.who bucket first b.0 front)
-    where
-      front_none : (who : ℕ) (xs ys : List Event) → AdvancesNone who (xs ++ ys) → AdvancesNone who xs
-      front_none who [] ys h = tt
-      front_none who (x ∷ xs) ys h = (h.0, front_none who xs ys h.1)
+      subst P (sym b.1) (moved_by_others p.start p.who bucket first b.0
+      (none_between is_advance IsAdvance is_advance_from p r same_r none a b c))
 
   -- the epoch of a later moment is no less
   pub epochs_grow : (first last : List Event) → Begins first last → Begins last r.seen →

@@ -1,14 +1,9 @@
 -- What was found was so at a moment.
 use Rattle.vbr_list.proofs.Names.{◌≡◌, ℕ, ◌<◌, Bool, true, false, List, Option, Some, None, sym, subst, arith}
-use Rattle.vbr_list.proofs.Names.{nat_tests}
-use Rattle.vbr_list.proofs.Names.{At, Begins, begins_trans, Event, Held, IsRun, IsSame, IsStart, Keeps, KeyAt, Know}
-use Rattle.vbr_list.proofs.Names.{knows, link_of, moment_before, Quiet, StandsBefore, Start, Stood, stood_before, Trace}
+use Rattle.vbr_list.proofs.Names.{nat_tests, At, Begins, begins_trans, CurStood, Event, Found, HasComeTo, Held, IsCur}
+use Rattle.vbr_list.proofs.Names.{IsEnd, IsFound, IsRun, IsSame, IsStart, Keeps, KeyAt, Know, knows, link_of, Locates}
+use Rattle.vbr_list.proofs.Names.{Moment, moment_before, Quiet, StandsBefore, Start, Stood, stood_before, Trace}
 use Rattle.vbr_list.proofs.Names.{was_absent, was_present, WasSo}
-use Rattle.vbr_slots.specs.steps.Calls.{Moment}
-use Rattle.vbr_list.specs.traversals.Found.{CurStood, IsFound}
-use Rattle.vbr_list.specs.traversals.Places.{IsCur, IsEnd, Locates}
-use Rattle.vbr_list.specs.traversals.Traversing.{HasComeTo}
-use Rattle.vbr_list.specs.declared.found.Found.{Found}
 use Rattle.vbr_list.proofs.traversals.Reaching.{key_kept, stood_since, pred_on}
 
 -- ---- what was found

@@ -1,15 +1,10 @@
 -- A traversal goes on from place to place.
 use Rattle.vbr_list.proofs.Names.{◌≡◌, ℕ, ◌<◌, ◌≤◌, Bool, true, false, ◌++◌, refl, sym, ap, ◌∙◌, subst, arith, eq-eqb}
-use Rattle.vbr_list.proofs.Names.{Some, ◌==◌, Contains-append_left}
-use Rattle.vbr_list.proofs.Names.{At, at_head, behind_kept, bucket_of, Head, Held, held_in_kept, held_in_next}
-use Rattle.vbr_list.proofs.Names.{held_kept, HeldIn, IsNext, IsRead, IsSame, IsSlot, Keeps, KeyAt, KeyOf, Know}
-use Rattle.vbr_list.proofs.Names.{know_retired, knows, link_of, PassView, Quiet, Slot, StandsBehind, Start, Stood}
-use Rattle.vbr_list.proofs.Names.{stood_after, stood_before, Trace}
-use Rattle.vbr_list.specs.calls.Pieces.{Goes}
-use Rattle.vbr_list.specs.traversals.Places.{IsCur, IsPred}
-use Rattle.vbr_list.specs.traversals.Traversing.{HasComeTo}
-use Rattle.vbr_list.specs.traversals.Visiting.{HasKey, StartsAt}
-use Rattle.vbr_list.specs.traversals.Searching.{ReadsNext}
+use Rattle.vbr_list.proofs.Names.{Some, ◌==◌, Contains-append_left, At, at_head, behind_kept, bucket_of, Goes}
+use Rattle.vbr_list.proofs.Names.{HasComeTo, HasKey, Head, Held, held_in_kept, held_in_next, held_kept, HeldIn, IsCur}
+use Rattle.vbr_list.proofs.Names.{IsNext, IsPred, IsRead, IsSame, IsSlot, Keeps, KeyAt, KeyOf, Know, know_retired}
+use Rattle.vbr_list.proofs.Names.{knows, link_of, PassView, Quiet, ReadsNext, Slot, StandsBehind, Start, StartsAt}
+use Rattle.vbr_list.proofs.Names.{Stood, stood_after, stood_before, Trace}
 use Rattle.vbr_list.proofs.pieces.Going.{tries_on}
 use Rattle.vbr_list.proofs.traversals.Traversals.{IsPlaceBefore, IsPlaceIn, StoodBefore, Traverses}
 use Rattle.vbr_list.proofs.traversals.Visits.{GoesAlong}

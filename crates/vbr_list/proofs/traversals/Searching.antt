@@ -1,25 +1,18 @@
 -- Traversals one after another, each but the last disturbed by another pass, and what calls cost that make them.
-use Rattle.vbr_list.proofs.Names.{◌≡◌, ℕ, ◌+◌, ◌*◌, ◌<◌, ◌≤◌, List, sym, ap}
-use Rattle.vbr_list.proofs.Names.{◌∙◌, subst, arith, mul-le}
-use Rattle.vbr_list.proofs.Names.{advances, Begins, begins_refl, begins_run, begins_trans, bucket_of}
-use Rattle.vbr_list.proofs.Names.{EpochSpent, Event, Held}
-use Rattle.vbr_list.proofs.Names.{incarnations_after, IsFresh, IsOpenIn, IsRun, IsSame, IsStart}
-use Rattle.vbr_list.proofs.Names.{link_shown_at, NoSlot, OutOfSteps}
-use Rattle.vbr_list.proofs.Names.{PassLaw, PassView, Quiet, quiet_on, Refusal, same_on}
-use Rattle.vbr_list.proofs.Names.{Start, Trace}
-use Rattle.vbr_list.specs.calls.Budgets.{LacksSteps, enough_past, listed_for, nodes_listed_in}
-use Rattle.vbr_list.specs.declared.found.Found.{Found}
-use Rattle.vbr_list.specs.traversals.Disturbed.{changed_after, disturbed, disturbed_after, disturbed_at, disturbed_in}
-use Rattle.vbr_list.specs.traversals.Disturbed.{enough_to_insert_among, searches_more}
-use Rattle.vbr_list.specs.updates.Inserting.{SearchedFor, Searches, SearchesFor, SearchesInVain}
-use Rattle.vbr_list.specs.traversals.Traversing.{LastTraversal}
-use Rattle.vbr_list.specs.traversals.Searching.{IsDisturbed, LooksTo, LosesFound, LosesHeld}
-use Rattle.vbr_list.specs.traversals.Searching.{Repeats, RepeatsIn, SearchesIn, StoodOpen, TraversesAgain}
-use Rattle.vbr_list.specs.traversals.Searching.{TraversesAgainIn, TraversesOnce, met_in, met_since, nodes_after}
+use Rattle.vbr_list.proofs.Names.{◌≡◌, ℕ, ◌+◌, ◌*◌, ◌<◌, ◌≤◌, List, sym, ap, ◌∙◌, subst, arith, mul-le, advances}
+use Rattle.vbr_list.proofs.Names.{Begins, begins_refl, begins_run, begins_trans, bucket_of, changed_after, disturbed}
+use Rattle.vbr_list.proofs.Names.{disturbed_after, disturbed_at, disturbed_in, enough_past, enough_to_insert_among}
+use Rattle.vbr_list.proofs.Names.{EpochSpent, Event, Found, Held, incarnations_after, IsDisturbed, IsFresh, IsOpenIn}
+use Rattle.vbr_list.proofs.Names.{IsRun, IsSame, IsStart, LacksSteps, LastTraversal, link_shown_at, listed_for}
+use Rattle.vbr_list.proofs.Names.{LooksTo, LosesFound, LosesHeld, met_in, met_since, nodes_after, nodes_listed_in}
+use Rattle.vbr_list.proofs.Names.{NoSlot, OutOfSteps, PassLaw, PassView, Quiet, quiet_on, Refusal, Repeats, RepeatsIn}
+use Rattle.vbr_list.proofs.Names.{same_on, SearchedFor, Searches, searches_more, SearchesFor, SearchesIn}
+use Rattle.vbr_list.proofs.Names.{SearchesInVain, Start, StoodOpen, Trace, TraversesAgain, TraversesAgainIn}
+use Rattle.vbr_list.proofs.Names.{TraversesOnce}
 use Rattle.vbr_list.proofs.traversals.Disturbing.{disturbed_same, disturbed_there, grows_disturbed, loses_disturb}
 use Rattle.vbr_list.proofs.traversals.Disturbing.{loses_found_disturb, met_after, met_before, met_less, met_quiet}
-use Rattle.vbr_list.proofs.traversals.Disturbing.{met_unanswered}
-use Rattle.vbr_list.proofs.traversals.Disturbing.{met_until, run_at, run_to, same_between}
+use Rattle.vbr_list.proofs.traversals.Disturbing.{grown_disturbed, met_unanswered, met_until, run_at, run_of, run_to}
+use Rattle.vbr_list.proofs.traversals.Disturbing.{same_between}
 
 -- ---- again and again
 
@@ -65,7 +58,7 @@ more_tries per e last tries m1 m2 m before a b x y l k =
 module _ {per each : ℕ} {p : PassView} {q r : Trace} (law : PassLaw p) (first : Quiet p.trace q) (then : Quiet q r)
     {bucket before used : ℕ} (x : HasRepeatedIn per p.trace q bucket each before used) where
   run_now : IsRun p.trace.start p.trace.passes r.seen
-  run_now = run_at p.trace r (quiet_on first then).same ((quiet_on first then).is_run law.is_run)
+  run_now = run_of law (quiet_on first then)
 
   traversed : (last : ℕ) {mid : ℕ} → TraversesOnce per last q r bucket used mid →
       mid ≤ before + per * met_in p.trace r bucket + x.lost * (per * met_in p.trace r bucket + each) + last
@@ -109,12 +102,10 @@ pub traverses_again : {per : ℕ} {p : PassView} {q r : Trace} → PassLaw p →
     {bucket before used now_used : ℕ} → HasRepeatedIn per p.trace q bucket 3 before used →
     TraversesOnce per 3 q r bucket used now_used → TraversesAgainIn per p.trace r bucket before now_used
 traverses_again {p = p} {q = q} {r = r} law first then {bucket = bucket} x once =
-    let whole = quiet_on first then in
     record {
       lost = x.lost;
       repeats = last_traversal law first then x once (disturbed_at p.trace bucket r.seen)
-          (grows_disturbed p.trace r law.start (run_at p.trace r whole.same (whole.is_run law.is_run)) bucket q.seen
-          then.seen);
+          (grows_disturbed p.trace r law.start (run_of law (quiet_on first then)) bucket q.seen then.seen);
     }
 
 -- so it is of a look
@@ -169,9 +160,9 @@ module _ (p q m r : Trace) (is : IsStart p.start) (ok : IsRun p.start p.passes r
   -- a look-up
   pub round_on : IsSame p m → IsSame p r → Begins p.seen q.seen → Begins q.seen m.seen → Begins m.seen r.seen →
       changed_after p key r.seen ≡ changed_after p key p.seen →
-      {used mid now_used : ℕ} (held : Held) → HasRepeated 5 p q key (3 + each) 0 used → IsFresh m →
-      LooksTo q m key used mid held → now_used ≤ mid + each → LosesHeld m r held →
-      HasRepeated 5 p r key (3 + each) 0 now_used
+      {before_all used mid now_used : ℕ} (held : Held) → HasRepeated 5 p q key (3 + each) before_all used →
+      IsFresh m → LooksTo q m key used mid held → now_used ≤ mid + each → LosesHeld m r held →
+      HasRepeated 5 p r key (3 + each) before_all now_used
   round_on sm sr a b c own held x fresh look few loses =
       let less = loses_disturb p r is ok (bucket_of p.start.shape key) m held sm sr
       (begins_trans p.seen q.seen m.seen a b) c own fresh
@@ -257,13 +248,12 @@ pub searched_since : {p : PassView} {q r : Trace} → PassLaw p → Quiet p.trac
     * (per * (nodes_listed_in p.trace bucket + disturbed_in p.trace r bucket) + each) + more)
 searched_since {p} {q} {r} law first then {bucket} {per} {each} {before} {since_then} {more} x =
     let whole = quiet_on first then in
-    let ok = run_at p.trace r whole.same (whole.is_run law.is_run) in
+    let ok = run_of law whole in
     let later = met_after p.trace r law.start ok bucket q first.same first.seen then.seen in
     let met = met_unanswered p.trace r law.start ok bucket whole in
     let here = disturbed_there p.trace q bucket q.seen first.same in
     let there = disturbed_there p.trace q bucket r.seen first.same in
-    let grows = grows_disturbed p.trace q law.start (run_at p.trace q first.same (first.is_run law.is_run)) bucket
-    p.trace.seen first.seen in
+    let grows = grown_disturbed law first bucket in
     let few = x.few in
     searched_few per before each x.lost (met_in q r bucket)
     (nodes_listed_in p.trace bucket + disturbed_in p.trace r bucket) (disturbed_in p.trace r bucket) since_then more

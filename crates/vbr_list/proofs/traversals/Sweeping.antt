@@ -1,20 +1,15 @@
 -- What a traversal to a key, and an unlinking, show of removed nodes: they have left their list.
-use Rattle.vbr_list.proofs.Names.{◌≡◌, ℕ, ◌+◌, ◌≤◌, false, Option, Some, None, sym, subst, arith, IfSome, IfNone}
-use Rattle.vbr_list.proofs.Names.{At, begins_refl, found_left, Ghosts, has_key, HasLeft, Held, held_key, held_on}
-use Rattle.vbr_list.proofs.Names.{HoldsMarked, incarnations_after, IsHeldIncarnation, IsRead, IsRemoved, IsRun, IsSame}
-use Rattle.vbr_list.proofs.Names.{IsStart, Keeps, KeyAt, KeyOf, knows, left_on, link_of, Marked, nodes, passed_left}
-use Rattle.vbr_list.proofs.Names.{PIECE, Quiet, removed_on, replaced_earlier, replaced_later, ReplacedAt, ReplacedLeft}
-use Rattle.vbr_list.proofs.Names.{same_on, skipped_left, Slot, StandsBehind, Start, Trace, WasShown}
-use Rattle.vbr_list.specs.traversals.Found.{IsFound}
-use Rattle.vbr_list.specs.traversals.Leaving.{LeavesAt, LeavesReplaced, Sweeps}
-use Rattle.vbr_list.specs.calls.Pieces.{trace_in}
-use Rattle.vbr_list.specs.traversals.Traversing.{SearchFinds, SearchTires}
-use Rattle.vbr_list.specs.declared.call.PendingCall.{PendingCall}
-use Rattle.vbr_list.specs.declared.found.Found.{Found}
+use Rattle.vbr_list.proofs.Names.{◌≡◌, ℕ, ◌+◌, ◌≤◌, false, Option, Some, None, sym, subst, arith, IfSome, IfNone, At}
+use Rattle.vbr_list.proofs.Names.{begins_refl, Found, found_left, Ghosts, has_key, HasLeft, Held, held_key, held_on}
+use Rattle.vbr_list.proofs.Names.{HoldsMarked, incarnations_after, IsFound, IsHeldIncarnation, IsRead, IsRemoved}
+use Rattle.vbr_list.proofs.Names.{IsRun, IsSame, IsStart, Keeps, KeyAt, KeyOf, knows, LeavesAt, LeavesReplaced}
+use Rattle.vbr_list.proofs.Names.{left_on, link_of, Marked, nodes, passed_left, PendingCall, PIECE, Quiet, removed_on}
+use Rattle.vbr_list.proofs.Names.{replaced_earlier, replaced_later, ReplacedAt, ReplacedLeft, same_on, SearchFinds}
+use Rattle.vbr_list.proofs.Names.{SearchTires, skipped_left, Slot, StandsBehind, Start, Sweeps, Trace, trace_in}
+use Rattle.vbr_list.proofs.Names.{WasShown, wide_found}
 use Rattle.vbr_list.proofs.traversals.Clearing.{was_shown}
 use Rattle.vbr_list.proofs.traversals.Disturbing.{run_at}
 use Rattle.vbr_list.proofs.traversals.Moments.{by_found, key_known}
-use Rattle.vbr_list.specs.calls.Words.{wide_found}
 
 -- ---- from the start of one trace to that of another
 

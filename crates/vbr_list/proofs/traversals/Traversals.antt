@@ -1,17 +1,7 @@
 -- How far the loop of a traversal has come: what its pass did since it began, and where it stands.
-use Rattle.vbr_list.proofs.Names.{ℕ, ◌<◌}
-use Rattle.vbr_list.proofs.Names.{Held, IsFresh, knows, LeadsTo, link_of, PassView}
-use Rattle.vbr_list.specs.calls.Pieces.{Peeks, Tries}
-use Rattle.vbr_list.specs.traversals.Traversing.{HasComeTo}
-use Rattle.vbr_slots.specs.views.Views.{Trace}
-use Rattle.vbr_at_table.specs.reads.Moments.{Stood}
+use Rattle.vbr_list.proofs.Names.{ℕ, ◌<◌, ◌≡◌, ◌≤◌, false, bucket_of, HasComeTo, Held, HeldIn, IsFresh, IsHeld, Know}
+use Rattle.vbr_list.proofs.Names.{knows, LeadsTo, link_of, PassView, Peeks, StandsBehind, Start, Stood, Trace, Tries}
 use Rattle.vbr_list.proofs.traversals.Visits.{GoesAlong}
-use Rattle.vbr_machine.specs.Knowledge.{Know}
-use Rattle.vbr_machine.specs.Membership.{HeldIn, StandsBehind}
-use Rattle.vbr_at_table.specs.reads.Held.{IsHeld}
-use Rattle.std.specs.Prelude.{◌≡◌, ◌≤◌, false}
-use Rattle.vbr_machine.specs.Start.{Start}
-use Rattle.vbr_words.specs.Buckets.{bucket_of}
 
 -- a place before a number: it is held in the bucket, its link is unmarked, and each key of the bucket from the number
 -- on stands behind it

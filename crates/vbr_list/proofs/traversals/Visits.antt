@@ -1,21 +1,15 @@
 -- A traversal along a bucket goes on from place to place, whatever others do meanwhile.
-use Rattle.vbr_list.proofs.Names.{◌≡◌, ℕ, suc, ◌+◌, ◌*◌, ◌<◌, ◌≤◌, true, false, List, Option, Some, None, refl, sym, ap}
-use Rattle.vbr_list.proofs.Names.{◌∙◌, subst, arith, is_some, mul-le}
-use Rattle.vbr_list.proofs.Names.{ahead_few, At, Begins, begins_refl, begins_run, begins_trans, disturbances_grow}
-use Rattle.vbr_list.proofs.Names.{Event, HasVisited, head_visited, Held, held_of, HeldIn, incarnations_after, IsAhead}
-use Rattle.vbr_list.proofs.Names.{IsFresh, IsOpenIn, IsRun, IsSame, IsStart, knows, link_at, link_of, link_shown_at}
-use Rattle.vbr_list.proofs.Names.{Marked, next_visited, own_changes, PassLaw, PassView, Quiet, quiet_on, same_refl}
-use Rattle.vbr_list.proofs.Names.{shown_there, since, Slot, Start, Stood, Trace, unmarked_open, visited_few, visited_on}
-use Rattle.vbr_list.proofs.Names.{world_after}
-use Rattle.vbr_list.specs.traversals.Disturbed.{changed_at, disturbed_at}
-use Rattle.vbr_list.specs.traversals.Helping.{OpensPlace}
-use Rattle.vbr_list.specs.calls.Pieces.{Observes}
-use Rattle.vbr_list.specs.traversals.Visiting.{MeetsBehind, StartsAt, met_place}
-use Rattle.vbr_list.specs.traversals.Searching.{IsDisturbed, KnowsEpoch, MovesEpoch, MovesSince, ReadsNext, StandsStill}
-use Rattle.vbr_list.specs.traversals.Searching.{StoodOpen}
-use Rattle.vbr_list.specs.traversals.Searching.{TraversesOnce, met_in, nodes_after}
-use Rattle.vbr_list.specs.declared.visiting.Visited.{Visited}
-use Rattle.vbr_list.proofs.traversals.Disturbing.{fresh_at, kept_between, met_until, moves_disturb, run_at}
+use Rattle.vbr_list.proofs.Names.{◌≡◌, ℕ, suc, ◌+◌, ◌*◌, ◌<◌, ◌≤◌, true, false, List, Option, Some, None, refl, sym}
+use Rattle.vbr_list.proofs.Names.{ap, ◌∙◌, subst, arith, is_some, mul-le, ahead_few, At, Begins, begins_refl}
+use Rattle.vbr_list.proofs.Names.{begins_run, begins_trans, changed_at, disturbances_grow, disturbed_at, Event}
+use Rattle.vbr_list.proofs.Names.{HasVisited, head_visited, Held, held_of, HeldIn, incarnations_after, IsAhead}
+use Rattle.vbr_list.proofs.Names.{IsDisturbed, IsFresh, IsOpenIn, IsRun, IsSame, IsStart, knows, KnowsEpoch, link_at}
+use Rattle.vbr_list.proofs.Names.{link_of, link_shown_at, Marked, MeetsBehind, met_in, met_place, MovesEpoch}
+use Rattle.vbr_list.proofs.Names.{MovesSince, next_visited, nodes_after, Observes, OpensPlace, own_changes, PassLaw}
+use Rattle.vbr_list.proofs.Names.{PassView, Quiet, quiet_on, ReadsNext, same_refl, shown_there, since, Slot}
+use Rattle.vbr_list.proofs.Names.{StandsStill, Start, StartsAt, Stood, StoodOpen, Trace, TraversesOnce, unmarked_open}
+use Rattle.vbr_list.proofs.Names.{Visited, visited_few, visited_on, world_after}
+use Rattle.vbr_list.proofs.traversals.Disturbing.{fresh_at, kept_between, met_until, moves_disturb, run_of}
 use Rattle.vbr_list.proofs.traversals.Disturbing.{unchanged_at}
 
 -- a traversal along a bucket stands at a place, behind a place that stood open; for each node that it has visited it made no
@@ -97,7 +91,7 @@ module _ {p q r : Trace} (is : IsStart p.start) (ok : IsRun p.start p.passes r.s
 module _ {p : PassView} {r : Trace} (law : PassLaw p) (bucket : ℕ) (quiet : Quiet p.trace r)
     (observes : Observes p.trace r) where
   ok : IsRun p.trace.start p.trace.passes r.seen
-  ok = run_at p.trace r quiet.same (quiet.is_run law.is_run)
+  ok = run_of law quiet
 
   unmoved : changed_at p.trace bucket r.seen ≡ changed_at p.trace bucket p.trace.seen
   unmoved = unchanged_at p.trace p.trace r bucket law.start ok (same_refl p.trace) quiet.same quiet.seen
@@ -151,9 +145,8 @@ pub paid_so_far : {p : PassView} {q : Trace} {per bucket before since_then : ℕ
     Quiet p.trace q → GoesAlong per p.trace q bucket before since_then pred here →
     TraversesOnce per 3 p.trace q bucket before since_then
 paid_so_far {p} {q} {per} {bucket} {here = here} law quiet w =
-    let few = visited_few p.trace.start p.trace.passes q.seen law.start
-    (run_at p.trace q quiet.same (quiet.is_run law.is_run)) (nodes_after p.trace p.trace.seen) (knows q).epoch bucket
-    w.visited (link_of here.word).slot w.ahead in
+    let few = visited_few p.trace.start p.trace.passes q.seen law.start (run_of law quiet)
+    (nodes_after p.trace p.trace.seen) (knows q).epoch bucket w.visited (link_of here.word).slot w.ahead in
     let steps = w.steps in
     let more = mul-le per w.visited per (met_in p.trace q bucket) (omega arith) few in
     omega (arith, more, steps)
@@ -165,7 +158,7 @@ module _ {p : PassView} {q r : Trace} (law : PassLaw p) (bucket : ℕ) (first : 
   whole = quiet_on first visit
 
   pub visited_run : IsRun p.trace.start p.trace.passes r.seen
-  visited_run = run_at p.trace r whole.same (whole.is_run law.is_run)
+  visited_run = run_of law whole
 
   run_before : IsRun p.trace.start p.trace.passes q.seen
   run_before = begins_run p.trace.start p.trace.passes q.seen r.seen visit.seen visited_run

@@ -1,6 +1,4 @@
-use Rattle.vbr_list.proofs.Names.{ap, rules, true, ◌∙◌}
-use Rattle.vbr_list.proofs.Names.{Get, Start}
-use Rattle.vbr_list.specs.named_entries.Entries.{FindsNamedEntry, value_of_entry}
+use Rattle.vbr_list.proofs.Names.{ap, rules, true, ◌∙◌, FindsNamedEntry, Get, Start, value_of_entry}
 use Rattle.vbr_list.proofs.pieces.Told.{calls_as, calls_entry, given_kept, look_up_as}
 use Rattle.vbr_list.proofs.entries.get_entry.Goals as goal
 

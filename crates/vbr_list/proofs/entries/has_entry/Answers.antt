@@ -1,7 +1,5 @@
-use Rattle.vbr_list.proofs.Names.{◌≡◌, rules, false, refl, sym, ◌∙◌, ap, Option, is_some}
-use Rattle.vbr_list.proofs.Names.{Has, set_call}
-use Rattle.vbr_list.specs.named_entries.Entries.{FindsNamedEntry, entry_in, value_of_entry}
-use Rattle.vbr_list.specs.declared.entries.Entry.{Entry}
+use Rattle.vbr_list.proofs.Names.{◌≡◌, rules, false, refl, sym, ◌∙◌, ap, Option, is_some, Entry, entry_in}
+use Rattle.vbr_list.proofs.Names.{FindsNamedEntry, Has, set_call, value_of_entry}
 use Rattle.vbr_list.proofs.named_entries.EntryAnswers.{some_entry}
 use Rattle.vbr_list.proofs.pieces.Told.{calls_as, look_up_as, told_bare}
 use Rattle.vbr_list.proofs.entries.has_entry.Goals as goal

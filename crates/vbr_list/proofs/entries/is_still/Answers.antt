@@ -1,5 +1,4 @@
-use Rattle.std.proofs.Common.{rules, refl}
-use Rattle.vbr_at_table.specs.reads.Moments.{ShowsBirth}
+use Rattle.vbr_list.proofs.Names.{rules, refl, ShowsBirth}
 use Rattle.vbr_list.proofs.named_entries.EntryAnswers.{birth_tells}
 use Rattle.vbr_list.proofs.entries.is_still.Goals as goal
 

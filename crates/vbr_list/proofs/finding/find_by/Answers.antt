@@ -1,9 +1,7 @@
-use Rattle.vbr_list.proofs.Names.{rules, ◌≡◌, ◌≤◌, arith}
-use Rattle.vbr_list.proofs.Names.{begins_refl, quiet_refl, took_all}
-use Rattle.vbr_list.specs.calls.Budgets.{listed_for}
-use Rattle.vbr_list.specs.traversals.Disturbed.{disturbed, find_costs_among}
+use Rattle.vbr_list.proofs.Names.{rules, ◌≡◌, ◌≤◌, arith, begins_refl, disturbed, find_costs_among, listed_for}
+use Rattle.vbr_list.proofs.Names.{quiet_refl, took_all}
 use Rattle.vbr_list.proofs.traversals.Clearing.{clear_found}
-use Rattle.vbr_list.proofs.traversals.Disturbing.{run_at, undisturbed}
+use Rattle.vbr_list.proofs.traversals.Disturbing.{run_of, undisturbed}
 use Rattle.vbr_list.proofs.traversals.Moments.{was_so}
 use Rattle.vbr_list.proofs.inserts.Sufficing.{search_lacks}
 use Rattle.vbr_list.proofs.traversals.Searching.{call_paid, lacks_steps, repeated_none}
@@ -15,7 +13,7 @@ returns-in-Some-clause-found g c =
     let p = c.args.stepper.now.trace in
     let r = c.search.new.self.at.stepper.now.trace in
     let quiet = c.search.ensures.goes.goes.quiet in
-    let ok = run_at p r quiet.same (quiet.is_run c.law.ensures.is_run) in
+    let ok = run_of c.law.ensures quiet in
     let paid = call_paid p p r r c.law.ensures.start ok c.args.key 3 (quiet_refl p) quiet (begins_refl r.seen)
     (omega arith, omega arith) (repeated_none 9 p c.args.key 3 0) c.in-Some.ensures.found.traverses
     c.search.new.self.used 0
@@ -43,7 +41,7 @@ returns-in-None-clause-tired g c =
     let p = c.args.stepper.now.trace in
     let r = c.search.new.self.at.stepper.now.trace in
     let quiet = c.search.ensures.goes.goes.quiet in
-    let ok = run_at p r quiet.same (quiet.is_run c.law.ensures.is_run) in
+    let ok = run_of c.law.ensures quiet in
     let tired = c.in-None.ensures.tired in
     let lacks = lacks_steps p p r c.law.ensures.start ok c.args.key (quiet_refl p) quiet (omega arith)
     (repeated_none 9 p c.args.key 3 0) tired.traverses c.args.budget tired.tired in

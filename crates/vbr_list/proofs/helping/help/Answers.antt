@@ -1,5 +1,4 @@
-use Rattle.vbr_list.proofs.Names.{PassView, subst, sym}
-use Rattle.vbr_list.specs.traversals.Helping.{GoesIn}
+use Rattle.vbr_list.proofs.Names.{subst, sym, GoesIn, PassView}
 use Rattle.vbr_list.proofs.helping.help.Goals as goal
 
 pub returns-then-now-place-clause-goes : goal.returns-then-now-place-clause-goes

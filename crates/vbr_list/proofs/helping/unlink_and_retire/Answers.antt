@@ -1,10 +1,8 @@
-use Rattle.vbr_list.proofs.Names.{◌+◌, ℕ, sym, ◌∙◌, subst, arith}
-use Rattle.vbr_list.proofs.Names.{At, behind_kept, counts_on, is_kept, IsUnlinked, KeepsUnlinked, KeyOf, knows, link_of}
-use Rattle.vbr_list.proofs.Names.{quiet_on, StandsBehind, Start, unchanged_by_none}
-use Rattle.vbr_at_table.specs.reads.Held.{said, said_marked, said_rollback}
-use Rattle.vbr_list.specs.calls.Pieces.{Goes}
+use Rattle.vbr_list.proofs.Names.{◌+◌, ℕ, sym, ◌∙◌, subst, arith, At, behind_kept, counts_on, Goes, is_kept}
+use Rattle.vbr_list.proofs.Names.{IsUnlinked, KeepsUnlinked, KeyOf, knows, link_of, quiet_on, said, said_marked}
+use Rattle.vbr_list.proofs.Names.{said_rollback, StandsBehind, Start}
 use Rattle.vbr_list.proofs.traversals.Clearing.{clear_before, clear_skipped, out_kept}
-use Rattle.vbr_list.proofs.traversals.Disturbing.{loses_place, moved_late, opened, run_at}
+use Rattle.vbr_list.proofs.traversals.Disturbing.{loses_place, moved_late, opened, unchanged_of}
 use Rattle.vbr_list.proofs.pieces.Going.{counts_step, took_same}
 use Rattle.vbr_list.proofs.pieces.KeptHands.{helped_hand, retired_hand}
 use Rattle.vbr_list.proofs.traversals.Reaching.{helped, retired_keeps}
@@ -90,9 +88,5 @@ returns-in-Err-clause-lost g c =
     loses_place c.args.at.now.stepper.now.trace c.unlink-outcome.new.at.stepper.now.trace
     (said c.args.at.now.slots.now c.args.pred.now)
     (said_rollback c.args.at.now.slots.now c.in-Err.rollback) c.unlink-outcome.ensures.stays.quiet.same failed.rolled
-    failed.fresh
-    (unchanged_by_none c.law.ensures.start
-    (run_at c.args.at.now.stepper.now.trace c.unlink-outcome.new.at.stepper.now.trace
-    c.unlink-outcome.ensures.stays.quiet.same (c.unlink-outcome.ensures.stays.quiet.is_run c.law.ensures.is_run))
-    c.unlink-outcome.ensures.stays.quiet.same c.unlink-outcome.ensures.stays.quiet.seen failed.adds_none)
+    failed.fresh (unchanged_of c.law.ensures c.unlink-outcome.ensures.stays.quiet failed.adds_none)
     c.unlink-outcome.ensures.stays.quiet.seen

@@ -6,38 +6,36 @@ use Rattle.vbr_list.proofs.holding.insert_held_by.Goals as goal
 pub store_held-requires-clause-asked : goal.store_held-requires-clause-asked
 store_held-requires-clause-asked g c = record { values = λ gives. absurd (cc); absent = λ gives. refl }
 
-pub returns-in-Ok-clause-took : goal.returns-in-Ok-clause-took
-returns-in-Ok-clause-took g c =
-    let same : c.stepper-1.given.0 ≡ c.store_held.new.self.at.stepper.now = search rules in
-    rw same (took_all c.store_held.ensures.counts.counts)
-
-pub returns-in-Ok-clause-inserts : goal.returns-in-Ok-clause-inserts
-returns-in-Ok-clause-inserts g c =
+pub returns-in-Ok : goal.returns-in-Ok
+returns-in-Ok g c =
     let same : c.stepper-1.given.0 ≡ c.store_held.new.self.at.stepper.now = search rules in
     let x = c.store_held.ensures in
+    let took = took_all x.counts.counts in
     rw same (record {
-      steps = within_all x.counts;
-      takes_no_slot = x.takes_no_slot;
-      since = c.store_held.new.self.used;
-      took = took_all x.counts.counts;
-      published = c.in-Ok.ensures.stored.stores;
-      kept = tt;
+      took = took;
+      inserts = record {
+        steps = within_all x.counts;
+        takes_no_slot = x.takes_no_slot;
+        since = c.store_held.new.self.used;
+        took = took;
+        published = c.in-Ok.ensures.stored.stores;
+        kept = tt;
+      };
     })
 
-pub returns-in-Err-clause-took : goal.returns-in-Err-clause-took
-returns-in-Err-clause-took g c =
-    let same : c.stepper-in-Err-1.given.0 ≡ c.store_held.new.self.at.stepper.now = search rules in
-    rw same (took_all c.store_held.ensures.counts.counts)
-
-pub returns-in-Err-clause-inserts : goal.returns-in-Err-clause-inserts
-returns-in-Err-clause-inserts g c =
+pub returns-in-Err : goal.returns-in-Err
+returns-in-Err g c =
     let same : c.stepper-in-Err-1.given.0 ≡ c.store_held.new.self.at.stepper.now = search rules in
     let x = c.store_held.ensures in
+    let took = took_all x.counts.counts in
     rw (same, c.of_insert.ensures) (record {
-      steps = within_all x.counts;
-      takes_no_slot = x.takes_no_slot;
-      since = c.store_held.new.self.used;
-      took = took_all x.counts.counts;
-      published = tt;
-      kept = kept_held c.args.value c.in-Err.back c.in-Err.why c.in-Err.ensures.kept;
+      took = took;
+      inserts = record {
+        steps = within_all x.counts;
+        takes_no_slot = x.takes_no_slot;
+        since = c.store_held.new.self.used;
+        took = took;
+        published = tt;
+        kept = kept_held c.args.value c.in-Err.back c.in-Err.why c.in-Err.ensures.kept;
+      };
     })

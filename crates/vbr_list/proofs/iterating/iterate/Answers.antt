@@ -1,8 +1,5 @@
-use Rattle.vbr_list.proofs.Names.{◌≡◌, ℕ, ◌<◌, ◌≤◌, Option, Some, None, refl, sym, ap, ◌∙◌, subst}
-use Rattle.vbr_list.proofs.Names.{Dimensions, Start}
-use Rattle.vbr_list.specs.look_ups.Seeking.{Sought}
-use Rattle.vbr_list.specs.declared.cursor.Cursor.{Cursor}
-use Rattle.vbr_list.specs.declared.seeking.NextNode.{NextNode}
+use Rattle.vbr_list.proofs.Names.{◌≡◌, ℕ, ◌<◌, ◌≤◌, Option, Some, None, refl, sym, ap, ◌∙◌, subst, Cursor, Dimensions}
+use Rattle.vbr_list.proofs.Names.{NextNode, Sought, Start}
 use Rattle.vbr_list.proofs.iterations.ComingBy.{HasComeBy, come_none, come_on, come_short, come_to, come_to_end}
 use Rattle.vbr_list.proofs.iterating.iterate.Goals as goal
 

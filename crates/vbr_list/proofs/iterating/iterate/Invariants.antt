@@ -1,5 +1,4 @@
-use Rattle.vbr_list.proofs.Names.{◌-◌}
-use Rattle.vbr_list.proofs.Names.{IsSameTable}
+use Rattle.vbr_list.proofs.Names.{◌-◌, IsSameTable}
 use Rattle.vbr_list.proofs.iterations.ComingBy.{HasComeBy}
 use Rattle.vbr_list.proofs.iterating.iterate.Given as goal
 

@@ -1,7 +1,5 @@
-use Rattle.vbr_list.proofs.Names.{ap, rules, sym, true, ◌∙◌, Option, ℕ, Result, subst}
-use Rattle.vbr_list.proofs.Names.{Get, Refusal, Start}
-use Rattle.vbr_list.specs.calls.CallBounds.{CallsGet}
-use Rattle.vbr_list.specs.named_entries.Entries.{FindsNamedEntry, value_given}
+use Rattle.vbr_list.proofs.Names.{ap, rules, sym, true, ◌∙◌, Option, ℕ, Result, subst, CallsGet, FindsNamedEntry, Get}
+use Rattle.vbr_list.proofs.Names.{Refusal, Start, value_given}
 use Rattle.vbr_list.proofs.named_entries.EntryAnswers.{value_calls}
 use Rattle.vbr_list.proofs.pieces.Told.{calls_as, calls_entry, given_kept, look_up_as}
 use Rattle.vbr_list.proofs.looking_up.get.Goals as goal

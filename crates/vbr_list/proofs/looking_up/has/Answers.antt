@@ -1,8 +1,5 @@
-use Rattle.vbr_list.proofs.Names.{◌≡◌, ap, rules, false, sym, ◌∙◌, Bool, Option, ℕ, Result, subst, is_some}
-use Rattle.vbr_list.proofs.Names.{Has, Refusal, set_call}
-use Rattle.vbr_list.specs.calls.CallBounds.{Calls}
-use Rattle.vbr_list.specs.calls.Told.{given_in, is_yes}
-use Rattle.vbr_list.specs.named_entries.Entries.{FindsNamedEntry, value_given}
+use Rattle.vbr_list.proofs.Names.{◌≡◌, ap, rules, false, sym, ◌∙◌, Bool, Option, ℕ, Result, subst, is_some, Calls}
+use Rattle.vbr_list.proofs.Names.{FindsNamedEntry, given_in, Has, is_yes, Refusal, set_call, value_given}
 use Rattle.vbr_list.proofs.named_entries.EntryAnswers.{value_calls}
 use Rattle.vbr_list.proofs.pieces.Told.{calls_yes, look_up_yes, told_bare}
 use Rattle.vbr_list.proofs.looking_up.has.Goals as goal

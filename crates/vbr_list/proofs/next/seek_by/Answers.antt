@@ -1,14 +1,9 @@
-use Rattle.vbr_list.proofs.Names.{ℕ, ◌+◌, ◌*◌, ◌<◌, ◌≤◌, Result, Ok, Err, Option, Some, None, IfErr, IfOk}
-use Rattle.vbr_list.proofs.Names.{subst, arith, mul-le}
-use Rattle.vbr_list.proofs.Names.{begins_refl, IsAlone, OutOfSteps, PassLaw, PassView, Refusal, took_all, TookWithin}
-use Rattle.vbr_list.specs.calls.Budgets.{nodes_listed_in, steps_to_value_of}
-use Rattle.vbr_list.specs.traversals.Disturbed.{disturbed_in, enough_among, seek_costs_among}
-use Rattle.vbr_list.specs.look_ups.Next.{Seeks, enough_to_seek, seek_costs}
-use Rattle.vbr_list.specs.calls.Refusals.{IsTired}
-use Rattle.vbr_list.specs.look_ups.Seeking.{Sought, steps_besides}
-use Rattle.vbr_list.specs.traversals.Searching.{SearchesIn}
-use Rattle.vbr_list.specs.declared.seeking.NextNode.{NextNode}
-use Rattle.vbr_list.proofs.traversals.Disturbing.{run_at, undisturbed_in}
+use Rattle.vbr_list.proofs.Names.{ℕ, ◌+◌, ◌*◌, ◌<◌, ◌≤◌, Result, Ok, Err, Option, Some, None, IfErr, IfOk, subst}
+use Rattle.vbr_list.proofs.Names.{arith, mul-le, begins_refl, disturbed_in, enough_among, enough_to_seek, IsAlone}
+use Rattle.vbr_list.proofs.Names.{IsTired, NextNode, nodes_listed_in, OutOfSteps, PassLaw, PassView, Refusal}
+use Rattle.vbr_list.proofs.Names.{SearchesIn, seek_costs, seek_costs_among, Seeks, Sought, steps_besides}
+use Rattle.vbr_list.proofs.Names.{steps_to_value_of, took_all, TookWithin}
+use Rattle.vbr_list.proofs.traversals.Disturbing.{run_of, undisturbed_in}
 use Rattle.vbr_list.proofs.pieces.Going.{within_of}
 use Rattle.vbr_list.proofs.look_ups.ValueReads.{few_to_value}
 use Rattle.vbr_list.proofs.traversals.Searching.{searched_in}
@@ -22,8 +17,8 @@ module _ {p q : PassView} (law : PassLaw p) {bucket from since budget : ℕ} whe
       * (5 * (nodes_listed_in p.trace bucket + disturbed_in p.trace q.trace bucket) + each) + more
   paid x y =
       let quiet = x.peeks.tries.goes.quiet in
-      let most = searched_in p.trace q.trace q.trace law.start
-      (run_at p.trace q.trace quiet.same (quiet.is_run law.is_run)) bucket quiet (begins_refl q.trace.seen) y in
+      let most = searched_in p.trace q.trace q.trace law.start (run_of law quiet) bucket quiet
+      (begins_refl q.trace.seen) y in
       omega (arith, most)
 
   -- what it returned, or how it was refused, is all that its ends have apart

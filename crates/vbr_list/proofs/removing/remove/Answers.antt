@@ -1,9 +1,4 @@
-use Rattle.vbr_list.proofs.Names.{ap, rules, ◌∙◌, is_some}
-use Rattle.vbr_list.proofs.Names.{Remove, Start}
-use Rattle.vbr_list.specs.traversals.Leaving.{BoundsOfRemove}
-use Rattle.vbr_list.specs.calls.CallBounds.{CallsAs}
-use Rattle.vbr_list.specs.calls.Told.{given_in}
-use Rattle.vbr_list.specs.updates.Outcomes.{there_in}
+use Rattle.vbr_list.proofs.Names.{ap, rules, ◌∙◌, is_some, BoundsOfRemove, CallsAs, given_in, Remove, Start, there_in}
 use Rattle.vbr_list.proofs.pieces.Told.{calls_yes, given_bare, remove_yes}
 use Rattle.vbr_list.proofs.removing.remove.Goals as goal
 

@@ -1,6 +1,4 @@
-use Rattle.vbr_list.proofs.Names.{ap, rules, ◌∙◌}
-use Rattle.vbr_list.proofs.Names.{Start}
-use Rattle.vbr_list.specs.named_entries.RemovingExactly.{RemovesNodeExactly}
+use Rattle.vbr_list.proofs.Names.{ap, rules, ◌∙◌, RemovesNodeExactly, Start}
 use Rattle.vbr_list.proofs.named_entries.RemovedEntries.{exactly_kept}
 use Rattle.vbr_list.proofs.removing.remove_exactly.Goals as goal
 

@@ -1,9 +1,5 @@
-use Rattle.vbr_list.proofs.Names.{ap, rules, ◌∙◌, Some}
-use Rattle.vbr_list.proofs.Names.{Start}
-use Rattle.vbr_list.specs.updates.Outcomes.{there_in}
-use Rattle.vbr_list.specs.updates.Expecting.{op_to_remove, removal_in, takes_out}
-use Rattle.vbr_list.specs.traversals.Leaving.{BoundsOfRemove}
-use Rattle.vbr_list.specs.calls.CallBounds.{CallsAs}
+use Rattle.vbr_list.proofs.Names.{ap, rules, ◌∙◌, Some, BoundsOfRemove, CallsAs, op_to_remove, removal_in, Start}
+use Rattle.vbr_list.proofs.Names.{takes_out, there_in}
 use Rattle.vbr_list.proofs.pieces.Told.{calls_as, calls_entry, given_kept}
 use Rattle.vbr_list.proofs.removing.remove_if.Goals as goal
 

@@ -1,6 +1,5 @@
-use Rattle.vbr_list.proofs.Names.{ap, rules, sym, ◌∙◌, Bool, Result, subst}
-use Rattle.vbr_list.proofs.Names.{Refusal, Start}
-use Rattle.vbr_list.specs.named_entries.RemovingExactly.{RemovesKeyExactly, RemovesNodeExactly}
+use Rattle.vbr_list.proofs.Names.{ap, rules, sym, ◌∙◌, Bool, Result, subst, Refusal, RemovesKeyExactly}
+use Rattle.vbr_list.proofs.Names.{RemovesNodeExactly, Start}
 use Rattle.vbr_list.proofs.named_entries.RemovedEntries.{exactly_bare}
 use Rattle.vbr_list.proofs.removing.remove_key_exactly.Goals as goal
 

@@ -1,7 +1,4 @@
-use Rattle.vbr_list.proofs.Names.{◌+◌, refl, ap, arith, PassView, sym, subst}
-use Rattle.vbr_list.specs.calls.Budgets.{steps_to_value_of}
-use Rattle.vbr_list.specs.look_ups.Seeking.{steps_besides}
-use Rattle.vbr_list.specs.calls.Pieces.{Peeks}
+use Rattle.vbr_list.proofs.Names.{◌+◌, refl, ap, arith, sym, subst, PassView, Peeks, steps_besides, steps_to_value_of}
 use Rattle.vbr_list.proofs.pieces.Going.{table_on}
 use Rattle.vbr_list.proofs.look_ups.Passing.{peeks_on, peeks_refl}
 use Rattle.vbr_list.proofs.look_ups.Following.{tells_since}

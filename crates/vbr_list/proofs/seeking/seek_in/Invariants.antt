@@ -1,7 +1,4 @@
-use Rattle.vbr_list.proofs.Names.{◌-◌}
-use Rattle.vbr_list.proofs.Names.{IsSameTable}
-use Rattle.vbr_list.specs.calls.Pieces.{Peeks}
-use Rattle.vbr_list.specs.look_ups.Seeking.{steps_besides}
+use Rattle.vbr_list.proofs.Names.{◌-◌, IsSameTable, Peeks, steps_besides}
 use Rattle.vbr_list.proofs.traversals.Searching.{HasRepeatedIn}
 use Rattle.vbr_list.proofs.seeking.seek_in.Given as goal
 

@@ -1,21 +1,15 @@
-use Rattle.vbr_list.proofs.Names.{rules, ◌≡◌, ◌+◌, sym, ap, ◌∙◌, subst, arith, Bool, true, false, not, Option, ℕ, None}
-use Rattle.vbr_list.proofs.Names.{is_none, is_some}
-use Rattle.vbr_list.proofs.Names.{Held, Link, link_of}
+use Rattle.vbr_list.proofs.Names.{rules, ◌≡◌, ◌+◌, sym, ap, ◌∙◌, subst, arith, Bool, true, not, Option, ℕ, is_none}
+use Rattle.vbr_list.proofs.Names.{is_some, Held, Link, link_of, said, said_marked}
 use Rattle.vbr_list.proofs.traversals.Disturbing.{moves_epoch}
 use Rattle.vbr_list.proofs.look_ups.Following.{follows_head, follows_marked, follows_node, peeks_behind, peeks_visit}
-use Rattle.vbr_list.proofs.look_ups.Following.{tells_next}
-use Rattle.vbr_list.proofs.look_ups.Following.{tells_none, value_lost, value_paid, visit_lost}
+use Rattle.vbr_list.proofs.look_ups.Following.{no_slot, tells_next, tells_none, value_lost, value_paid, visit_lost}
 use Rattle.vbr_list.proofs.pieces.Going.{goes_read, table_on}
 use Rattle.vbr_list.proofs.pieces.Observing.{reads_observe}
 use Rattle.vbr_list.proofs.traversals.Traversals.{Follows}
 use Rattle.vbr_list.proofs.look_ups.ValueReads.{steps_read}
 use Rattle.vbr_list.proofs.traversals.Visits.{paid_so_far, starts_none}
-use Rattle.vbr_at_table.specs.reads.Held.{said, said_marked}
 use Rattle.vbr_list.proofs.pieces.WideWords.{layout_at}
 use Rattle.vbr_list.proofs.seeking.traverse_in.Goals as goal
-
-no_slot : (o : Option ℕ) → is_some o ≡ false → o ≡ None
-no_slot o e = grind arith
 
 is_last_so : (is_last : Bool) (slot : Option ℕ) → is_some slot ≡ not is_last → is_last ≡ is_none slot
 is_last_so is_last slot e = grind arith

@@ -1,7 +1,5 @@
-use Rattle.vbr_list.proofs.Names.{◌-◌}
-use Rattle.vbr_list.proofs.Names.{Held, IsSameTable}
+use Rattle.vbr_list.proofs.Names.{◌-◌, Held, IsSameTable, said}
 use Rattle.vbr_list.proofs.traversals.Traversals.{Follows}
-use Rattle.vbr_at_table.specs.reads.Held.{said}
 use Rattle.vbr_list.proofs.seeking.traverse_in.Given as goal
 
 abbrev pub invariant-loop-here : goal.invariant-loop-here

@@ -1,9 +1,5 @@
-use Rattle.vbr_list.proofs.Names.{◌≡◌, Err, Ok, rules, refl}
-use Rattle.vbr_list.proofs.Names.{counts_on, had_back, had_on, none_back, none_on, took_all}
-use Rattle.vbr_list.specs.updates.HeldStores.{answer_unstored}
-use Rattle.vbr_list.specs.updates.NewValues.{value_by}
-use Rattle.vbr_list.specs.updates.Outcomes.{there_in}
-use Rattle.vbr_list.specs.updates.Preparing.{HasAnswered, HasPrepared}
+use Rattle.vbr_list.proofs.Names.{◌≡◌, Err, Ok, rules, refl, answer_unstored, counts_on, had_back, had_on}
+use Rattle.vbr_list.proofs.Names.{HasAnswered, HasPrepared, none_back, none_on, there_in, took_all, value_by}
 use Rattle.vbr_list.proofs.inserts.Preparing.{within_same}
 use Rattle.vbr_list.proofs.stores.StoredValues.{calls_stored, calls_told, calls_unprepared, calls_unstored}
 use Rattle.vbr_list.proofs.stores.StoredValues.{ends_prepared, spent_by, value_told}
@@ -54,15 +50,10 @@ returns-in-Ok-clause-calls g c =
 pub returns-in-Ok-clause-changed : goal.returns-in-Ok-clause-changed
 returns-in-Ok-clause-changed g c = c.in-Ok.ensures.stored.is
 
-pub returns-in-Err-store_held-clause-took : goal.returns-in-Err-store_held-clause-took
-returns-in-Err-store_held-clause-took g c =
+pub returns-in-Err-store_held : goal.returns-in-Err-store_held
+returns-in-Err-store_held g c =
     let same : c.stepper-in-Err-store_held-1.given.0 ≡ c.give_back.new.at.stepper.now = search rules in
     let counts = within_same c.give_back.ensures.back.trace c.store_held.ensures.counts in
-    rw same (took_all (counts_on c.prepare.ensures.prepares.counts.counts counts.counts))
-
-pub returns-in-Err-store_held-clause-calls : goal.returns-in-Err-store_held-clause-calls
-returns-in-Err-store_held-clause-calls g c =
-    let same : c.stepper-in-Err-store_held-1.given.0 ≡ c.give_back.new.at.stepper.now = search rules in
     let d = c.prepare.new.self in
     let e = c.store_held.new.self in
     let q = e.at.stepper.now in
@@ -77,11 +68,12 @@ returns-in-Err-store_held-clause-calls g c =
     rw c.in-Ok-Ready.field-0-is at c.in-Ok-Ready.ensures.prepared in
     let had = had_on d.at.stepper.now q r (rw c.in-Err-store_held.is at x.had)
     (had_back q r slot kept.has.is.slot back.pool) in
-    rw (same, c.answer.ensures) (calls_unstored {d = d} r (value_by c.args.value (there_in (answer_unstored why)))
-    c.args.wanted e.used c.law.ensures refl prepares
-    c.prepare.ensures.tries ready (rw prepares.call.budget at (within_same back.trace x.counts))
-    (none_on x.takes_no_slot (none_back q r slot back.trace back.pool back.kept)) back.hand c.args.gives _
-    c.requires.asked back.trace had why kept.is_not kept.says)
-
-pub returns-in-Err-store_held-clause-changed : goal.returns-in-Err-store_held-clause-changed
-returns-in-Err-store_held-clause-changed g c = rw c.answer.ensures c.in-Err-store_held.ensures.kept.is_not
+    record {
+      took = rw same (took_all (counts_on prepares.counts.counts counts.counts));
+      calls = rw (same, c.answer.ensures) (calls_unstored {d = d} r
+          (value_by c.args.value (there_in (answer_unstored why))) c.args.wanted e.used c.law.ensures refl prepares
+          c.prepare.ensures.tries ready (rw prepares.call.budget at (within_same back.trace x.counts))
+          (none_on x.takes_no_slot (none_back q r slot back.trace back.pool back.kept)) back.hand c.args.gives _
+          c.requires.asked back.trace had why kept.is_not kept.says);
+      changed = rw c.answer.ensures kept.is_not;
+    }

@@ -1,5 +1,4 @@
-use Rattle.vbr_list.proofs.Names.{◌≡◌, ◌+◌, Bool, refl, sym, ◌∙◌, subst}
-use Rattle.vbr_list.proofs.Names.{steps_to_value}
+use Rattle.vbr_list.proofs.Names.{◌≡◌, ◌+◌, Bool, refl, sym, ◌∙◌, subst, steps_to_value}
 use Rattle.vbr_list.proofs.valuing.steps_to_update.Goals as goal
 
 pub returns-then-VALUES : goal.returns-then-VALUES

@@ -1,5 +1,4 @@
-use Rattle.vbr_list.proofs.Names.{◌≡◌, Bool, refl, sym, ◌∙◌, subst}
-use Rattle.vbr_list.specs.calls.Budgets.{steps_where}
+use Rattle.vbr_list.proofs.Names.{◌≡◌, Bool, refl, sym, ◌∙◌, subst, steps_where}
 use Rattle.vbr_list.proofs.valuing.steps_to_value_of.Goals as goal
 
 pub returns-then-VALUES : goal.returns-then-VALUES

@@ -1,9 +1,5 @@
-use Rattle.vbr_list.proofs.Names.{ℕ, Ok, Err, IfOk, IfErr, Result}
-use Rattle.vbr_list.proofs.Names.{Held, IsFresh, IsHeadRead, PassView, reads_on, ReadsIn, Rollback, RollsBack}
-use Rattle.vbr_slots.specs.views.Views.{TableView}
-use Rattle.vbr_at_table.specs.reads.Held.{said}
-use Rattle.vbr_list.specs.traversals.Visiting.{StartsAt, StartsNone}
-use Rattle.vbr_list.specs.traversals.Searching.{Checks}
+use Rattle.vbr_list.proofs.Names.{rules, ℕ, Ok, Err, IfOk, IfErr, Result, Checks, Held, IsFresh, IsHeadRead, PassView}
+use Rattle.vbr_list.proofs.Names.{reads_on, ReadsIn, Rollback, RollsBack, said, StartsAt, StartsNone, TableView}
 use Rattle.vbr_list.proofs.traversals.Disturbing.{moves_epoch}
 use Rattle.vbr_list.proofs.visiting.start_at.Goals as goal
 
@@ -27,16 +23,14 @@ module _ {p q r : PassView} {m n : ℕ} (x : ReadsIn p q m) (y : ReadsIn q r n) 
   starts_none (Ok h) rolls = tt
   starts_none (Err e) rolls = record { checks = checked; moves = moves_epoch e rolls }
 
-pub returns-clause-reads : goal.returns-clause-reads
-returns-clause-reads g c = reads_on c.checkpoint-point.ensures.reads c.first.ensures.reads
-
-pub returns-clause-head : goal.returns-clause-head
-returns-clause-head g c =
-    starts c.checkpoint-point.ensures.reads c.first.ensures.reads c.checkpoint-point.ensures.point.fresh
-    c.args.at.now.slots.now c.args.bucket c.first.result
-    (rw c.checkpoint-point.ensures.table.slots at c.first.ensures.head)
-
-pub returns-clause-moved : goal.returns-clause-moved
-returns-clause-moved g c =
-    starts_none c.checkpoint-point.ensures.reads c.first.ensures.reads c.checkpoint-point.ensures.point.fresh
-    c.first.result c.first.ensures.moved
+pub returns : goal.returns
+returns g c =
+    record {
+      reads = reads_on c.checkpoint-point.ensures.reads c.first.ensures.reads;
+      head = starts c.checkpoint-point.ensures.reads c.first.ensures.reads c.checkpoint-point.ensures.point.fresh
+          c.args.at.now.slots.now c.args.bucket c.first.result
+          (rw c.checkpoint-point.ensures.table.slots at c.first.ensures.head);
+      moved = starts_none c.checkpoint-point.ensures.reads c.first.ensures.reads c.checkpoint-point.ensures.point.fresh
+          c.first.result c.first.ensures.moved;
+      table = search rules;
+    }

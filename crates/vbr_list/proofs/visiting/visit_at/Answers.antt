@@ -1,13 +1,8 @@
-use Rattle.vbr_list.proofs.Names.{◌≡◌, ◌≤◌, ℕ, ◌+◌, Option, Some, None, sym, ap, ◌∙◌, subst, arith, false, IsSome, refl}
-use Rattle.vbr_list.proofs.Names.{bucket_of, Held, held_kept, IsHeld, IsKeyRead, IsNext, IsSlot, keeps_on, knows}
-use Rattle.vbr_list.proofs.Names.{link_of, next_steps, PassView, reads_on, ReadsIn, Start, stood_before, Trace}
-use Rattle.vbr_at_table.specs.reads.Held.{said, said_if}
-use Rattle.vbr_list.specs.calls.Pieces.{LooksOn}
-use Rattle.vbr_at_table.specs.reads.Reading.{IsNextRead}
-use Rattle.vbr_list.specs.traversals.Visiting.{HasKey, MeetsBehind, Visits, met_place, steps_met}
-use Rattle.vbr_list.specs.declared.visiting.Visited.{Visited}
-use Rattle.vbr_list.specs.declared.visiting.Visited.TheVariants.{Beyond, Smaller}
-use Rattle.vbr_list.specs.traversals.Searching.{ReadsNext}
+use Rattle.vbr_list.proofs.Names.{◌≡◌, ◌≤◌, ℕ, ◌+◌, Option, Some, None, sym, ap, ◌∙◌, subst, arith, false, IsSome}
+use Rattle.vbr_list.proofs.Names.{refl, Beyond, bucket_of, HasKey, Held, held_kept, IsHeld, IsKeyRead, IsNext}
+use Rattle.vbr_list.proofs.Names.{IsNextRead, IsSlot, keeps_on, knows, link_of, LooksOn, MeetsBehind, met_place}
+use Rattle.vbr_list.proofs.Names.{next_steps, PassView, reads_on, ReadsIn, ReadsNext, said, said_if, Smaller, Start}
+use Rattle.vbr_list.proofs.Names.{steps_met, stood_before, Trace, Visited, Visits}
 use Rattle.vbr_list.proofs.traversals.Disturbing.{moves_epoch}
 use Rattle.vbr_list.proofs.pieces.Going.{goes_on, goes_read}
 use Rattle.vbr_list.proofs.pieces.Observing.{reads_observe}

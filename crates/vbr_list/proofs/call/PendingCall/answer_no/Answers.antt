@@ -1,13 +1,10 @@
-use Rattle.vbr_list.proofs.Names.{rules, false, Bool, subst, sym, IfOk}
-use Rattle.vbr_list.proofs.Names.{FindsAnother, knows, Made, set_call}
-use Rattle.vbr_list.specs.updates.Inserting.{denied}
+use Rattle.vbr_list.proofs.Names.{rules, false, Bool, subst, sym, IfOk, denied, knows, Made, set_call, wide_found}
+use Rattle.vbr_list.proofs.Names.{wide_held}
 use Rattle.vbr_list.proofs.traversals.LostAnswers.{unanswered_by_cur, unanswered_by_pred}
 use Rattle.vbr_list.proofs.traversals.Moments.{key_found}
 use Rattle.vbr_list.proofs.look_ups.Passing.{before_named}
-use Rattle.vbr_list.proofs.inserts.Sufficing.{each_error, on_ok}
-use Rattle.vbr_at_table.specs.reads.Held.{said_rollback}
+use Rattle.vbr_list.proofs.inserts.Sufficing.{on_ok}
 use Rattle.vbr_list.proofs.pieces.WideWords.{wide_is}
-use Rattle.vbr_list.specs.calls.Words.{wide_found, wide_held}
 use Rattle.vbr_list.proofs.call.PendingCall.answer_no.Goals as goal
 
 pub confirm_absent-requires-clause-gap : goal.confirm_absent-requires-clause-gap
@@ -51,18 +48,11 @@ returns-clause-made g c =
 
 pub returns-then-not-found-clause-rolls : goal.returns-then-not-found-clause-rolls
 returns-then-not-found-clause-rolls g c =
-    each_error (λ why. FindsAnother c.args.self.now.at.stepper.now.trace c.confirm_absent.new.at.stepper.now.trace
-    (wide_held c.args.self.now c.args.found.now.pred) (said_rollback c.args.self.now.at.slots.now why)) _
-    c.confirm_absent.result
-    (λ why. unanswered_by_pred c.law.ensures (wide_found c.args.self.now c.args.found.now)
-    (said_rollback c.args.self.now.at.slots.now why))
-    c.confirm_absent.ensures.lost
+    unanswered_by_pred _ _ c.args.self.now.at.slots.now c.law.ensures (wide_found c.args.self.now c.args.found.now)
+    c.confirm_absent.result c.confirm_absent.ensures.lost
 
 pub returns-clause-rolls : goal.returns-clause-rolls
 returns-clause-rolls g c =
-    each_error (λ why. FindsAnother c.args.self.now.at.stepper.now.trace c.confirm_present.new.at.stepper.now.trace
-    (wide_held c.args.self.now c.in-Some.cur) (said_rollback c.args.self.now.at.slots.now why)) _
-    c.confirm_present.result
-    (λ why. unanswered_by_cur c.law.ensures (wide_found c.args.self.now c.args.found.now)
-    (wide_held c.args.self.now c.in-Some.cur) (wide_is c.args.self.now c.in-Some.is)
-    (said_rollback c.args.self.now.at.slots.now why)) c.confirm_present.ensures.lost
+    unanswered_by_cur _ _ c.args.self.now.at.slots.now c.law.ensures (wide_found c.args.self.now c.args.found.now)
+    (wide_held c.args.self.now c.in-Some.cur) (wide_is c.args.self.now c.in-Some.is) c.confirm_present.result
+    c.confirm_present.ensures.lost

@@ -1,15 +1,10 @@
-use Rattle.vbr_list.proofs.Names.{◌≡◌, Bool, None, Some, true, false, ap, arith, refl, sym, subst, ◌∙◌}
-use Rattle.vbr_list.proofs.Names.{counts_none, knows, Made, quiet_on, reads_none, ReadsIn, set_call}
-use Rattle.vbr_list.specs.calls.Budgets.{steps_where}
-use Rattle.vbr_list.specs.updates.Inserting.{denied}
-use Rattle.vbr_list.specs.updates.Preparing.{told_otherwise}
-use Rattle.vbr_list.specs.updates.Wanted.{wants}
-use Rattle.vbr_list.specs.declared.wanted.Wanted.{Wanted}
+use Rattle.vbr_list.proofs.Names.{◌≡◌, Bool, None, Some, true, false, ap, arith, refl, sym, subst, ◌∙◌, counts_none}
+use Rattle.vbr_list.proofs.Names.{denied, knows, Made, quiet_on, reads_none, ReadsIn, set_call, steps_where}
+use Rattle.vbr_list.proofs.Names.{told_otherwise, Wanted, wants, wide_found}
 use Rattle.vbr_list.proofs.look_ups.FoundValues.{asks_one, asks_read, asks_then, tells_since}
 use Rattle.vbr_list.proofs.look_ups.ReadFirst.{found_lost_since}
 use Rattle.vbr_list.proofs.pieces.Going.{call_refl, keeps_still}
 use Rattle.vbr_list.proofs.pieces.KeptHands.{hand_refl}
-use Rattle.vbr_list.specs.calls.Words.{wide_found}
 use Rattle.vbr_list.proofs.call.PendingCall.ask.Goals as goal
 
 -- ---- nothing is given

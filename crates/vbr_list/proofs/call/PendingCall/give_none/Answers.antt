@@ -1,27 +1,20 @@
-use Rattle.vbr_list.proofs.Names.{rules, refl, subst, sym, false, None}
-use Rattle.vbr_list.proofs.Names.{Insert, Op, set_call}
-use Rattle.vbr_at_table.specs.answers.Answering.{IsAnswered}
-use Rattle.vbr_at_table.specs.answers.Values.{IsOtherIn}
-use Rattle.vbr_list.proofs.traversals.Disturbing.{loses_link}
+use Rattle.vbr_list.proofs.Names.{rules, refl, subst, sym, false, None, Insert, IsAnswered, IsOtherIn, Op, set_call}
 use Rattle.vbr_list.proofs.pieces.Going.{settles_step}
-use Rattle.vbr_list.proofs.look_ups.Sights.{answers_bare, none_given, op_gets, op_other}
-use Rattle.vbr_at_table.specs.reads.Held.{said_rollback}
-use Rattle.vbr_list.specs.calls.Words.{wide_held}
+use Rattle.vbr_list.proofs.look_ups.Sights.{answers_bare, look_up_lost, none_given, op_gets, op_other}
 use Rattle.vbr_list.proofs.call.PendingCall.give_none.Goals as goal
 
-pub confirm_absent-outcome-requires-clause-gap : goal.confirm_absent-outcome-requires-clause-gap
-confirm_absent-outcome-requires-clause-gap g c =
+pub confirm_absent-outcome-requires : goal.confirm_absent-outcome-requires
+confirm_absent-outcome-requires g c =
     let s = c.requires.sight in
-    record { held = s.0.held; behind = s.0.behind; before = s.1; unmarked = s.0.unmarked }
-
-pub confirm_absent-outcome-requires-clause-op : goal.confirm_absent-outcome-requires-clause-op
-confirm_absent-outcome-requires-clause-op g c =
     let start = c.args.self.now.at.stepper.now.trace.start in
-    subst (IsOtherIn start Insert) (sym c.look_up_op.ensures)
-    (record {
-      other = op_other c.args.gives;
-      asked = λ get. c.requires.asked (op_gets c.args.gives get);
-    })
+    record {
+      gap = record { held = s.0.held; behind = s.0.behind; before = s.1; unmarked = s.0.unmarked };
+      op = subst (IsOtherIn start Insert) (sym c.look_up_op.ensures)
+          (record {
+            other = op_other c.args.gives;
+            asked = λ get. c.requires.asked (op_gets c.args.gives get);
+          });
+    }
 
 pub returns-in-Ok-clause-settles : goal.returns-in-Ok-clause-settles
 returns-in-Ok-clause-settles g c = settles_step (search rules) refl c.confirm_absent-outcome.ensures.keeps.keeps
@@ -41,11 +34,4 @@ returns-in-Ok-clause-answers g c =
     }
 
 pub returns-in-Err-clause-rolls : goal.returns-in-Err-clause-rolls
-returns-in-Err-clause-rolls g c =
-    let lost = c.in-Err.ensures.lost in
-    record {
-      quiet = lost.quiet;
-      adds_none = lost.adds_none;
-      loses = loses_link (wide_held c.args.self.now c.args.pred.now)
-          (said_rollback c.args.self.now.at.slots.now c.in-Err.rollback) lost.lost;
-    }
+returns-in-Err-clause-rolls g c = look_up_lost _ _ _ c.in-Err.ensures.lost

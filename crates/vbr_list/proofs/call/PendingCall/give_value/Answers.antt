@@ -1,8 +1,6 @@
-use Rattle.vbr_list.proofs.Names.{refl, ◌≡◌, Some, rules, arith, sym, ap, ◌∙◌, subst}
-use Rattle.vbr_list.proofs.Names.{adds_on, AddsAnswer, answer_on, Call, Get, held_kept, knows, loads_on, quiet_on}
-use Rattle.vbr_list.proofs.Names.{Start}
-use Rattle.vbr_list.specs.calls.Told.{given_call, given_in}
-use Rattle.vbr_list.specs.calls.Budgets.{steps_to_value_of, steps_where}
+use Rattle.vbr_list.proofs.Names.{refl, ◌≡◌, Some, rules, arith, sym, ap, ◌∙◌, subst, adds_on, AddsAnswer, answer_on}
+use Rattle.vbr_list.proofs.Names.{Call, Get, given_call, given_in, held_kept, knows, loads_on, quiet_on}
+use Rattle.vbr_list.proofs.Names.{said_rollback, Start, steps_to_value_of, steps_where, wide_held}
 use Rattle.vbr_list.proofs.pieces.Going.{goes_counted}
 use Rattle.vbr_list.proofs.traversals.Disturbing.{loses_later, loses_link, loses_value}
 use Rattle.vbr_list.proofs.traversals.Reaching.{key_kept}
@@ -11,34 +9,31 @@ use Rattle.vbr_list.proofs.inserts.Sufficing.{any_error}
 use Rattle.vbr_list.proofs.pieces.Told.{given_kept, told_since}
 use Rattle.vbr_list.proofs.look_ups.ValueReads.{few_read, settles_read, steps_read}
 use Rattle.vbr_list.proofs.named_entries.EntryAnswers.{held_entry_since, held_value_since}
-use Rattle.vbr_at_table.specs.reads.Held.{said_rollback}
-use Rattle.vbr_list.specs.calls.Words.{wide_held}
 use Rattle.vbr_list.proofs.call.PendingCall.give_value.Goals as goal
 
-pub value_if_any-read-requires-clause-held : goal.value_if_any-read-requires-clause-held
-value_if_any-read-requires-clause-held g c = c.requires.sight.0
+pub value_if_any-read-requires : goal.value_if_any-read-requires
+value_if_any-read-requires g c =
+    let s = c.requires.sight in
+    record {
+      held = s.0;
+      slot = keyed_slot (knows c.args.self.now.at.stepper.now.trace) c.args.node.now.at c.args.self.now.key s.2;
+    }
 
-pub value_if_any-read-requires-clause-slot : goal.value_if_any-read-requires-clause-slot
-value_if_any-read-requires-clause-slot g c =
-    keyed_slot (knows c.args.self.now.at.stepper.now.trace) c.args.node.now.at c.args.self.now.key c.requires.sight.2
-
-pub confirm_present-outcome-requires-clause-node : goal.confirm_present-outcome-requires-clause-node
-confirm_present-outcome-requires-clause-node g c =
+pub confirm_present-outcome-requires : goal.confirm_present-outcome-requires
+confirm_present-outcome-requires g c =
     let s = c.requires.sight in
     let keeps = c.in_ok-value.ensures.value.keeps in
-    rw c.value_if_any-read.ensures.table.slots (record {
-      held = held_kept (wide_held c.args.self.now c.args.node.now) keeps s.0;
-      key = (c.args.self.now.key, key_kept c.args.node.now.at c.args.self.now.key keeps s.2);
-      unmarked = s.1;
-    })
-
-pub confirm_present-outcome-requires-clause-op : goal.confirm_present-outcome-requires-clause-op
-confirm_present-outcome-requires-clause-op g c = λ e. absurd (cc)
-
-pub confirm_present-outcome-requires-clause-asked : goal.confirm_present-outcome-requires-clause-asked
-confirm_present-outcome-requires-clause-asked g c = λ get.
-    let same = ap (λ (d : Start). d.shape.values) c.value_if_any-read.ensures.reads.quiet.same.start in
-    (same ∙ c.requires.values, (c.in_ok-value.value, c.in_ok-value.ensures.value.value c.requires.values))
+    record {
+      node = rw c.value_if_any-read.ensures.table.slots (record {
+        held = held_kept (wide_held c.args.self.now c.args.node.now) keeps s.0;
+        key = (c.args.self.now.key, key_kept c.args.node.now.at c.args.self.now.key keeps s.2);
+        unmarked = s.1;
+      });
+      op = λ e. absurd (cc);
+      asked = λ get.
+          let same = ap (λ (d : Start). d.shape.values) c.value_if_any-read.ensures.reads.quiet.same.start in
+          (same ∙ c.requires.values, (c.in_ok-value.value, c.in_ok-value.ensures.value.value c.requires.values));
+    }
 
 pub returns-in_err-value-clause-settles : goal.returns-in_err-value-clause-settles
 returns-in_err-value-clause-settles g c =
@@ -66,32 +61,9 @@ returns-in_err-value-clause-rolls g c =
           (wide_held c.args.self.now c.args.node.now) _ lost.rolls;
     })
 
-pub returns-in-Ok-clause-settles : goal.returns-in-Ok-clause-settles
-returns-in-Ok-clause-settles g c =
-    settles_read (search rules) refl c.steps_to_value_of.ensures c.value_if_any-read.new.at.own.1
-    c.value_if_any-read.ensures.reads c.confirm_present-outcome.ensures.keeps.keeps
-
-pub returns-in-Err-clause-settles : goal.returns-in-Err-clause-settles
-returns-in-Err-clause-settles g c =
-    settles_read (search rules) refl c.steps_to_value_of.ensures c.value_if_any-read.new.at.own.1
-    c.value_if_any-read.ensures.reads c.confirm_present-outcome.ensures.keeps.keeps
-
-pub returns-in-Ok-clause-few : goal.returns-in-Ok-clause-few
-returns-in-Ok-clause-few g c = let two = few_read _ c.steps_to_value_of.ensures in omega (arith, two)
-
-pub returns-in-Err-clause-few : goal.returns-in-Err-clause-few
-returns-in-Err-clause-few g c = let two = few_read _ c.steps_to_value_of.ensures in omega (arith, two)
-
-pub returns-in-Ok-clause-only_loads : goal.returns-in-Ok-clause-only_loads
-returns-in-Ok-clause-only_loads g c =
-    loads_on c.value_if_any-read.ensures.reads.only_loads c.confirm_present-outcome.ensures.keeps.only_loads
-
-pub returns-in-Err-clause-only_loads : goal.returns-in-Err-clause-only_loads
-returns-in-Err-clause-only_loads g c =
-    loads_on c.value_if_any-read.ensures.reads.only_loads c.confirm_present-outcome.ensures.keeps.only_loads
-
-pub returns-in-Ok-clause-answers : goal.returns-in-Ok-clause-answers
-returns-in-Ok-clause-answers g c =
+pub returns-in-Ok : goal.returns-in-Ok
+returns-in-Ok g c =
+    let two = few_read _ c.steps_to_value_of.ensures in
     let p = c.args.self.now.at.stepper.now.trace in
     let q = c.value_if_any-read.new.at.stepper.now.trace in
     let r = c.confirm_present-outcome.new.at.stepper.now.trace in
@@ -106,30 +78,45 @@ returns-in-Ok-clause-answers g c =
     let first : given_call q.who Get key (Some value) ≡ given_call p.who Get key (Some value) =
     λ i. given_call (reads.quiet.same.who i) Get key (Some value) in
     record {
+      settles = settles_read (search rules) refl c.steps_to_value_of.ensures c.value_if_any-read.new.at.own.1
+          reads c.confirm_present-outcome.ensures.keeps.keeps;
+      few = omega (arith, two);
+      only_loads = loads_on reads.only_loads c.confirm_present-outcome.ensures.keeps.only_loads;
       answers = record {
-        made = told_since reads.quiet (first ∙ told) answers.made;
-        adds = subst (λ (call : Call). AddsAnswer call p r) told
-            (answer_on (λ who. given_call who Get key (Some value)) reads.quiet.same reads.adds_none answers.adds);
+        answers = record {
+          made = told_since reads.quiet (first ∙ told) answers.made;
+          adds = subst (λ (call : Call). AddsAnswer call p r) told
+              (answer_on (λ who. given_call who Get key (Some value)) reads.quiet.same reads.adds_none answers.adds);
+        };
+        value = value;
+        is = refl;
+        zero = λ bare. absurd (cc);
+        shows = λ s at_slot. held_entry_since reads.quiet
+            ((rw c.value_if_any-read.ensures.table.slots at c.in-Ok.ensures.there).shows s key at_slot keyed);
+        stores = λ gives s at_slot. held_value_since reads.quiet
+            ((rw c.value_if_any-read.ensures.table.slots at c.in-Ok.ensures.there).stores
+            (ap (λ (d : Start). d.shape.values) reads.quiet.same.start ∙ c.requires.values) s key value at_slot keyed
+            (c.in_ok-value.ensures.value.value c.requires.values));
       };
-      value = value;
-      is = refl;
-      zero = λ bare. absurd (cc);
-      shows = λ s at_slot. held_entry_since reads.quiet
-          ((rw c.value_if_any-read.ensures.table.slots at c.in-Ok.ensures.there).shows s key at_slot keyed);
-      stores = λ gives s at_slot. held_value_since reads.quiet
-          ((rw c.value_if_any-read.ensures.table.slots at c.in-Ok.ensures.there).stores
-          (ap (λ (d : Start). d.shape.values) reads.quiet.same.start ∙ c.requires.values) s key value at_slot keyed
-          (c.in_ok-value.ensures.value.value c.requires.values));
+      rolls = tt;
     }
 
-pub returns-in-Err-clause-rolls : goal.returns-in-Err-clause-rolls
-returns-in-Err-clause-rolls g c =
+pub returns-in-Err : goal.returns-in-Err
+returns-in-Err g c =
+    let two = few_read _ c.steps_to_value_of.ensures in
     let reads = c.value_if_any-read.ensures.reads in
     let lost = rw c.value_if_any-read.ensures.table.slots at c.in-Err.ensures.lost in
     record {
-      quiet = quiet_on reads.quiet lost.quiet;
-      adds_none = adds_on reads.adds_none lost.adds_none;
-      loses = loses_later (wide_held c.args.self.now c.args.node.now) reads.quiet c.in_ok-value.ensures.value.keeps
-          (loses_link (wide_held c.args.self.now c.args.node.now)
-          (said_rollback c.args.self.now.at.slots.now c.in-Err.rollback) lost.lost);
+      settles = settles_read (search rules) refl c.steps_to_value_of.ensures c.value_if_any-read.new.at.own.1
+          reads c.confirm_present-outcome.ensures.keeps.keeps;
+      few = omega (arith, two);
+      only_loads = loads_on reads.only_loads c.confirm_present-outcome.ensures.keeps.only_loads;
+      rolls = record {
+        quiet = quiet_on reads.quiet lost.quiet;
+        adds_none = adds_on reads.adds_none lost.adds_none;
+        loses = loses_later (wide_held c.args.self.now c.args.node.now) reads.quiet c.in_ok-value.ensures.value.keeps
+            (loses_link (wide_held c.args.self.now c.args.node.now)
+            (said_rollback c.args.self.now.at.slots.now c.in-Err.rollback) lost.lost);
+      };
+      answers = tt;
     }

@@ -1,6 +1,4 @@
-use Rattle.vbr_list.proofs.Names.{rules, arith}
-use Rattle.vbr_list.specs.traversals.Searching.{LosesPlace}
-use Rattle.vbr_list.specs.calls.Words.{wide_held}
+use Rattle.vbr_list.proofs.Names.{rules, arith, LosesPlace, wide_held}
 use Rattle.vbr_list.proofs.inserts.Sufficing.{any_error}
 use Rattle.vbr_list.proofs.call.PendingCall.help.Goals as goal
 

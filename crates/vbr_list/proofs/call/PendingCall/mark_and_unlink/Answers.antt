@@ -1,12 +1,7 @@
 use Rattle.vbr_list.proofs.Names.{refl, ◌≡◌, ◌+◌, ℕ, true, false, Some, rules, arith, sym, ap, ◌∙◌, subst, inl, inr}
-use Rattle.vbr_list.proofs.Names.{◌⊎◌}
-use Rattle.vbr_list.proofs.Names.{At, begins_refl, counts_on, Get, held_kept, KeyAt, knows, made_then, Names, no_room}
-use Rattle.vbr_list.proofs.Names.{quiet_on}
-use Rattle.vbr_list.proofs.Names.{Start}
-use Rattle.vbr_list.specs.calls.Pieces.{Goes}
-use Rattle.vbr_list.specs.calls.Told.{given_call}
-use Rattle.vbr_list.specs.updates.Removing.{RemovesLate, RemovesSoon}
-use Rattle.vbr_list.specs.calls.Budgets.{steps_to_value_of, steps_where}
+use Rattle.vbr_list.proofs.Names.{◌⊎◌, At, begins_refl, counts_on, Get, given_call, Goes, held_kept, KeyAt, knows}
+use Rattle.vbr_list.proofs.Names.{made_then, Names, no_room, quiet_on, RemovesLate, RemovesSoon, Start}
+use Rattle.vbr_list.proofs.Names.{steps_to_value_of, steps_where, wide_found, wide_held}
 use Rattle.vbr_list.proofs.traversals.Clearing.{leaves_clear}
 use Rattle.vbr_list.proofs.traversals.Disturbing.{moves_epoch, moves_on, run_at}
 use Rattle.vbr_list.proofs.removes.Expected.{kept_expected, kept_gets, taken_removes, told_op}
@@ -23,7 +18,6 @@ use Rattle.vbr_list.proofs.pieces.Told.{given_kept, told_as, told_since}
 use Rattle.vbr_list.proofs.look_ups.ValueReads.{few_read, read_then_step, settles_read, slot_at, steps_read}
 use Rattle.vbr_list.proofs.look_ups.ValueReads.{valued_since}
 use Rattle.vbr_list.proofs.pieces.WideWords.{wide_is}
-use Rattle.vbr_list.specs.calls.Words.{wide_found, wide_held}
 use Rattle.vbr_list.proofs.call.PendingCall.mark_and_unlink.Goals as goal
 
 pub value_if_any-read-requires-clause-held : goal.value_if_any-read-requires-clause-held

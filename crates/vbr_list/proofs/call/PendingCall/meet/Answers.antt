@@ -1,21 +1,15 @@
-use Rattle.vbr_list.proofs.Names.{◌≡◌, ◌+◌, true, sym, ap, ◌∙◌, subst, arith, ◌<◌}
-use Rattle.vbr_list.proofs.Names.{counts_none, Ghosts, knows, PassLaw, PIECE, quiet_on, quiet_refl, Start}
-use Rattle.vbr_list.specs.calls.Pieces.{GoesOn, pass_in, trace_in}
-use Rattle.vbr_list.specs.updates.Preparing.{AskLoses, Asks, MeetTires, Meeting, ReadsWanted, TellsOther, has_wanted}
-use Rattle.vbr_list.specs.traversals.Searching.{TraversesAgain}
-use Rattle.vbr_list.specs.updates.Wanted.{WasWanted, steps_to_compare}
-use Rattle.vbr_list.specs.declared.call.PendingCall.{PendingCall}
-use Rattle.vbr_list.specs.declared.wanted.Wanted.{Wanted}
+use Rattle.vbr_list.proofs.Names.{◌≡◌, ◌+◌, true, sym, ap, ◌∙◌, subst, arith, ◌<◌, AskLoses, Asks, counts_none}
+use Rattle.vbr_list.proofs.Names.{Ghosts, GoesOn, has_wanted, knows, Meeting, MeetTires, pass_in, PassLaw}
+use Rattle.vbr_list.proofs.Names.{PendingCall, PIECE, quiet_on, quiet_refl, ReadsWanted, Start, steps_to_compare}
+use Rattle.vbr_list.proofs.Names.{TellsOther, trace_in, TraversesAgain, Wanted, WasWanted, wide_found}
 use Rattle.vbr_list.proofs.look_ups.FoundValues.{otherwise_since}
-use Rattle.vbr_list.proofs.pieces.Going.{call_on, call_refl, within_call}
+use Rattle.vbr_list.proofs.pieces.Going.{call_on, call_refl, less_left, within_call}
 use Rattle.vbr_list.proofs.pieces.KeptHands.{hand_on, hand_refl}
 use Rattle.vbr_list.proofs.inserts.Linking.{located}
 use Rattle.vbr_list.proofs.traversals.LostTraversals.{found_in, HasSearched, searched_for, searched_more, searched_on}
-use Rattle.vbr_list.proofs.traversals.LostTraversals.{searched_until}
-use Rattle.vbr_list.proofs.traversals.LostTraversals.{short_of, so_in}
+use Rattle.vbr_list.proofs.traversals.LostTraversals.{searched_until, short_of, so_in}
 use Rattle.vbr_list.proofs.inserts.Preparing.{steps_gone, within_on}
 use Rattle.vbr_list.proofs.stores.Wants.{asked_values, compare_few, was_compared, was_plain}
-use Rattle.vbr_list.specs.calls.Words.{wide_found}
 use Rattle.vbr_list.proofs.call.PendingCall.meet.Goals as goal
 
 pub ask-requires-clause-asked : goal.ask-requires-clause-asked
@@ -35,21 +29,15 @@ loop-found-preserved g c =
     let a = c.ask.ensures.asks in
     let lost = simp c.search.ensures.goes.call.at.slots at (rw c.in-Changed.is at c.in-Err.ensures.unmet) in
     let few = a.few in
-    searched_more c.law.ensures c.loop-found.invariant c.search.ensures.goes
+    searched_more 4 c.law.ensures c.loop-found.invariant c.search.ensures.goes
     (wide_found c.loop-found.self c.in-Some.found) c.in-Some.ensures.found
     a.call (record { quiet = lost.quiet; counts = a.counts; hand = a.hand }) a.more (omega (arith, few)) lost.loses
 
 pub loop-found-smaller : goal.loop-found-smaller
 loop-found-smaller g c =
-    let s = c.search.ensures.goes in
-    let more = s.more in
     let lost : AskLoses c.search.new.self c.ask.new.self (wide_found c.search.new.self c.in-Some.found) =
     rw c.in-Changed.is at c.in-Err.ensures.unmet in
-    let then = lost.more in
-    let same = call_on s.call c.ask.ensures.asks.call in
-    let budget = same.budget in
-    let high = c.ask.new.self.within in
-    omega (arith, more, then, budget, high)
+    less_left c.search.ensures.goes c.ask.ensures.asks.call lost.more
 
 pub returns-in-Anything-clause-meets : goal.returns-in-Anything-clause-meets
 returns-in-Anything-clause-meets g c = record {
@@ -72,7 +60,7 @@ returns-in-Anything-clause-met g c =
     }
 
 -- no call was made
-meets_none : {N : Type 0} {kind : Ghosts N} {b c d : PendingCall N kind} → PassLaw (pass_in b) → HasSearched b c →
+meets_none : {N : Type 0} {kind : Ghosts N} {b c d : PendingCall N kind} → PassLaw (pass_in b) → HasSearched 7 b c →
     GoesOn c d → Meeting b d
 meets_none law so went =
     let gone = searched_on law so went in
@@ -91,7 +79,7 @@ returns-then-not-affords-clause-meets g c =
     meets_none c.law.ensures c.loop-found.invariant c.search.ensures.goes
 
 -- it was asked
-meets_asked : {N : Type 0} {kind : Ghosts N} {b c d e : PendingCall N kind} → PassLaw (pass_in b) → HasSearched b c →
+meets_asked : {N : Type 0} {kind : Ghosts N} {b c d e : PendingCall N kind} → PassLaw (pass_in b) → HasSearched 7 b c →
     GoesOn c d → Asks d e → Meeting b e
 meets_asked law so went a =
     let gone = searched_on law so went in
@@ -111,14 +99,15 @@ returns-in-Otherwise-clause-meets g c =
     meets_asked c.law.ensures c.loop-found.invariant c.search.ensures.goes c.ask.ensures.asks
 
 -- the budget had no room for one more piece
-meets_short : {N : Type 0} {kind : Ghosts N} {b c d : PendingCall N kind} → PassLaw (pass_in b) → HasSearched b c →
+meets_short : {N : Type 0} {kind : Ghosts N} {b c d : PendingCall N kind} → PassLaw (pass_in b) → HasSearched 7 b c →
     GoesOn c d → TraversesAgain 9 (trace_in c) (trace_in d) c.key c.used d.used → b.budget < d.used + PIECE →
     MeetTires b d
 meets_short {b = b} law so went traverses short =
     record {
       quiet = (searched_on law so went).goes.quiet;
       short = short;
-      searches = searched_for law so went traverses (b.budget + 1) 8 11 (omega (arith, short)) (omega arith);
+      searches = searched_for law so went (omega arith) traverses (b.budget + 1) 8 11 (omega (arith, short))
+          (omega arith);
     }
 
 pub returns-in_default-search-clause-tired : goal.returns-in_default-search-clause-tired
@@ -145,7 +134,7 @@ returns-then-has_wanted-clause-met g c =
     record {
       quiet = gone.goes.quiet;
       was = was_plain p m c.args.self.now.key c.args.wanted c.in-Some.found.present is so;
-      searches = searched_for c.law.ensures c.loop-found.invariant c.search.ensures.goes
+      searches = searched_for c.law.ensures c.loop-found.invariant c.search.ensures.goes (omega arith)
           c.in-Some.ensures.found.traverses
           c.search.new.self.used 0 (steps_to_compare c.args.wanted + 3) (omega arith) (omega arith);
     }
@@ -172,8 +161,9 @@ returns-in-Ok-clause-met g c =
       was = was_compared b.key found wanted c.in-Ok.field-0 c.law.ensures.start whole.same quiet x.keeps values
           there other x.is x.known;
       searches = searched_until c.law.ensures gone quiet (steps_to_compare wanted + 3) (omega arith)
-          (searched_for c.law.ensures c.loop-found.invariant c.search.ensures.goes c.in-Some.ensures.found.traverses
-          e.used (steps_to_compare wanted) (steps_to_compare wanted + 3) (omega (arith, compared, used)) (omega arith));
+          (searched_for c.law.ensures c.loop-found.invariant c.search.ensures.goes (omega arith)
+          c.in-Some.ensures.found.traverses e.used (steps_to_compare wanted) (steps_to_compare wanted + 3)
+          (omega (arith, compared, used)) (omega arith));
     }
 
 pub returns-in-Otherwise-clause-met : goal.returns-in-Otherwise-clause-met
@@ -195,7 +185,7 @@ returns-in-Otherwise-clause-met g c =
         ended = d.at.stepper.now.trace;
         quiet = gone.goes.quiet;
         to = x.told.seen;
-        searches = searched_for c.law.ensures c.loop-found.invariant c.search.ensures.goes
+        searches = searched_for c.law.ensures c.loop-found.invariant c.search.ensures.goes (omega arith)
             c.in-Some.ensures.found.traverses e.used 3 6 few (omega arith);
       };
     }

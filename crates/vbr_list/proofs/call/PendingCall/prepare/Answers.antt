@@ -1,47 +1,12 @@
-use Rattle.vbr_list.proofs.Names.{◌+◌, ◌∙◌, inl, arith, err_from_is_err_and}
-use Rattle.vbr_list.proofs.Names.{gained, Ghosts, PassView, Quiet, quiet_on, steps_to_take_among, TriesOnlyWhere}
-use Rattle.vbr_list.proofs.Names.{TriesWhereEmpty}
+use Rattle.vbr_list.proofs.Names.{◌+◌, ◌∙◌, inl, arith, rules, err_from_is_err_and, gained, Ghosts, Meeting}
+use Rattle.vbr_list.proofs.Names.{MeetsOther, MeetsWanted, pass_in, PassView, PendingCall, Quiet, quiet_on}
+use Rattle.vbr_list.proofs.Names.{steps_to_compare, steps_to_prepare, steps_to_take_among, trace_in, TriesOnlyWhere}
+use Rattle.vbr_list.proofs.Names.{TriesWhereEmpty, Wanted, WasWanted}
 use Rattle.vbr_list.proofs.traversals.LostTraversals.{searched_until}
-use Rattle.vbr_list.specs.traversals.Disturbed.{steps_to_prepare}
-use Rattle.vbr_list.specs.calls.Pieces.{pass_in, trace_in}
-use Rattle.vbr_list.specs.updates.Preparing.{Meeting, MeetsOther, MeetsWanted}
-use Rattle.vbr_list.specs.updates.Wanted.{WasWanted, steps_to_compare}
-use Rattle.vbr_list.specs.declared.call.PendingCall.{PendingCall}
-use Rattle.vbr_list.specs.declared.wanted.Wanted.{Wanted}
 use Rattle.vbr_list.proofs.inserts.Preparing.{prepares_none, prepares_on, takes_gone, tries_after}
 use Rattle.vbr_list.proofs.inserts.Sufficing.{take_least, taken_after}
 use Rattle.vbr_list.proofs.stores.Wants.{met_goes, searches_more_steps, store_in_vain, wanted_for, was_before}
 use Rattle.vbr_list.proofs.call.PendingCall.prepare.Goals as goal
-
-pub returns-in_default-clause-prepares : goal.returns-in_default-clause-prepares
-returns-in_default-clause-prepares g c =
-    let x = c.meet.ensures.meets in
-    prepares_none c.args.self.now c.meet.new.self x.call x.counts x.hand.takes_no_slot x.hand.hand
-
-pub returns-in-Otherwise-clause-prepares : goal.returns-in-Otherwise-clause-prepares
-returns-in-Otherwise-clause-prepares g c =
-    let x = c.meet.ensures.meets in
-    prepares_none c.args.self.now c.meet.new.self x.call x.counts x.hand.takes_no_slot x.hand.hand
-
-pub returns-in_err-hand-in-AsWanted-clause-prepares : goal.returns-in_err-hand-in-AsWanted-clause-prepares
-returns-in_err-hand-in-AsWanted-clause-prepares g c =
-    let met : MeetsWanted c.args.wanted c.args.self.now c.meet.new.self =
-    rw c.in-AsWanted.is at c.in-Some.ensures.met in
-    prepares_on (met_goes c.meet.ensures.meets met.quiet) c.provide.ensures.one c.provide.ensures.prepares
-
-pub returns-in_ok-hand-in-AsWanted-clause-prepares : goal.returns-in_ok-hand-in-AsWanted-clause-prepares
-returns-in_ok-hand-in-AsWanted-clause-prepares g c =
-    let met : MeetsWanted c.args.wanted c.args.self.now c.meet.new.self =
-    rw c.in-AsWanted.is at c.in-Some.ensures.met in
-    prepares_on (met_goes c.meet.ensures.meets met.quiet) c.provide.ensures.one c.provide.ensures.prepares
-
--- ---- the shared pool
-
-pub returns-in_default-clause-tries : goal.returns-in_default-clause-tries
-returns-in_default-clause-tries g c = inl c.meet.ensures.meets.hand.takes_no_slot.tries
-
-pub returns-in-Otherwise-clause-tries : goal.returns-in-Otherwise-clause-tries
-returns-in-Otherwise-clause-tries g c = inl c.meet.ensures.meets.hand.takes_no_slot.tries
 
 -- the key was met as it is wanted, and then a slot was tried for
 wanted_tries : {N : Type 0} {kind : Ghosts N} {c d : PendingCall N kind} (wanted : Wanted) (r : PassView) →
@@ -51,53 +16,54 @@ wanted_tries {c = c} {d = d} wanted r meets met quiet tries =
     tries_after (pass_in c) (pass_in d) r meets.hand.takes_no_slot tries
     (was_before (trace_in c) (trace_in d) r.trace c.key wanted met.was quiet)
 
-pub returns-in_err-hand-in-AsWanted-clause-tries : goal.returns-in_err-hand-in-AsWanted-clause-tries
-returns-in_err-hand-in-AsWanted-clause-tries g c =
-    wanted_tries c.args.wanted c.provide.new.self.at.stepper.now c.meet.ensures.meets
-    (rw c.in-AsWanted.is at c.in-Some.ensures.met) c.provide.ensures.quiet c.provide.ensures.tries
-
-pub returns-in_ok-hand-in-AsWanted-clause-tries : goal.returns-in_ok-hand-in-AsWanted-clause-tries
-returns-in_ok-hand-in-AsWanted-clause-tries g c =
-    wanted_tries c.args.wanted c.provide.new.self.at.stepper.now c.meet.ensures.meets
-    (rw c.in-AsWanted.is at c.in-Some.ensures.met) c.provide.ensures.quiet c.provide.ensures.tries
-
-pub returns-in_default-clause-refused : goal.returns-in_default-clause-refused
-returns-in_default-clause-refused g c =
+pub returns-in_default : goal.returns-in_default
+returns-in_default g c =
     let x = c.meet.ensures.meets in
     let tired = c.in_default.ensures.tired in
     let p = c.args.self.now.at.stepper.now in
     let m = c.meet.new.self.at.stepper.now.trace in
     let least = take_least p m in
     record {
-      quiet = tired.quiet;
-      hand = x.hand.hand ∙ c.requires.empty_hand;
-      says = record { counts = x.counts; short = tired.short };
-      so = tt;
-      searches = searches_more_steps (c.args.self.now.budget + 1) (steps_to_prepare c.args.wanted p m + 10)
-          (omega (arith, least)) tired.searches;
+      prepares = prepares_none x;
+      tries = inl x.hand.takes_no_slot.tries;
+      refused = record {
+        quiet = tired.quiet;
+        hand = x.hand.hand ∙ c.requires.empty_hand;
+        says = record { counts = x.counts; short = tired.short };
+        so = tt;
+        searches = searches_more_steps (c.args.self.now.budget + 1) (steps_to_prepare c.args.wanted p m + 10)
+            (omega (arith, least)) tired.searches;
+      };
+      prepared = tt;
     }
 
-pub returns-in-Otherwise-clause-prepared : goal.returns-in-Otherwise-clause-prepared
-returns-in-Otherwise-clause-prepared g c =
+pub returns-in-Otherwise : goal.returns-in-Otherwise
+returns-in-Otherwise g c =
+    let x = c.meet.ensures.meets in
     let met : MeetsOther c.args.gives c.args.wanted c.args.self.now c.meet.new.self c.in-Otherwise.there =
     rw c.in-Otherwise.is at c.in-Some.ensures.met in
     let p = c.args.self.now.at.stepper.now in
     let m = c.meet.new.self.at.stepper.now.trace in
     let least = take_least p m in
     record {
-      tells = met.tells;
-      spent = c.meet.ensures.meets.hand.hand ∙ c.requires.empty_hand;
-      searched = record {
-        ended = met.searched.ended;
-        quiet = met.searched.quiet;
-        to = met.searched.to;
-        searches = searches_more_steps c.meet.new.self.used (steps_to_prepare c.args.wanted p m + 3)
-            (omega (arith, least)) met.searched.searches;
+      prepares = prepares_none x;
+      tries = inl x.hand.takes_no_slot.tries;
+      prepared = record {
+        tells = met.tells;
+        spent = x.hand.hand ∙ c.requires.empty_hand;
+        searched = record {
+          ended = met.searched.ended;
+          quiet = met.searched.quiet;
+          to = met.searched.to;
+          searches = searches_more_steps c.meet.new.self.used (steps_to_prepare c.args.wanted p m + 3)
+              (omega (arith, least)) met.searched.searches;
+        };
       };
+      refused = tt;
     }
 
-pub returns-in_err-hand-in-AsWanted-clause-refused : goal.returns-in_err-hand-in-AsWanted-clause-refused
-returns-in_err-hand-in-AsWanted-clause-refused g c =
+pub returns-in_err-hand-in-AsWanted : goal.returns-in_err-hand-in-AsWanted
+returns-in_err-hand-in-AsWanted g c =
     let met : MeetsWanted c.args.wanted c.args.self.now c.meet.new.self =
     rw c.in-AsWanted.is at c.in-Some.ensures.met in
     let gone = met_goes c.meet.ensures.meets met.quiet in
@@ -109,21 +75,27 @@ returns-in_err-hand-in-AsWanted-clause-refused g c =
     let m = c.meet.new.self.at.stepper.now in
     let r = c.provide.new.self.at.stepper.now in
     let taken = taken_after gone r.trace in
-    rw (error.1, error.2) (record {
-      quiet = quiet_on gone.goes.quiet d;
-      hand = none.hand;
-      says = takes_gone gone r d refusal none.says;
-      so = wanted_for p.trace r.trace c.args.self.now.key c.args.wanted
-          (was_before p.trace m.trace r.trace c.args.self.now.key c.args.wanted met.was d) refusal;
-      searches = store_in_vain c.args.self.now.key c.args.self.now.budget
-          (steps_to_take_among m.trace.start m.pool (gained m.trace r.trace))
-          (steps_to_prepare c.args.wanted p r.trace + 10)
-          (searched_until c.law.ensures gone d (steps_to_compare c.args.wanted + 3) (omega arith) met.searches)
-          refusal (rw gone.call.budget at none.enough) (omega (arith, taken));
-    })
+    record {
+      prepares = prepares_on (met_goes c.meet.ensures.meets met.quiet) c.provide.ensures.one c.provide.ensures.prepares;
+      tries = wanted_tries c.args.wanted r c.meet.ensures.meets
+          (rw c.in-AsWanted.is at c.in-Some.ensures.met) d c.provide.ensures.tries;
+      refused = rw (error.1, error.2) (record {
+        quiet = quiet_on gone.goes.quiet d;
+        hand = none.hand;
+        says = takes_gone gone r d refusal none.says;
+        so = wanted_for p.trace r.trace c.args.self.now.key c.args.wanted
+            (was_before p.trace m.trace r.trace c.args.self.now.key c.args.wanted met.was d) refusal;
+        searches = store_in_vain c.args.self.now.key c.args.self.now.budget
+            (steps_to_take_among m.trace.start m.pool (gained m.trace r.trace))
+            (steps_to_prepare c.args.wanted p r.trace + 10)
+            (searched_until c.law.ensures gone d (steps_to_compare c.args.wanted + 3) (omega arith) met.searches)
+            refusal (rw gone.call.budget at none.enough) (omega (arith, taken));
+      });
+      prepared = search rules;
+    }
 
-pub returns-in_ok-hand-in-AsWanted-clause-prepared : goal.returns-in_ok-hand-in-AsWanted-clause-prepared
-returns-in_ok-hand-in-AsWanted-clause-prepared g c =
+pub returns-in_ok-hand-in-AsWanted : goal.returns-in_ok-hand-in-AsWanted
+returns-in_ok-hand-in-AsWanted g c =
     let met : MeetsWanted c.args.wanted c.args.self.now c.meet.new.self =
     rw c.in-AsWanted.is at c.in-Some.ensures.met in
     let gone = met_goes c.meet.ensures.meets met.quiet in
@@ -134,13 +106,19 @@ returns-in_ok-hand-in-AsWanted-clause-prepared g c =
     let taken = taken_after gone r in
     let few = hand.few in
     record {
-      quiet = quiet_on gone.goes.quiet d;
-      hand = hand.has;
-      searched = record {
-        ended = c.meet.new.self.at.stepper.now.trace;
-        quiet = gone.goes.quiet;
-        to = d.seen;
-        searches = searches_more_steps c.provide.new.self.used (steps_to_prepare c.args.wanted p r + 3)
-            (omega (arith, few, taken)) met.searches;
+      prepares = prepares_on (met_goes c.meet.ensures.meets met.quiet) c.provide.ensures.one c.provide.ensures.prepares;
+      tries = wanted_tries c.args.wanted c.provide.new.self.at.stepper.now c.meet.ensures.meets
+          (rw c.in-AsWanted.is at c.in-Some.ensures.met) d c.provide.ensures.tries;
+      prepared = record {
+        quiet = quiet_on gone.goes.quiet d;
+        hand = hand.has;
+        searched = record {
+          ended = c.meet.new.self.at.stepper.now.trace;
+          quiet = gone.goes.quiet;
+          to = d.seen;
+          searches = searches_more_steps c.provide.new.self.used (steps_to_prepare c.args.wanted p r + 3)
+              (omega (arith, few, taken)) met.searches;
+        };
       };
+      refused = tt;
     }

@@ -1,5 +1,5 @@
-use Rattle.vbr_list.proofs.Names.{rules, ◌-◌, ◌∙◌, Result, Err, ap, subst, IfErr}
-use Rattle.vbr_list.proofs.Names.{had_taken, HandView, Refusal, RefusesTake}
+use Rattle.vbr_list.proofs.Names.{rules, ◌-◌, ◌∙◌, Result, Err, ap, subst, IfErr, had_taken, HandView, Refusal}
+use Rattle.vbr_list.proofs.Names.{RefusesTake}
 use Rattle.vbr_list.proofs.inserts.Preparing.{spent_rest}
 use Rattle.vbr_list.proofs.call.PendingCall.provide.Goals as goal
 

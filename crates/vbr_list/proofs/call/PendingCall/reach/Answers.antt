@@ -1,5 +1,4 @@
-use Rattle.vbr_list.proofs.Names.{arith}
-use Rattle.vbr_list.proofs.Names.{no_room}
+use Rattle.vbr_list.proofs.Names.{arith, no_room}
 use Rattle.vbr_list.proofs.call.PendingCall.reach.Goals as goal
 
 pub returns-then-not-affords-clause-tired : goal.returns-then-not-affords-clause-tired

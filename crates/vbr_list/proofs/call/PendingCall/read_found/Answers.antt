@@ -1,9 +1,7 @@
-use Rattle.vbr_list.proofs.Names.{ap, ◌∙◌, inl}
-use Rattle.vbr_list.proofs.Names.{Start}
+use Rattle.vbr_list.proofs.Names.{ap, ◌∙◌, inl, Start, wide_found, wide_held}
 use Rattle.vbr_list.proofs.traversals.Disturbing.{moves_epoch, moves_on}
 use Rattle.vbr_list.proofs.look_ups.FoundValues.{located_on, value_found}
 use Rattle.vbr_list.proofs.pieces.WideWords.{wide_is}
-use Rattle.vbr_list.specs.calls.Words.{wide_found, wide_held}
 use Rattle.vbr_list.proofs.call.PendingCall.read_found.Goals as goal
 
 pub returns-in-Ok-clause-found : goal.returns-in-Ok-clause-found

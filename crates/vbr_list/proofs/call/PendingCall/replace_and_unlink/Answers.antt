@@ -1,19 +1,11 @@
-use Rattle.vbr_list.proofs.Names.{ℕ, true, inl, inr, subst, ⊎_elim, arith, ◌∙◌}
-use Rattle.vbr_list.proofs.Names.{counts_on, Ghosts, had_grown, IsRun, IsSame, IsStart, KeyAt, knows, none_on, Quiet}
-use Rattle.vbr_list.proofs.Names.{quiet_refl, Slot}
-use Rattle.vbr_list.proofs.Names.{two_before}
-use Rattle.vbr_at_table.specs.declared.held.Marked.{Marked}
-use Rattle.vbr_list.specs.calls.Pieces.{trace_in}
-use Rattle.vbr_list.specs.updates.Removing.{SearchesOn}
-use Rattle.vbr_list.specs.updates.Replacing.{MayStoreNode, ReplacesFound, UnlinksAtOnce, UnlinksReplaced}
-use Rattle.vbr_list.specs.updates.Settling.{SettlesIn}
-use Rattle.vbr_list.specs.declared.call.PendingCall.{PendingCall}
-use Rattle.vbr_list.specs.declared.found.Found.{Found}
+use Rattle.vbr_list.proofs.Names.{ℕ, true, inl, inr, subst, ⊎_elim, arith, ◌∙◌, counts_on, Found, Ghosts, had_grown}
+use Rattle.vbr_list.proofs.Names.{IsRun, IsSame, IsStart, KeyAt, knows, Marked, MayStoreNode, none_on, PendingCall}
+use Rattle.vbr_list.proofs.Names.{Quiet, quiet_refl, ReplacesFound, SearchesOn, SettlesIn, Slot, trace_in, two_before}
+use Rattle.vbr_list.proofs.Names.{UnlinksAtOnce, UnlinksReplaced, wide_found, wide_marked}
 use Rattle.vbr_list.proofs.named_entries.ReplacedEntries.{entry_since}
 use Rattle.vbr_list.proofs.pieces.Going.{call_on}
 use Rattle.vbr_list.proofs.stores.Stores.{all_but_then}
 use Rattle.vbr_list.proofs.traversals.Sweeping.{leaves_replaced}
-use Rattle.vbr_list.specs.calls.Words.{wide_found, wide_marked}
 use Rattle.vbr_list.proofs.call.PendingCall.replace_and_unlink.Goals as goal
 
 pub returns-clause-settles : goal.returns-clause-settles

@@ -1,14 +1,10 @@
-use Rattle.vbr_list.proofs.Names.{◌≡◌, ℕ, true, false, Option, Some, None, ap, arith, sym, subst, ◌∙◌}
-use Rattle.vbr_list.proofs.Names.{begins_refl, Ghosts, IsStart, none_on, quiet_on, Start}
-use Rattle.vbr_list.specs.look_ups.Telling.{KnowsThere}
-use Rattle.vbr_list.specs.updates.Replacing.{KnowsFoundValue}
-use Rattle.vbr_list.specs.declared.call.PendingCall.{PendingCall}
-use Rattle.vbr_list.specs.declared.found.Found.{Found}
+use Rattle.vbr_list.proofs.Names.{◌≡◌, ℕ, true, false, Option, Some, None, ap, arith, sym, subst, ◌∙◌, begins_refl}
+use Rattle.vbr_list.proofs.Names.{Found, Ghosts, IsStart, KnowsFoundValue, KnowsThere, none_on, PendingCall, quiet_on}
+use Rattle.vbr_list.proofs.Names.{ReplacedEntry, Start, WasOther, wide_found}
 use Rattle.vbr_list.proofs.look_ups.FoundValues.{asks_read}
 use Rattle.vbr_list.proofs.stores.Settled.{leaves_since, settles_since, stores_since}
 use Rattle.vbr_list.proofs.stores.Stores.{hand_kept}
-use Rattle.vbr_list.specs.named_entries.OtherEntries.{ReplacedEntry, WasOther}
-use Rattle.vbr_list.proofs.pieces.Going.{call_on, within_call}
+use Rattle.vbr_list.proofs.pieces.Going.{call_on, less_left, within_call}
 use Rattle.vbr_list.proofs.inserts.Linking.{begun, counts_until, has_until, located, none_until, quiet_until}
 use Rattle.vbr_list.proofs.named_entries.OtherEntries.{other_since, was_other}
 use Rattle.vbr_list.proofs.inserts.Preparing.{within_on}
@@ -16,55 +12,49 @@ use Rattle.vbr_list.proofs.named_entries.ReplacedEntries.{entry_since}
 use Rattle.vbr_list.proofs.stores.SettledSoon.{held_asked, held_finds, held_lost, held_stores, searched_out}
 use Rattle.vbr_list.proofs.stores.SettledSoon.{takes_settled}
 use Rattle.vbr_list.proofs.pieces.WideWords.{node_bare, node_wide}
-use Rattle.vbr_list.specs.calls.Words.{wide_found}
 use Rattle.vbr_list.proofs.call.PendingCall.replace_entry.Goals as goal
 
-pub returns-in_default-clause-counts : goal.returns-in_default-clause-counts
-returns-in_default-clause-counts g c = counts_until c.loop-found.invariant.0 c.reach.ensures.goes
-
-pub returns-in_default-clause-takes_no_slot : goal.returns-in_default-clause-takes_no_slot
-returns-in_default-clause-takes_no_slot g c = none_until c.loop-found.invariant.0 c.reach.ensures.goes
-
-pub returns-in_default-clause-kept : goal.returns-in_default-clause-kept
-returns-in_default-clause-kept g c =
+pub returns-in_default : goal.returns-in_default
+returns-in_default g c =
     let so = c.loop-found.invariant.0 in
     let went = c.reach.ensures.goes in
-    let tired = c.in_default.ensures.tired in
+    let x = searched_out c.law.ensures so went c.in_default.ensures.tired 12 (omega arith, omega arith) in
     record {
-      same = c.loop-found.invariant.1;
-      has = has_until so went;
-      quiet = quiet_until so went;
-      says = let x = searched_out c.law.ensures so went tired 12 (omega arith, omega arith) in
-          record { short = x.0; searches = x.1; lacks = x.2 };
+      call = begun so went;
+      counts = counts_until so went;
+      takes_no_slot = none_until so went;
+      replaced = tt;
+      kept = record {
+        same = c.loop-found.invariant.1;
+        has = has_until so went;
+        quiet = quiet_until so went;
+        says = record { short = x.0; searches = x.1; lacks = x.2 };
+      };
     }
 
-pub returns-then-not-is_node_of-clause-counts : goal.returns-then-not-is_node_of-clause-counts
-returns-then-not-is_node_of-clause-counts g c = counts_until c.loop-found.invariant.0 c.reach.ensures.goes
-
-pub returns-then-not-is_node_of-clause-takes_no_slot : goal.returns-then-not-is_node_of-clause-takes_no_slot
-returns-then-not-is_node_of-clause-takes_no_slot g c = none_until c.loop-found.invariant.0 c.reach.ensures.goes
-
-pub returns-then-not-is_node_of-clause-kept : goal.returns-then-not-is_node_of-clause-kept
-returns-then-not-is_node_of-clause-kept g c =
+pub returns-then-not-is_node_of : goal.returns-then-not-is_node_of
+returns-then-not-is_node_of g c =
     let so = c.loop-found.invariant.0 in
     let went = c.reach.ensures.goes in
-    let b = c.args.self.now in
-    let o = c.loop-found.self.at.stepper.now.trace in
-    let p = c.reach.new.self.at.stepper.now.trace in
     let found = c.in-Some.ensures.found in
-    let T : Start → Type 0 = IsStart in
-    let start = subst T (sym so.1.same.start) c.law.ensures.start in
-    let W : ℕ → Type 0 = λ k. WasOther o p k c.args.entry.now in
-    let was = was_other c.loop-found.self.key (wide_found c.loop-found.self c.in-Some.found) c.args.entry.now start
-    went.goes.quiet.same found.found
+    let start = subst IsStart (sym so.1.same.start) c.law.ensures.start in
+    let W : ℕ → Type 0 =
+    λ k. WasOther c.loop-found.self.at.stepper.now.trace c.reach.new.self.at.stepper.now.trace k c.args.entry.now in
+    let was = was_other start went.goes.quiet.same found.found c.args.entry.now
     (λ is. c.is_node_of.ensures.is_not c.if-not-is_node_of.true (node_bare c.loop-found.self c.in-Some.found is)) in
     record {
-      same = c.loop-found.invariant.1;
-      has = has_until so went;
-      quiet = quiet_until so went;
-      says = held_finds {b = b} c.law.ensures so went (wide_found c.loop-found.self c.in-Some.found) found
-          c.args.entry.now
-          (other_since so.1 (subst W so.0.key was));
+      call = begun so went;
+      counts = counts_until so went;
+      takes_no_slot = none_until so went;
+      replaced = tt;
+      kept = record {
+        same = c.loop-found.invariant.1;
+        has = has_until so went;
+        quiet = quiet_until so went;
+        says = held_finds {b = c.args.self.now} c.law.ensures so went
+            (wide_found c.loop-found.self c.in-Some.found) found c.args.entry.now
+            (other_since so.1 (subst W so.0.key was));
+      };
     }
 
 -- ---- this entry is there
@@ -91,13 +81,8 @@ loop-found-preserved-in_default-read_found g c =
 
 pub loop-found-smaller-in_default-read_found : goal.loop-found-smaller-in_default-read_found
 loop-found-smaller-in_default-read_found g c =
-    let s = c.reach.ensures.goes in
-    let more = s.more in
-    let then = rw c.in_default-read_found.ensures.lost.present at c.read_found.ensures.used in
-    let same = call_on s.call c.read_found.ensures.call in
-    let budget = same.budget in
-    let high = c.read_found.new.self.within in
-    omega (arith, more, then, budget, high)
+    let used = rw c.in_default-read_found.ensures.lost.present at c.read_found.ensures.used in
+    less_left c.reach.ensures.goes c.read_found.ensures.call (omega (arith, used))
 
 -- what was found present has a value there
 value_there : {N : Type 0} {kind : Ghosts N} {c : PendingCall N kind} (found : Found) (there : Option ℕ) →
@@ -118,27 +103,8 @@ replace_and_unlink-requires-clause-hand g c =
     r.reads in
     hand_kept c.loop-found.hand asks.hand (has_until c.loop-found.invariant.0 c.reach.ensures.goes)
 
-pub returns-in-Ok-replace_and_unlink-clause-counts : goal.returns-in-Ok-replace_and_unlink-clause-counts
-returns-in-Ok-replace_and_unlink-clause-counts g c =
-    let so = c.loop-found.invariant.0 in
-    let went = c.reach.ensures.goes in
-    let r = c.read_found.ensures in
-    let d = c.reach.new.self in
-    let e = c.read_found.new.self in
-    let f = c.replace_and_unlink.new.self in
-    let found = wide_found c.loop-found.self c.in-Some.found in
-    let x = takes_settled (settles_since d e f found c.law-in-loop-found.ensures r.call r.used r.reads
-    c.in-Ok.ensures.found.keeps c.replace_and_unlink.ensures.settles) in
-    within_on (counts_until so went) x.counts x.more (within_call (call_on (begun so went) x.call))
-
-pub returns-in-Ok-replace_and_unlink-clause-takes_no_slot : goal.returns-in-Ok-replace_and_unlink-clause-takes_no_slot
-returns-in-Ok-replace_and_unlink-clause-takes_no_slot g c =
-    none_on
-    (none_on (none_until c.loop-found.invariant.0 c.reach.ensures.goes) c.read_found.ensures.reads.takes_no_slot)
-    c.replace_and_unlink.ensures.settles.takes_no_slot
-
-pub returns-in-Ok-replace_and_unlink-clause-replaced : goal.returns-in-Ok-replace_and_unlink-clause-replaced
-returns-in-Ok-replace_and_unlink-clause-replaced g c =
+pub returns-in-Ok-replace_and_unlink : goal.returns-in-Ok-replace_and_unlink
+returns-in-Ok-replace_and_unlink g c =
     let so = c.loop-found.invariant.0 in
     let went = c.reach.ensures.goes in
     let b = c.args.self.now in
@@ -157,16 +123,25 @@ returns-in-Ok-replace_and_unlink-clause-replaced g c =
     let K : ℕ → Type 0 =
     λ k. ReplacedEntry p.start p.seen q.seen p.who c.args.entry.now.slot node.node.birth k there.0 in
     let B : ℕ → Type 0 = λ n. ReplacedEntry p.start p.seen q.seen p.who c.args.entry.now.slot n b.key there.0 in
-    let call = r.call in
+    let law = c.law-in-loop-found.ensures in
+    let settles = c.replace_and_unlink.ensures.settles in
+    let y = takes_settled (settles_since d e f found law r.call r.used r.reads read.keeps settles) in
+    let same = call_on (begun so went) y.call in
     record {
-      old = there.0;
-      stores = held_stores b c.loop-found.self d f c.law.ensures so went found c.in-Some.ensures.found
-          (call_on call c.replace_and_unlink.ensures.settles.call) c.args.value (Some there.0) c.loop-found.invariant.1
-          (stores_since d e f found c.law-in-loop-found.ensures call r.used r.reads read.keeps c.args.value there.0
-          c.loop-found.hand x.stores);
-      gone = entry_since q q (quiet_on (quiet_until so went) r.reads.quiet) (begins_refl q.seen)
-          (subst B node.birth (subst K (call_on (begun so went) call).key
-          (x.entry node.node node.cur c.args.entry.now.slot node.place)));
+      call = same;
+      counts = within_on (counts_until so went) y.counts y.more (within_call same);
+      takes_no_slot = none_on (none_until so went) y.takes_no_slot;
+      replaced = record {
+        old = there.0;
+        stores = held_stores b c.loop-found.self d f c.law.ensures so went found c.in-Some.ensures.found
+            (call_on r.call settles.call) c.args.value (Some there.0) c.loop-found.invariant.1
+            (stores_since d e f found law r.call r.used r.reads read.keeps c.args.value there.0 c.loop-found.hand
+            x.stores);
+        gone = entry_since q q (quiet_on (quiet_until so went) r.reads.quiet) (begins_refl q.seen)
+            (subst B node.birth (subst K (call_on (begun so went) r.call).key
+            (x.entry node.node node.cur c.args.entry.now.slot node.place)));
+      };
+      kept = tt;
     }
 
 pub loop-found-preserved : goal.loop-found-preserved

@@ -1,8 +1,5 @@
-use Rattle.vbr_list.proofs.Names.{ap, ◌∙◌, arith, PassView, refl, subst, sym}
-use Rattle.vbr_list.proofs.Names.{bucket_of}
-use Rattle.vbr_list.specs.traversals.Disturbed.{disturbed_at}
-use Rattle.vbr_list.specs.calls.Words.{wide_found}
-use Rattle.vbr_list.specs.calls.Pieces.{Tries}
+use Rattle.vbr_list.proofs.Names.{ap, ◌∙◌, arith, refl, subst, sym, bucket_of, disturbed_at, PassView, Tries}
+use Rattle.vbr_list.proofs.Names.{wide_found}
 use Rattle.vbr_list.proofs.pieces.Going.{call_on, goes_further, tries_on, within_call}
 use Rattle.vbr_list.proofs.traversals.LostTraversals.{searched_none}
 use Rattle.vbr_list.proofs.traversals.Moments.{found_since}

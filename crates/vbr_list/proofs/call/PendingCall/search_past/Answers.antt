@@ -1,24 +1,15 @@
-use Rattle.vbr_list.proofs.Names.{ℕ, ◌+◌, ◌∙◌, subst, PassView, refl, sym}
-use Rattle.vbr_list.specs.calls.Pieces.{Peeks}
-use Rattle.vbr_list.proofs.Names.{begins_run, disturbances_grow, since}
-use Rattle.vbr_list.specs.traversals.Disturbed.{disturbed_at}
-use Rattle.vbr_list.specs.traversals.Places.{sighted}
-use Rattle.vbr_list.specs.traversals.Searching.{RepeatsIn}
-use Rattle.vbr_list.proofs.traversals.Searching.{HasRepeatedIn, last_traversal, lost_on, repeated_none_in, stood_from}
-use Rattle.vbr_list.proofs.traversals.Searching.{traverses_again}
+use Rattle.vbr_list.proofs.Names.{ℕ, ◌+◌, ◌∙◌, subst, refl, sym, begins_run, disturbances_grow, disturbed_at}
+use Rattle.vbr_list.proofs.Names.{PassView, Peeks, RepeatsIn, sighted, since, wide_sight}
+use Rattle.vbr_list.proofs.traversals.Searching.{HasRepeatedIn, last_traversal, lost_on, stood_from, traverses_again}
 use Rattle.vbr_list.proofs.traversals.LostTraversals.{run_whole}
-use Rattle.vbr_list.proofs.pieces.Going.{call_on, call_refl, goes_further, within_call}
+use Rattle.vbr_list.proofs.pieces.Going.{call_on, goes_further, within_call}
 use Rattle.vbr_list.proofs.pieces.Observing.{observes_on}
-use Rattle.vbr_list.proofs.look_ups.Passing.{peeks_on, peeks_refl}
-use Rattle.vbr_list.specs.calls.Words.{wide_sight}
+use Rattle.vbr_list.proofs.look_ups.LostLooks.{looked_none}
+use Rattle.vbr_list.proofs.look_ups.Passing.{peeks_on}
 use Rattle.vbr_list.proofs.call.PendingCall.search_past.Goals as goal
 
 pub loop-sight-init : goal.loop-sight-init
-loop-sight-init g c = (
-  call_refl c.args.self.now,
-  peeks_refl c.args.self.now.at.stepper.now c.args.self.now.used c.args.self.now.budget c.args.self.now.within,
-  repeated_none_in 5 c.args.self.now.at.stepper.now.trace c.args.self.now.bucket 3 c.args.self.now.used,
-)
+loop-sight-init g c = looked_none c.args.self.now c.args.self.now.bucket 3
 
 pub loop-sight-preserved : goal.loop-sight-preserved
 loop-sight-preserved g c =
@@ -38,23 +29,8 @@ loop-sight-preserved g c =
           stopped.1 stopped.2),
     )
 
-pub returns-in-Ok-clause-goes : goal.returns-in-Ok-clause-goes
-returns-in-Ok-clause-goes g c = goes_further c.loop-sight.invariant.0 c.loop-sight.invariant.1.tries
-    c.traverse_past.ensures.goes
-
-pub returns-in-Ok-clause-observes : goal.returns-in-Ok-clause-observes
-returns-in-Ok-clause-observes g c = observes_on c.loop-sight.invariant.1.observes c.traverse_past.ensures.observes
-
-pub returns-in-Err-Tired-clause-goes : goal.returns-in-Err-Tired-clause-goes
-returns-in-Err-Tired-clause-goes g c =
-    goes_further c.loop-sight.invariant.0 c.loop-sight.invariant.1.tries c.traverse_past.ensures.goes
-
-pub returns-in-Err-Tired-clause-observes : goal.returns-in-Err-Tired-clause-observes
-returns-in-Err-Tired-clause-observes g c = observes_on c.loop-sight.invariant.1.observes
-    c.traverse_past.ensures.observes
-
-pub returns-in-Ok-clause-sight : goal.returns-in-Ok-clause-sight
-returns-in-Ok-clause-sight g c =
+pub returns-in-Ok : goal.returns-in-Ok
+returns-in-Ok g c =
     let x = simp c.loop-sight.invariant.0.at.slots at c.in-Ok.ensures.sight in
     let p = c.args.self.now.at.stepper.now.trace in
     let q = c.loop-sight.self.at.stepper.now.trace in
@@ -71,22 +47,34 @@ returns-in-Ok-clause-sight g c =
     last_traversal c.law.ensures first then c.loop-sight.invariant.2 (rw same at x.paid) (disturbed_at p bucket m)
     (disturbances_grow (since p.start p.passes q.seen m is ok x.stood.from) p.who bucket) in
     record {
-      sees = rw c.loop-sight.invariant.0.key at x.sees;
-      fresh = x.fresh;
-      looks = record {
-        stood = stood_from p q r (sighted (wide_sight c.args.self.now c.in-Ok.sight)) (same ∙ c.args.self.now.of_key)
-            first.same first.seen x.stood;
-        lost = c.loop-sight.invariant.2.lost;
-        repeats = subst
-            (λ (b : ℕ). RepeatsIn 5 p r b 3 c.args.self.now.used c.traverse_past.new.self.used
-            (c.loop-sight.invariant.2.lost + 1) (disturbed_at p b m + 1)) c.args.self.now.of_key repeats;
+      goes = goes_further c.loop-sight.invariant.0 c.loop-sight.invariant.1.tries
+          c.traverse_past.ensures.goes;
+      observes = observes_on c.loop-sight.invariant.1.observes c.traverse_past.ensures.observes;
+      sight = record {
+        sees = rw c.loop-sight.invariant.0.key at x.sees;
+        fresh = x.fresh;
+        looks = record {
+          stood = stood_from p q r (sighted (wide_sight c.args.self.now c.in-Ok.sight)) (same ∙ c.args.self.now.of_key)
+              first.same first.seen x.stood;
+          lost = c.loop-sight.invariant.2.lost;
+          repeats = subst
+              (λ (b : ℕ). RepeatsIn 5 p r b 3 c.args.self.now.used c.traverse_past.new.self.used
+              (c.loop-sight.invariant.2.lost + 1) (disturbed_at p b m + 1)) c.args.self.now.of_key repeats;
+        };
       };
+      tired = tt;
     }
 
-pub returns-in-Err-Tired-clause-tired : goal.returns-in-Err-Tired-clause-tired
-returns-in-Err-Tired-clause-tired g c =
+pub returns-in-Err-Tired : goal.returns-in-Err-Tired
+returns-in-Err-Tired g c =
     let x = rw c.loop-sight.invariant.0.bucket at (rw c.in-Err-Tired.field-0-is at c.in-Err-Tired.ensures.stopped) in
     let again = traverses_again c.law.ensures c.loop-sight.invariant.1.tries.goes.quiet
     c.traverse_past.ensures.goes.goes.quiet
     c.loop-sight.invariant.2 x.1 in
-    record { tired = rw c.loop-sight.invariant.0.budget at x.0; looks = rw c.args.self.now.of_key at again }
+    record {
+      goes = goes_further c.loop-sight.invariant.0 c.loop-sight.invariant.1.tries c.traverse_past.ensures.goes;
+      observes = observes_on c.loop-sight.invariant.1.observes
+          c.traverse_past.ensures.observes;
+      tired = record { tired = rw c.loop-sight.invariant.0.budget at x.0; looks = rw c.args.self.now.of_key at again };
+      sight = tt;
+    }

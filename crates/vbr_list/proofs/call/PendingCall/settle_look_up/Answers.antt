@@ -1,10 +1,6 @@
-use Rattle.vbr_list.proofs.Names.{sym, subst, Option, knows}
-use Rattle.vbr_list.specs.named_entries.Entries.{EntryAnswers}
-use Rattle.vbr_list.specs.look_ups.LookUpPieces.{IsSightFor}
-use Rattle.vbr_list.specs.declared.entries.Entry.{Entry}
-use Rattle.vbr_list.specs.declared.looking.Sight.{Sight}
+use Rattle.vbr_list.proofs.Names.{sym, subst, Option, Entry, EntryAnswers, IsSightFor, knows, Sight, wide_held}
+use Rattle.vbr_list.proofs.Names.{wide_sight}
 use Rattle.vbr_list.proofs.named_entries.EntryAnswers.{entry_answers}
-use Rattle.vbr_list.specs.calls.Words.{wide_held, wide_sight}
 use Rattle.vbr_list.proofs.call.PendingCall.settle_look_up.Goals as goal
 
 pub returns-in-Ok-clause-answers : goal.returns-in-Ok-clause-answers

@@ -1,20 +1,16 @@
 use Rattle.vbr_list.proofs.Names.{rules, refl, false, Some}
-use Rattle.vbr_list.proofs.traversals.Disturbing.{loses_link}
 use Rattle.vbr_list.proofs.pieces.Going.{settles_step}
-use Rattle.vbr_list.proofs.look_ups.Sights.{answers_bare}
-use Rattle.vbr_at_table.specs.reads.Held.{said_rollback}
-use Rattle.vbr_list.specs.calls.Words.{wide_held}
+use Rattle.vbr_list.proofs.look_ups.Sights.{answers_bare, look_up_lost}
 use Rattle.vbr_list.proofs.call.PendingCall.show_node.Goals as goal
 
-pub confirm_present-outcome-requires-clause-node : goal.confirm_present-outcome-requires-clause-node
-confirm_present-outcome-requires-clause-node g c =
-    let s = c.requires.sight in record { held = s.0; key = (c.args.self.now.key, s.2); unmarked = s.1 }
-
-pub confirm_present-outcome-requires-clause-op : goal.confirm_present-outcome-requires-clause-op
-confirm_present-outcome-requires-clause-op g c = λ e. absurd (cc)
-
-pub confirm_present-outcome-requires-clause-asked : goal.confirm_present-outcome-requires-clause-asked
-confirm_present-outcome-requires-clause-asked g c = λ get. absurd (cc)
+pub confirm_present-outcome-requires : goal.confirm_present-outcome-requires
+confirm_present-outcome-requires g c =
+    let s = c.requires.sight in
+    record {
+      node = record { held = s.0; key = (c.args.self.now.key, s.2); unmarked = s.1 };
+      op = λ e. absurd (cc);
+      asked = λ get. absurd (cc);
+    }
 
 pub returns-in-Ok-clause-settles : goal.returns-in-Ok-clause-settles
 returns-in-Ok-clause-settles g c = settles_step (search rules) refl c.confirm_present-outcome.ensures.keeps.keeps
@@ -36,11 +32,4 @@ returns-in-Ok-clause-answers g c =
     }
 
 pub returns-in-Err-clause-rolls : goal.returns-in-Err-clause-rolls
-returns-in-Err-clause-rolls g c =
-    let lost = c.in-Err.ensures.lost in
-    record {
-      quiet = lost.quiet;
-      adds_none = lost.adds_none;
-      loses = loses_link (wide_held c.args.self.now c.args.node.now)
-          (said_rollback c.args.self.now.at.slots.now c.in-Err.rollback) lost.lost;
-    }
+returns-in-Err-clause-rolls g c = look_up_lost _ _ _ c.in-Err.ensures.lost

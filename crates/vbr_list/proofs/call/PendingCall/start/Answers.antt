@@ -1,5 +1,4 @@
-use Rattle.vbr_list.proofs.Names.{rules, arith}
-use Rattle.vbr_list.specs.calls.Words.{wide_held}
+use Rattle.vbr_list.proofs.Names.{rules, arith, wide_held}
 use Rattle.vbr_list.proofs.pieces.Going.{goes_read, ok_as}
 use Rattle.vbr_list.proofs.pieces.Observing.{reads_observe}
 use Rattle.vbr_list.proofs.traversals.Reaching.{come_to, head_before}

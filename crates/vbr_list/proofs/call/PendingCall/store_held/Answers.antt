@@ -1,40 +1,35 @@
-use Rattle.vbr_list.proofs.Names.{ℕ, None, refl, Some, ap, arith, subst, ◌∙◌}
-use Rattle.vbr_list.proofs.Names.{had_on, none_on, quiet_on, Start}
-use Rattle.vbr_list.specs.updates.HeldStores.{StoresWanted}
-use Rattle.vbr_list.specs.updates.NewValues.{value_after}
-use Rattle.vbr_list.specs.updates.Preparing.{AskLoses, TellsOther}
-use Rattle.vbr_list.proofs.pieces.Going.{call_on, within_call}
-use Rattle.vbr_list.proofs.inserts.Linking.{begun, counts_until, had_until, has_until, located, none_until, quiet_until}
+use Rattle.vbr_list.proofs.Names.{ℕ, None, refl, Some, ap, subst, ◌∙◌, AskLoses, had_on, none_on, quiet_on, Start}
+use Rattle.vbr_list.proofs.Names.{StoresWanted, TellsOther, value_after, wide_found}
+use Rattle.vbr_list.proofs.pieces.Going.{call_on, less_left, within_call}
+use Rattle.vbr_list.proofs.inserts.Linking.{begun, counts_until, had_until, has_until, located, none_until}
+use Rattle.vbr_list.proofs.inserts.Linking.{quiet_until}
 use Rattle.vbr_list.proofs.inserts.Preparing.{within_on}
-use Rattle.vbr_list.proofs.stores.HeldStores.{absent_none, counts_changed, had_changed, knows_old}
-use Rattle.vbr_list.proofs.stores.HeldStores.{none_changed, stored_as, three_lost, tired_out, told_other}
+use Rattle.vbr_list.proofs.stores.HeldStores.{absent_none, counts_changed, had_changed, knows_old, none_changed}
+use Rattle.vbr_list.proofs.stores.HeldStores.{stored_as, three_lost, tired_out, told_other}
 use Rattle.vbr_list.proofs.stores.Settled.{changes_since, each_lost, leaves_since, settles_since}
-use Rattle.vbr_list.proofs.stores.SettledSoon.{had_asked, held_asked, held_lost, takes_asked}
+use Rattle.vbr_list.proofs.stores.SettledSoon.{had_asked, held_asked, held_lost}
 use Rattle.vbr_list.proofs.stores.Stores.{hand_kept}
-use Rattle.vbr_list.specs.calls.Words.{wide_found}
 use Rattle.vbr_list.proofs.call.PendingCall.store_held.Goals as goal
 
 -- ---- no steps are left
 
-pub returns-in_default-clause-counts : goal.returns-in_default-clause-counts
-returns-in_default-clause-counts g c = counts_until c.loop-found.invariant.0 c.reach.ensures.goes
-
-pub returns-in_default-clause-takes_no_slot : goal.returns-in_default-clause-takes_no_slot
-returns-in_default-clause-takes_no_slot g c = none_until c.loop-found.invariant.0 c.reach.ensures.goes
-
-pub returns-in_default-clause-had : goal.returns-in_default-clause-had
-returns-in_default-clause-had g c = had_until c.loop-found.invariant.0 c.reach.ensures.goes
-
-pub returns-in_default-clause-kept : goal.returns-in_default-clause-kept
-returns-in_default-clause-kept g c =
+pub returns-in_default : goal.returns-in_default
+returns-in_default g c =
     let so = c.loop-found.invariant.0 in
     let went = c.reach.ensures.goes in
     record {
-      same = c.loop-found.invariant.1;
-      has = has_until so went;
-      is_not = tt;
-      says = tired_out c.args.wanted c.args.self.now c.loop-found.self c.reach.new.self c.law.ensures went
-          c.args.gives so c.in_default.ensures.tired;
+      call = begun so went;
+      counts = counts_until so went;
+      takes_no_slot = none_until so went;
+      had = had_until so went;
+      stored = tt;
+      kept = record {
+        same = c.loop-found.invariant.1;
+        has = has_until so went;
+        is_not = tt;
+        says = tired_out c.args.wanted c.args.self.now c.loop-found.self c.reach.new.self c.law.ensures went
+            c.args.gives so c.in_default.ensures.tired;
+      };
     }
 
 -- ---- what was there is asked
@@ -63,48 +58,34 @@ loop-found-preserved-in-Changed g c =
 
 pub loop-found-smaller-in-Changed : goal.loop-found-smaller-in-Changed
 loop-found-smaller-in-Changed g c =
-    let s = c.reach.ensures.goes in
-    let more = s.more in
     let lost : AskLoses c.reach.new.self c.ask.new.self (wide_found c.reach.new.self c.in-Some.found) =
     rw c.in-Changed.is at c.in-Err.ensures.unmet in
-    let then = lost.more in
-    let same = call_on s.call c.ask.ensures.asks.call in
-    let budget = same.budget in
-    let high = c.ask.new.self.within in
-    omega (arith, more, then, budget, high)
+    less_left c.reach.ensures.goes c.ask.ensures.asks.call lost.more
 
-pub returns-in-Otherwise-clause-counts : goal.returns-in-Otherwise-clause-counts
-returns-in-Otherwise-clause-counts g c =
-    let so = c.loop-found.invariant.0 in
-    let went = c.reach.ensures.goes in
-    let x = takes_asked c.ask.ensures.asks in
-    within_on (counts_until so went) x.counts x.more (within_call (call_on (begun so went) x.call))
-
-pub returns-in-Otherwise-clause-takes_no_slot : goal.returns-in-Otherwise-clause-takes_no_slot
-returns-in-Otherwise-clause-takes_no_slot g c =
-    none_on (none_until c.loop-found.invariant.0 c.reach.ensures.goes) c.ask.ensures.asks.hand.takes_no_slot
-
-pub returns-in-Otherwise-clause-had : goal.returns-in-Otherwise-clause-had
-returns-in-Otherwise-clause-had g c =
-    had_on c.args.self.now.at.stepper.now c.reach.new.self.at.stepper.now c.ask.new.self.at.stepper.now
-    (had_until c.loop-found.invariant.0 c.reach.ensures.goes) (had_asked c.ask.ensures.asks)
-
-pub returns-in-Otherwise-clause-kept : goal.returns-in-Otherwise-clause-kept
-returns-in-Otherwise-clause-kept g c =
+pub returns-in-Otherwise : goal.returns-in-Otherwise
+returns-in-Otherwise g c =
     let so = c.loop-found.invariant.0 in
     let went = c.reach.ensures.goes in
     let asks = c.ask.ensures.asks in
     let d = c.reach.new.self in
     let e = c.ask.new.self in
-    let f = wide_found c.loop-found.self c.in-Some.found in
+    let same = call_on (begun so went) asks.call in
     let told : TellsOther c.args.gives c.args.wanted d e c.in-Otherwise.there =
     rw c.in-Otherwise.is at c.in-Err.ensures.unmet in
     record {
-      same = c.loop-found.invariant.1;
-      has = hand_kept c.loop-found.hand asks.hand (has_until so went);
-      is_not = told.is_not;
-      says = told_other c.args.wanted c.args.self.now c.loop-found.self d c.law.ensures went
-          c.args.gives so f c.in-Some.ensures.found e asks c.in-Otherwise.there told;
+      call = same;
+      counts = within_on (counts_until so went) asks.counts asks.more (within_call same);
+      takes_no_slot = none_on (none_until so went) asks.hand.takes_no_slot;
+      had = had_on c.args.self.now.at.stepper.now d.at.stepper.now e.at.stepper.now (had_until so went)
+          (had_asked asks);
+      stored = tt;
+      kept = record {
+        same = c.loop-found.invariant.1;
+        has = hand_kept c.loop-found.hand asks.hand (has_until so went);
+        is_not = told.is_not;
+        says = told_other c.args.wanted c.args.self.now c.loop-found.self d c.law.ensures went c.args.gives so
+            (wide_found c.loop-found.self c.in-Some.found) c.in-Some.ensures.found e asks c.in-Otherwise.there told;
+      };
     }
 
 -- ---- the key is absent, as it is wanted
@@ -122,35 +103,32 @@ pub link_found-requires-clause-hand : goal.link_found-requires-clause-hand
 link_found-requires-clause-hand g c =
     hand_kept c.loop-found.hand c.ask.ensures.asks.hand (has_until c.loop-found.invariant.0 c.reach.ensures.goes)
 
-pub returns-in-Ok-link_found-clause-counts : goal.returns-in-Ok-link_found-clause-counts
-returns-in-Ok-link_found-clause-counts g c =
-    counts_changed c.loop-found.invariant.0 c.reach.ensures.goes c.ask.ensures.asks c.link_found.ensures.settles
-
-pub returns-in-Ok-link_found-clause-takes_no_slot : goal.returns-in-Ok-link_found-clause-takes_no_slot
-returns-in-Ok-link_found-clause-takes_no_slot g c =
-    none_changed c.loop-found.invariant.0 c.reach.ensures.goes c.ask.ensures.asks c.link_found.ensures.settles
-
-pub returns-in-Ok-link_found-clause-had : goal.returns-in-Ok-link_found-clause-had
-returns-in-Ok-link_found-clause-had g c =
-    had_changed c.loop-found.invariant.0 c.reach.ensures.goes c.ask.ensures.asks c.link_found.new.self.at.stepper.now
-    c.in-Ok-link_found.ensures.linked.had
-
-pub returns-in-Ok-link_found-clause-stored : goal.returns-in-Ok-link_found-clause-stored
-returns-in-Ok-link_found-clause-stored g c =
+pub returns-in-Ok-link_found : goal.returns-in-Ok-link_found
+returns-in-Ok-link_found g c =
+    let so = c.loop-found.invariant.0 in
     let went = c.reach.ensures.goes in
+    let asks = c.ask.ensures.asks in
+    let settles = c.link_found.ensures.settles in
+    let linked = c.in-Ok-link_found.ensures.linked in
     let d = c.reach.new.self in
     let e = c.ask.new.self in
     let f = c.link_found.new.self in
     let found = wide_found c.loop-found.self c.in-Some.found in
     let x = rw c.in-None.is at (simp went.call.at.slots at c.in-Ok.ensures.wanted) in
-    let call = c.ask.ensures.asks.call in
     let S : ℕ → Type 0 = λ value. StoresWanted c.args.gives value c.args.wanted c.args.self.now f c.args.hand None in
-    subst S (c.after-stored.ensures ∙ ap (value_after c.args.value) c.in-None.is)
-    (stored_as c.args.wanted c.args.self.now c.loop-found.self d c.law.ensures went c.after-stored.result c.args.gives
-    c.loop-found.invariant.0 found c.in-Some.ensures.found c.loop-found.invariant.1 f
-    (call_on call c.link_found.ensures.settles.call) c.requires.asked.values None x.is (λ none. refl)
-    (changes_since d e f found c.law-in-loop-found.ensures call x.used x.read x.keeps c.after-stored.result
-    c.loop-found.hand None x.known c.in-Ok-link_found.ensures.linked))
+    record {
+      call = call_on (call_on (begun so went) asks.call) settles.call;
+      counts = counts_changed so went asks settles;
+      takes_no_slot = none_changed so went asks settles;
+      had = had_changed so went asks f.at.stepper.now linked.had;
+      stored = subst S (c.after-stored.ensures ∙ ap (value_after c.args.value) c.in-None.is)
+          (stored_as c.args.wanted c.args.self.now c.loop-found.self d c.law.ensures went c.after-stored.result
+          c.args.gives so found c.in-Some.ensures.found c.loop-found.invariant.1 f (call_on asks.call settles.call)
+          c.requires.asked.values None x.is (λ none. refl)
+          (changes_since d e f found c.law-in-loop-found.ensures asks.call x.used x.read x.keeps c.after-stored.result
+          c.loop-found.hand None x.known linked));
+      kept = tt;
+    }
 
 pub loop-found-preserved-in-Err-link_found : goal.loop-found-preserved-in-Err-link_found
 loop-found-preserved-in-Err-link_found g c =
@@ -189,54 +167,41 @@ pub replace_and_unlink-requires-clause-hand : goal.replace_and_unlink-requires-c
 replace_and_unlink-requires-clause-hand g c =
     hand_kept c.loop-found.hand c.ask.ensures.asks.hand (has_until c.loop-found.invariant.0 c.reach.ensures.goes)
 
-pub returns-in-Ok-replace_and_unlink-clause-counts : goal.returns-in-Ok-replace_and_unlink-clause-counts
-returns-in-Ok-replace_and_unlink-clause-counts g c =
-    counts_changed c.loop-found.invariant.0 c.reach.ensures.goes c.ask.ensures.asks
-    c.replace_and_unlink.ensures.settles
-
-pub returns-in-Ok-replace_and_unlink-clause-takes_no_slot : goal.returns-in-Ok-replace_and_unlink-clause-takes_no_slot
-returns-in-Ok-replace_and_unlink-clause-takes_no_slot g c =
-    none_changed c.loop-found.invariant.0 c.reach.ensures.goes c.ask.ensures.asks c.replace_and_unlink.ensures.settles
-
-pub returns-in-Ok-replace_and_unlink-clause-had : goal.returns-in-Ok-replace_and_unlink-clause-had
-returns-in-Ok-replace_and_unlink-clause-had g c =
+pub returns-in-Ok-replace_and_unlink : goal.returns-in-Ok-replace_and_unlink
+returns-in-Ok-replace_and_unlink g c =
+    let so = c.loop-found.invariant.0 in
     let went = c.reach.ensures.goes in
-    let found = wide_found c.loop-found.self c.in-Some.found in
-    let old = c.in-Some-there.field-0 in
-    let x = rw c.in-Some-there.is at (simp went.call.at.slots at c.in-Ok.ensures.wanted) in
-    let same = (quiet_on (quiet_until c.loop-found.invariant.0 went) x.read.quiet).same in
-    let asked = c.requires.asked in
-    let known = knows_old {d = c.reach.new.self} {e = c.ask.new.self} c.args.wanted found c.args.gives old asked.absent
-    (λ gives. ap (λ (d : Start). d.shape.values) same.start ∙ asked.values gives) x in
-    let replaced = simp (c.ask.ensures.asks.call.at.slots ∙ went.call.at.slots) at
-    c.in-Ok-replace_and_unlink.ensures.replaced in
-    had_changed c.loop-found.invariant.0 went c.ask.ensures.asks c.replace_and_unlink.new.self.at.stepper.now
-    (replaced old known).stores.had
-
-pub returns-in-Ok-replace_and_unlink-clause-stored : goal.returns-in-Ok-replace_and_unlink-clause-stored
-returns-in-Ok-replace_and_unlink-clause-stored g c =
-    let went = c.reach.ensures.goes in
+    let asks = c.ask.ensures.asks in
+    let settles = c.replace_and_unlink.ensures.settles in
     let d = c.reach.new.self in
     let e = c.ask.new.self in
     let f = c.replace_and_unlink.new.self in
     let found = wide_found c.loop-found.self c.in-Some.found in
     let old = c.in-Some-there.field-0 in
     let x = rw c.in-Some-there.is at (simp went.call.at.slots at c.in-Ok.ensures.wanted) in
-    let same = (quiet_on (quiet_until c.loop-found.invariant.0 went) x.read.quiet).same in
+    let same = (quiet_on (quiet_until so went) x.read.quiet).same in
     let asked = c.requires.asked in
     let known = knows_old {d = d} {e = e} c.args.wanted found c.args.gives old asked.absent
     (λ gives. ap (λ (d : Start). d.shape.values) same.start ∙ asked.values gives) x in
-    let call = c.ask.ensures.asks.call in
-    let replaced = simp (call.at.slots ∙ went.call.at.slots) at c.in-Ok-replace_and_unlink.ensures.replaced in
+    let replaced = simp (asks.call.at.slots ∙ went.call.at.slots) at c.in-Ok-replace_and_unlink.ensures.replaced in
+    let stores = (replaced old known).stores in
     let none = absent_none c.args.gives c.args.wanted (Some old) asked.absent x.is in
     let S : ℕ → Type 0 =
     λ value. StoresWanted c.args.gives value c.args.wanted c.args.self.now f c.args.hand (Some old) in
-    rw c.in-Some-there.is (subst S (c.after-stored.ensures ∙ ap (value_after c.args.value) c.in-Some-there.is)
-    (stored_as c.args.wanted c.args.self.now c.loop-found.self d c.law.ensures went c.after-stored.result c.args.gives
-    c.loop-found.invariant.0 found c.in-Some.ensures.found c.loop-found.invariant.1 f
-    (call_on call c.replace_and_unlink.ensures.settles.call) asked.values (Some old) x.is none
-    (changes_since d e f found c.law-in-loop-found.ensures call x.used x.read x.keeps c.after-stored.result
-    c.loop-found.hand (Some old) x.known (replaced old known).stores)))
+    record {
+      call = call_on (call_on (begun so went) asks.call) settles.call;
+      counts = counts_changed so went asks settles;
+      takes_no_slot = none_changed so went asks settles;
+      had = had_changed so went asks f.at.stepper.now stores.had;
+      stored = rw c.in-Some-there.is
+          (subst S (c.after-stored.ensures ∙ ap (value_after c.args.value) c.in-Some-there.is)
+          (stored_as c.args.wanted c.args.self.now c.loop-found.self d c.law.ensures went c.after-stored.result
+          c.args.gives so found c.in-Some.ensures.found c.loop-found.invariant.1 f (call_on asks.call settles.call)
+          asked.values (Some old) x.is none
+          (changes_since d e f found c.law-in-loop-found.ensures asks.call x.used x.read x.keeps c.after-stored.result
+          c.loop-found.hand (Some old) x.known stores)));
+      kept = tt;
+    }
 
 pub loop-found-preserved : goal.loop-found-preserved
 loop-found-preserved g c =

@@ -1,16 +1,14 @@
 use Rattle.vbr_list.proofs.Names.{rules, ◌≡◌, ◌+◌, ◌≤◌, true, false, sym, ap, ◌∙◌, refl, subst, arith, ◌==◌, is_some}
-use Rattle.vbr_list.proofs.Names.{bucket_of, held_of, HeldIn, knows, Link, link_of, PIECE, quiet_on, Start}
-use Rattle.vbr_list.specs.calls.Words.{wide_held, wide_marked}
-use Rattle.vbr_list.proofs.traversals.Disturbing.{loses_place_disturb, moves_on, moves_on_disturb, run_at}
+use Rattle.vbr_list.proofs.Names.{bucket_of, held_of, HeldIn, knows, Link, link_of, PIECE, quiet_on, Start, wide_held}
+use Rattle.vbr_list.proofs.Names.{wide_marked}
+use Rattle.vbr_list.proofs.traversals.Disturbing.{loses_place_disturb, moves_on, moves_on_disturb, run_of}
 use Rattle.vbr_list.proofs.pieces.Going.{call_on, goes_further, goes_on, tries_on, within_call}
 use Rattle.vbr_list.proofs.traversals.Moments.{cur_found}
 use Rattle.vbr_list.proofs.traversals.Reaching.{node_found, node_reached, pred_inside, pred_on, stood_since}
 use Rattle.vbr_list.proofs.traversals.Reaching.{traverses_on}
 use Rattle.vbr_list.proofs.traversals.Visits.{GoesAlong, knows_now, met_knows, met_open, met_paid, met_past, met_to}
-use Rattle.vbr_list.proofs.traversals.Visits.{paid_so_far}
-use Rattle.vbr_list.proofs.traversals.Visits.{stands_still_on, start_stops, starts_traversal, visit_changes_none}
-use Rattle.vbr_list.proofs.traversals.Visits.{visit_paid}
-use Rattle.vbr_list.proofs.traversals.Visits.{visited_run, traversal_helped}
+use Rattle.vbr_list.proofs.traversals.Visits.{paid_so_far, stands_still_on, start_stops, starts_traversal}
+use Rattle.vbr_list.proofs.traversals.Visits.{visit_changes_none, visit_paid, visited_run, traversal_helped}
 use Rattle.vbr_list.proofs.pieces.WideWords.{layout_at}
 use Rattle.vbr_list.proofs.call.PendingCall.traverse.Goals as goal
 
@@ -87,7 +85,7 @@ loop-pred-preserved-in-Ok-help g c =
     let whole = quiet_on first v.goes.quiet in
     let all = quiet_on whole h.goes.quiet in
     let is = c.law.ensures.start in
-    let ok_t = run_at p t all.same (all.is_run c.law.ensures.is_run) in
+    let ok_t = run_of c.law.ensures all in
     let bucket = c.args.self.now.bucket in
     let inside : HeldIn (knows r) c.loop-pred.pred.at bucket =
     subst (HeldIn (knows r) c.loop-pred.pred.at)
@@ -227,7 +225,7 @@ returns-in-Err-help-clause-stopped g c =
     let all = quiet_on whole h.quiet in
     let later = quiet_on v.quiet h.quiet in
     let is = c.law.ensures.start in
-    let ok_t = run_at p t all.same (all.is_run c.law.ensures.is_run) in
+    let ok_t = run_of c.law.ensures all in
     let bucket = c.args.self.now.bucket in
     let steps = h.hand.takes_no_slot.count ∙ v.hand.takes_no_slot.count ∙ i.tries.goes.hand.takes_no_slot.count in
     let none = visit_changes_none c.law.ensures c.args.self.now.bucket c.loop-pred.invariant.1.tries.goes.quiet

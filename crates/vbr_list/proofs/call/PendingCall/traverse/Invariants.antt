@@ -1,6 +1,4 @@
-use Rattle.vbr_list.proofs.Names.{◌-◌}
-use Rattle.vbr_list.specs.calls.Pieces.{IsSameCall}
-use Rattle.vbr_list.specs.calls.Words.{wide_held}
+use Rattle.vbr_list.proofs.Names.{◌-◌, IsSameCall, wide_held}
 use Rattle.vbr_list.proofs.traversals.Traversals.{Traverses}
 use Rattle.vbr_list.proofs.call.PendingCall.traverse.Given as goal
 

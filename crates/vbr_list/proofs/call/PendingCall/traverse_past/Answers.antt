@@ -1,20 +1,14 @@
-use Rattle.vbr_list.proofs.Names.{rules, ◌≡◌, refl, sym, ap, ◌∙◌, subst, arith, eq-eqb, true, false, Option, ℕ, Some}
-use Rattle.vbr_list.proofs.Names.{None, ◌==◌, nat_tests, is_some}
-use Rattle.vbr_list.proofs.Names.{Held, Link, link_of}
-use Rattle.vbr_list.proofs.look_ups.Following.{follows_head, follows_marked, follows_node, visit_lost}
+use Rattle.vbr_list.proofs.Names.{rules, ◌≡◌, sym, ap, ◌∙◌, subst, arith, eq-eqb, true, false, ◌==◌, nat_tests}
+use Rattle.vbr_list.proofs.Names.{is_some, Held, Link, link_of, wide_held, wide_marked}
+use Rattle.vbr_list.proofs.look_ups.Following.{follows_head, follows_marked, follows_node, no_slot, visit_lost}
 use Rattle.vbr_list.proofs.pieces.Going.{call_on, goes_further}
 use Rattle.vbr_list.proofs.traversals.Visits.{met_open, met_paid, paid_so_far, start_stops, stood_on}
 use Rattle.vbr_list.proofs.pieces.Observing.{observes_on}
 use Rattle.vbr_list.proofs.traversals.Reaching.{node_found}
 use Rattle.vbr_list.proofs.look_ups.Passing.{absent_at_end, absent_before, present_at}
 use Rattle.vbr_list.proofs.traversals.Traversals.{Follows}
-use Rattle.vbr_list.specs.calls.Words.{wide_held, wide_marked}
 use Rattle.vbr_list.proofs.pieces.WideWords.{layout_at}
 use Rattle.vbr_list.proofs.call.PendingCall.traverse_past.Goals as goal
-
-no_slot : (o : Option ℕ) → is_some o ≡ false → o ≡ None
-no_slot None e = refl
-no_slot (Some s) e = absurd (cc)
 
 pub loop-here-init : goal.loop-here-init
 loop-here-init g c =
@@ -55,29 +49,25 @@ loop-here-preserved g c =
           (wide_held c.args.self.now c.in-Ok-Smaller.node) met,
     )
 
-pub returns-in-Err-clause-goes : goal.returns-in-Err-clause-goes
-returns-in-Err-clause-goes g c =
-    goes_further c.loop-here.invariant.0 c.loop-here.invariant.1.peeks.tries c.visit.ensures.goes
+pub returns-in-Err : goal.returns-in-Err
+returns-in-Err g c =
+    let v = c.visit.ensures in
+    let y = c.affords-in-loop-here.ensures.0 c.if-not-affords-2.false in
+    let b = c.loop-here.invariant.0.budget in
+    let some : is_some (link_of (wide_held c.args.self.now c.loop-here.here).word).slot ≡ true =
+    ap (λ (l : Link). is_some l.slot)
+    (sym (rw (layout_at c.layout.ensures.layout c.loop-here.invariant.0.at) at c.decode.ensures.link)) ∙ sym
+    c.is_some.ensures ∙ c.loop-here-test.true in
+    record {
+      goes = goes_further c.loop-here.invariant.0 c.loop-here.invariant.1.peeks.tries v.goes;
+      observes = observes_on c.loop-here.invariant.1.peeks.observes v.observes;
+      stopped = visit_lost c.law.ensures c.loop-here.invariant.1 (record { goes = v.goes.goes; observes = v.observes })
+          v.used (omega (arith, y, b)) some c.in-Err.ensures.moved;
+      sight = tt;
+    }
 
-pub returns-in-Err-clause-observes : goal.returns-in-Err-clause-observes
-returns-in-Err-clause-observes g c = observes_on c.loop-here.invariant.1.peeks.observes c.visit.ensures.observes
-
-pub returns-then-self-key-clause-goes : goal.returns-then-self-key-clause-goes
-returns-then-self-key-clause-goes g c =
-    goes_further c.loop-here.invariant.0 c.loop-here.invariant.1.peeks.tries c.visit.ensures.goes
-
-pub returns-then-self-key-clause-observes : goal.returns-then-self-key-clause-observes
-returns-then-self-key-clause-observes g c = observes_on c.loop-here.invariant.1.peeks.observes c.visit.ensures.observes
-
-pub returns-in-Ok-Beyond-clause-goes : goal.returns-in-Ok-Beyond-clause-goes
-returns-in-Ok-Beyond-clause-goes g c =
-    goes_further c.loop-here.invariant.0 c.loop-here.invariant.1.peeks.tries c.visit.ensures.goes
-
-pub returns-in-Ok-Beyond-clause-observes : goal.returns-in-Ok-Beyond-clause-observes
-returns-in-Ok-Beyond-clause-observes g c = observes_on c.loop-here.invariant.1.peeks.observes c.visit.ensures.observes
-
-pub returns-then-self-key-clause-sight : goal.returns-then-self-key-clause-sight
-returns-then-self-key-clause-sight g c =
+pub returns-then-self-key : goal.returns-then-self-key
+returns-then-self-key g c =
     let v = c.visit.ensures in
     let i = c.loop-here.invariant in
     let met = rw i.0.at.slots at (rw i.0.key at (rw c.in-Ok-Beyond.field-0-is at c.in-Ok-Beyond.ensures.met)) in
@@ -88,18 +78,23 @@ returns-then-self-key-clause-sight g c =
     met.visits.0 met.visits.1 says in
     let few = v.used.1 in
     record {
-      sees = present_at c.visit.new.self.at.stepper.now.trace.start c.args.self.now.key
-          (wide_held c.args.self.now c.loop-here.here)
-          (wide_held c.args.self.now c.in-Ok-Beyond.node) cur;
-      fresh = met.fresh;
-      stood = (met_open c.law.ensures c.args.self.now.bucket i.1.peeks.tries.goes.quiet v.goes.goes.quiet v.observes
-          i.1.traverses met cur.unmarked).stood;
-      paid = met_paid c.law.ensures c.args.self.now.bucket i.1.peeks.tries.goes.quiet v.goes.goes.quiet v.observes
-          i.1.traverses met (omega (arith, few));
+      goes = goes_further i.0 i.1.peeks.tries v.goes;
+      observes = observes_on i.1.peeks.observes v.observes;
+      sight = record {
+        sees = present_at c.visit.new.self.at.stepper.now.trace.start c.args.self.now.key
+            (wide_held c.args.self.now c.loop-here.here)
+            (wide_held c.args.self.now c.in-Ok-Beyond.node) cur;
+        fresh = met.fresh;
+        stood = (met_open c.law.ensures c.args.self.now.bucket i.1.peeks.tries.goes.quiet v.goes.goes.quiet v.observes
+            i.1.traverses met cur.unmarked).stood;
+        paid = met_paid c.law.ensures c.args.self.now.bucket i.1.peeks.tries.goes.quiet v.goes.goes.quiet v.observes
+            i.1.traverses met (omega (arith, few));
+      };
+      stopped = tt;
     }
 
-pub returns-in-Ok-Beyond-clause-sight : goal.returns-in-Ok-Beyond-clause-sight
-returns-in-Ok-Beyond-clause-sight g c =
+pub returns-in-Ok-Beyond : goal.returns-in-Ok-Beyond
+returns-in-Ok-Beyond g c =
     let v = c.visit.ensures in
     let i = c.loop-here.invariant in
     let met = rw i.0.at.slots at (rw i.0.key at (rw c.in-Ok-Beyond.field-0-is at c.in-Ok-Beyond.ensures.met)) in
@@ -112,12 +107,17 @@ returns-in-Ok-Beyond-clause-sight g c =
     met.visits.0 met.visits.1 says in
     let few = v.used.1 in
     record {
-      sees = absent_before (wide_held c.args.self.now c.in-Ok-Beyond.node) i.1 c.args.self.now.of_key
-          v.goes.goes.quiet.same met.keeps cur;
-      fresh = met.fresh;
-      stood = stood_on v.goes.goes.quiet.seen i.1.traverses.stands.stood;
-      paid = met_paid c.law.ensures c.args.self.now.bucket i.1.peeks.tries.goes.quiet v.goes.goes.quiet v.observes
-          i.1.traverses met (omega (arith, few));
+      goes = goes_further i.0 i.1.peeks.tries v.goes;
+      observes = observes_on i.1.peeks.observes v.observes;
+      sight = record {
+        sees = absent_before (wide_held c.args.self.now c.in-Ok-Beyond.node) i.1 c.args.self.now.of_key
+            v.goes.goes.quiet.same met.keeps cur;
+        fresh = met.fresh;
+        stood = stood_on v.goes.goes.quiet.seen i.1.traverses.stands.stood;
+        paid = met_paid c.law.ensures c.args.self.now.bucket i.1.peeks.tries.goes.quiet v.goes.goes.quiet v.observes
+            i.1.traverses met (omega (arith, few));
+      };
+      stopped = tt;
     }
 
 pub returns-clause-sight : goal.returns-clause-sight
@@ -133,18 +133,6 @@ returns-clause-sight g c =
       stood = i.traverses.stands.stood;
       paid = paid_so_far c.law.ensures i.peeks.tries.goes.quiet i.traverses;
     }
-
-pub returns-in-Err-clause-stopped : goal.returns-in-Err-clause-stopped
-returns-in-Err-clause-stopped g c =
-    let v = c.visit.ensures in
-    let y = c.affords-in-loop-here.ensures.0 c.if-not-affords-2.false in
-    let b = c.loop-here.invariant.0.budget in
-    let some : is_some (link_of (wide_held c.args.self.now c.loop-here.here).word).slot ≡ true =
-    ap (λ (l : Link). is_some l.slot)
-    (sym (rw (layout_at c.layout.ensures.layout c.loop-here.invariant.0.at) at c.decode.ensures.link)) ∙ sym
-    c.is_some.ensures ∙ c.loop-here-test.true in
-    visit_lost c.law.ensures c.loop-here.invariant.1 (record { goes = v.goes.goes; observes = v.observes }) v.used
-    (omega (arith, y, b)) some c.in-Err.ensures.moved
 
 pub returns-in_default-clause-stopped : goal.returns-in_default-clause-stopped
 returns-in_default-clause-stopped g c =

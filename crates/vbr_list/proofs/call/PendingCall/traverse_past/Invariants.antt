@@ -1,7 +1,5 @@
-use Rattle.vbr_list.proofs.Names.{◌-◌}
-use Rattle.vbr_list.specs.calls.Pieces.{IsSameCall}
+use Rattle.vbr_list.proofs.Names.{◌-◌, IsSameCall, wide_held}
 use Rattle.vbr_list.proofs.traversals.Traversals.{Follows}
-use Rattle.vbr_list.specs.calls.Words.{wide_held}
 use Rattle.vbr_list.proofs.call.PendingCall.traverse_past.Given as goal
 
 abbrev pub invariant-loop-here : goal.invariant-loop-here
