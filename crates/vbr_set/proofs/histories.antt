@@ -4,3 +4,4 @@ pub mod MapHistories
 pub mod EntryCalls
 pub mod Staying
 pub mod CatchingUp
+pub mod AnyCall

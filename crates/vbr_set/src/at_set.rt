@@ -22,7 +22,19 @@ macro_rules! at_set {
     };
 }
 
+// A call by a pass of a set, which says its law before and after it.
+macro_rules! between_laws {
+    ($set:expr, $pass:expr, $call:ident($($argument:expr),*)) => {{
+        let set = $set;
+        $pass.law();
+        let answer = $call(&set.slots, $pass, $($argument),*);
+        $pass.law();
+        answer
+    }};
+}
+
 pub(crate) use at_set;
+pub(crate) use between_laws;
 
 /// A caller at its set: a pass with no slot in hand, and a reference to the set, lent for a call or more.
 #[derive(Drop)]

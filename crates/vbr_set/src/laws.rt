@@ -21,6 +21,7 @@ pub fn calls_stay_in_order()
 
 /// A law: let a call be answered, and let its pass then make no call, but take slots or give some back. What
 /// the answer left stands on: the call stands in the one legal history that the pass then has.
+#[tactic(auto, using(crate::proofs::histories::Staying::answers_stay))]
 pub fn answers_stay()
     ensures { AnswersStay }
 {
@@ -45,6 +46,7 @@ pub fn removes_make_progress()
 /// own pool its budget was below (m + 2) * (9 * (n + m) + 7) + 68. With none, 68 stands for the greater
 /// of it and w + 6, with w flag words, and besides for each slot that other passes took out of the
 /// shared pool meanwhile the bound is one more.
+#[tactic(auto, using(crate::proofs::progress::Progress::inserts_progress))]
 pub fn inserts_make_progress()
     ensures { InsertsMakeProgress }
 {}
@@ -52,6 +54,7 @@ pub fn inserts_make_progress()
 /// A law: likewise the calls of a map. A get counts as a look-up, and a remove by its value as a
 /// remove. A store has five steps more than an insert for each time that it was disturbed, and two more
 /// if it compares the value.
+#[tactic(auto, using(crate::proofs::progress::Progress::maps_progress))]
 pub fn maps_make_progress()
     ensures { MapsMakeProgress }
 {}
@@ -60,12 +63,14 @@ pub fn maps_make_progress()
 /// gone over, each (m + 1) * (5 * (n + m) + 3) with its own n, or (m + 1) * (5 * (n + m) + 5) in a map,
 /// and (m + 1) * (5 * (n + m) + 11) for the one where it then stands. In a stretch of a run, the laws
 /// of stretches say what m is.
+#[tactic(auto, using(crate::proofs::progress::AnsweredWalks::walks_progress))]
 pub fn walks_make_progress()
     ensures { WalksMakeProgress }
 {}
 
 /// A law: while the members of a set or of a map stand still, the balances of all of them, each once,
 /// add up to its number of keys.
+#[tactic(auto, using(crate::proofs::sums::BalanceSums::add_up))]
 pub fn balances_add_up()
     ensures { BalancesAddUp }
 {}
@@ -73,6 +78,7 @@ pub fn balances_add_up()
 /// A law: if the members of a set or of a map, each once, get a report, the report shows whether a
 /// renewal has room. So a renewal that is refused for want of room has more keys than slots, and one
 /// that is refused for want of memory hasn't.
+#[tactic(auto, using(crate::proofs::whereabouts::RenewalRoom::room_told))]
 pub fn room_is_told()
     ensures { RoomIsTold }
 {}

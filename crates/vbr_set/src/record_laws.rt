@@ -31,6 +31,7 @@ pub fn a_held_slot_stays_in_hand()
 
 /// A law: no slot is lost while a member holds one. With that one it has all that it had before, and
 /// once it lets go, all are in its pool and its hand.
+#[tactic(auto, using(crate::proofs::held_slots::HeldRoom::come_back))]
 pub fn held_slots_come_back()
     ensures { HeldSlotsComeBack }
 {}

@@ -5,6 +5,7 @@ ghost use Rattle.vbr_set.specs.Laws.{NoSlotAlone, OneUnstampedAtEachMoment, Pass
 /// A law: a pass has all its slots in its own pool and its hand, and none unstamped, when it is opened.
 /// The same holds after each call on a set or a map, answered or refused, and after each meeting, each
 /// catching up, each giving back, each reserve and each top-up of slots.
+#[tactic(auto, using(crate::proofs::whereabouts::HavingSlots::have_all_slots))]
 pub fn passes_have_all_their_slots()
     ensures { PassesHaveAllTheirSlots }
 {}
@@ -12,6 +13,7 @@ pub fn passes_have_all_their_slots()
 /// A law: a pass has unlinked in turn, each slot only once it had stamped all that it had unlinked
 /// before, when it is opened. The same holds after each call on a set or a map, answered or refused,
 /// and after each meeting, each catching up, each giving back, each reserve and each top-up of slots.
+#[tactic(auto, using(crate::proofs::whereabouts::HavingSlots::unlink_in_turn))]
 pub fn passes_unlink_in_turn()
     ensures { PassesUnlinkInTurn }
 {}

@@ -5,6 +5,7 @@ ghost use Rattle.vbr_set.specs.progress.Stretches.{MapStretchesMakeProgress, Pas
 /// A law: an insert or a store, answered or refused, makes at most one step that would advance the
 /// epoch. Each other call makes none, nor does going over keys, meeting others, catching up, giving
 /// slots back or reserving some.
+#[tactic(auto, using(crate::proofs::progress::StretchedRuns::come_by_calls))]
 pub fn passes_come_by_calls()
     ensures { PassesComeByCalls }
 {}
@@ -15,17 +16,20 @@ pub fn passes_come_by_calls()
 /// these inserts, twice for each update that was answered yes in it, and once for each node that was
 /// marked when it began. So if no update is answered yes, it is disturbed no more often than there are
 /// such inserts and nodes.
+#[tactic(auto, using(crate::proofs::progress::StretchedRuns::stretches_disturb))]
 pub fn stretches_disturb()
     ensures { StretchesDisturb }
 {}
 
 /// A law: so a call that is refused for want of steps had a budget below what is enough for that many
 /// disturbances: a look-up, a remove or an insert.
+#[tactic(auto, using(crate::proofs::progress::StretchedRuns::stretches_progress))]
 pub fn stretches_make_progress()
     ensures { StretchesMakeProgress }
 {}
 
 /// A law: the same for the calls of a map.
+#[tactic(auto, using(crate::proofs::progress::StretchedRuns::map_stretches_progress))]
 pub fn map_stretches_make_progress()
     ensures { MapStretchesMakeProgress }
 {}

@@ -6,7 +6,7 @@ use Rattle.std.specs.Int.{w64, int_wrapping_add}
 use Rattle.vbr_machine.specs.declared.history.Call.{Call}
 use Rattle.vbr_slots.specs.steps.Calls.{IsSame, made_by}
 use Rattle.vbr_slots.specs.views.Views.{PassView, TableView, Trace}
-use Rattle.vbr_at_table.specs.hands.Aside.{EmptiesHand, IsPutAside, KeepsAllButHand}
+use Rattle.vbr_at_table.specs.hands.Aside.{EmptiesHand, HasAside, IsPutAside, KeepsAllButHand}
 use Rattle.vbr_at_table.specs.hands.Hands.{HandView, IsHandOf}
 use Rattle.vbr_at_table.specs.declared.aside.Aside.{Aside}
 use Rattle.vbr_list.specs.declared.holding.StillInHand.{StillInHand}
@@ -20,7 +20,6 @@ use Rattle.vbr_set.specs.declared.member.share.Share.{Share}
 use Rattle.vbr_set.specs.declared.record_refusals.HeldRefusal.{HeldRefusal}
 use Rattle.vbr_set.proofs.members.Balances.{added, changed, kept_where}
 use Rattle.vbr_set.proofs.held_slots.HeldCalls.{called_aside}
-use Rattle.vbr_set.proofs.members.MembersAside.{same_aside}
 
 -- a member whose pass took up a slot and has put it aside again, or published it, is part of its set still
 pub part_kept : {N : Type 0} {share : Share N} {p first back : PassView} → KeepsAllButHand p first →
@@ -39,14 +38,20 @@ part_kept {share = share} {p = p} up x q ends part =
       comes_back = subst (CanComeBack share) (sym who) part.comes_back;
     }
 
+abbrev pub member_with_aside : TableView → PassView → Option Aside → MemberView
+member_with_aside set pass aside = record { set = set; pass = pass; aside = aside }
+
 -- the slot of a hand that is put aside again is the one that was
-pub put_again : (hand kept : HandView) (q : PassView) (aside again : Aside) → kept ≡ hand →
-    hand.slot ≡ aside.slot → hand.birth ≡ aside.birth → again.slot ≡ kept.slot → again.birth ≡ kept.birth →
-    IsPutAside q again → IsPutAside q aside
-put_again hand kept q aside again is slot birth slot_again birth_again put =
-    same_aside q again aside
-    (sym slot ∙ sym (ap (λ (h : HandView). h.slot) is) ∙ sym slot_again)
-    (sym birth ∙ sym (ap (λ (h : HandView). h.birth) is) ∙ sym birth_again) put
+pub put_again : (hand kept : HandView) (q : PassView) {was : Option Aside} {aside again : Aside} → was ≡ Some aside →
+    kept ≡ hand → hand.slot ≡ aside.slot → hand.birth ≡ aside.birth → again.slot ≡ kept.slot →
+    again.birth ≡ kept.birth → IsPutAside q again → HasAside q was
+put_again hand kept q held is slot birth slot_again birth_again put =
+    subst (HasAside q) (sym held)
+    (subst (IsPutAside q)
+    (λ i. record {
+      slot = (slot_again ∙ ap (λ (h : HandView). h.slot) is ∙ slot) i;
+      birth = (birth_again ∙ ap (λ (h : HandView). h.birth) is ∙ birth) i;
+    }) put)
 
 module _ {Leave : List Call → Trace → Trace → Type 0} {told : Trace → Bool → List Call} {p first back : PassView}
     {key value budget : ℕ} {hand : HandView} {came : Result (Unit {0}) (HandView × StillInHand)}
@@ -93,28 +98,28 @@ module _ {Leave : List Call → Trace → Trace → Type 0} {told : Trace → Bo
         nothing (h, OutOfSteps used) = refl
 
   -- the slot that is put aside again is the one that was
-  pub still_put : {why : HandView × StillInHand} (q : PassView) (aside again : Aside) → came ≡ Err why →
-      hand.slot ≡ aside.slot → hand.birth ≡ aside.birth → again.slot ≡ why.0.slot → again.birth ≡ why.0.birth →
-      IsPutAside q again → IsPutAside q aside
-  still_put {why} q aside again is slot birth slot_again birth_again put =
+  pub still_put : {why : HandView × StillInHand} (q : PassView) {was : Option Aside} {aside again : Aside} →
+      came ≡ Err why → was ≡ Some aside → hand.slot ≡ aside.slot → hand.birth ≡ aside.birth →
+      again.slot ≡ why.0.slot → again.birth ≡ why.0.birth → IsPutAside q again → HasAside q was
+  still_put {why} q is held slot birth slot_again birth_again put =
       let kept = rw is at inserts.inserts.kept in
-      put_again hand why.0 q aside again kept.same slot birth slot_again birth_again put
+      put_again hand why.0 q held kept.same slot birth slot_again birth_again put
 
   -- what the member tells where the slot wasn't published
   pub tells_still : {why : HandView × StillInHand} (set : TableView) (q : PassView) (put : Option Aside)
-      (aside : Aside) (answer : Result Bool HeldRefusal) → EmptiesHand back q → came ≡ Err why →
-      IsHandOf first hand → put ≡ Some aside → hand.slot ≡ aside.slot → hand.birth ≡ aside.birth →
-      answer ≡ answer_held why.1 →
-      InsertsHeldBy Leave told (record { set = set; pass = p; aside = put })
-      (record { set = set; pass = q; aside = put }) key value budget answer
-  tells_still {why} set q put aside answer ends is in_hand some slot birth so =
-      subst (InsertsHeldBy Leave told m n key value budget) (sym so) (go why.1 inserts_aside)
+      (aside : Aside) (answer : Result Bool HeldRefusal) {view : MemberView} → member_with_aside set p put ≡ view →
+      EmptiesHand back q → came ≡ Err why → IsHandOf first hand → put ≡ Some aside → hand.slot ≡ aside.slot →
+      hand.birth ≡ aside.birth → answer ≡ answer_held why.1 →
+      InsertsHeldBy Leave told view (member_with_aside set q put) key value budget answer
+  tells_still {why} set q put aside answer is_view ends is in_hand some slot birth so =
+      subst (λ (x : MemberView × Result Bool HeldRefusal). InsertsHeldBy Leave told x.0 n key value budget x.1)
+      (λ i. (is_view i, sym so i)) (go why.1 inserts_aside)
     where
       m : MemberView
-      m = record { set = set; pass = p; aside = put }
+      m = member_with_aside set p put
 
       n : MemberView
-      n = record { set = set; pass = q; aside = put }
+      n = member_with_aside set q put
 
       inserts_aside : InsertsAside Leave told m n key value budget (answer_held why.1)
       inserts_aside = record {

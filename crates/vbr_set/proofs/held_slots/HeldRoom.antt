@@ -9,7 +9,7 @@ use Rattle.vbr_machine.specs.Knowledge.{Know}
 use Rattle.vbr_machine.specs.Put.{put}
 use Rattle.vbr_machine.specs.declared.event.Step.TheVariants.{Raise}
 use Rattle.vbr_machine.specs.declared.knowledge.Holding.{Holding}
-use Rattle.vbr_machine.specs.declared.knowledge.Holding.TheVariants.{Free, Unlinked, InHand}
+use Rattle.vbr_machine.specs.declared.knowledge.Holding.TheVariants.{Free, InHand}
 use Rattle.vbr_machine.proofs.Lemmas.{put_here, put_other}
 use Rattle.vbr_slots.specs.views.Views.{Did, PassView, Trace, knows}
 use Rattle.vbr_at_table.specs.hands.KeptSlots.{HasSlot, KeepsSlots}
@@ -22,10 +22,9 @@ use Rattle.vbr_set.specs.whereabouts.Room.{HasAllSlots, HasAllWith}
 use Rattle.vbr_set.proofs.whereabouts.HavingSlots.{all_kept}
 
 may_or_not : (h : Option Holding) → MayBear h ⊎ (¬ (MayBear h))
-may_or_not None = inr (λ m. m)
 may_or_not (Some (Free stamp)) = inl tt
-may_or_not (Some (Unlinked seen)) = inr (λ m. m)
 may_or_not (Some (InHand known)) = inl tt
+may_or_not _ = inr (λ m. m)
 
 same_some : {s t : ℕ} → Some s ≡ Some t → s ≡ t
 same_some e = cc

@@ -35,10 +35,8 @@ use Rattle.vbr_at_table.specs.declared.aside.Aside.{Aside}
 -- ---- between calls
 
 known_in_hand : (h : Option Holding) → IsInHand h → (known : Unpublished) × (h ≡ Some (InHand known))
-known_in_hand None i = absurd i
-known_in_hand (Some (Free stamp)) i = absurd i
-known_in_hand (Some (Unlinked seen)) i = absurd i
 known_in_hand (Some (InHand known)) i = (known, refl)
+known_in_hand _ i = absurd i
 
 pub held_alone : (p : PassView) (aside : Aside) (run : List Event) → PassLaw p → IsPutAside p aside →
     BeginsFor p.trace.who p.trace.seen run → IsRun p.trace.start p.trace.passes run →
@@ -54,28 +52,20 @@ held_alone p aside run law has begins ok =
 -- ---- a slot that isn't in hand comes there by a birth alone
 
 not_reread : (h : Option Holding) → ¬ (IsInHand h) → ¬ (IsInHand (reread h))
-not_reread None out = out
-not_reread (Some (Free stamp)) out = out
-not_reread (Some (Unlinked seen)) out = out
 not_reread (Some (InHand known)) out = out
+not_reread _ out = out
 
 not_keyed : (h : Option Holding) (key : ℕ) → ¬ (IsInHand h) → ¬ (IsInHand (with_key h key))
-not_keyed None key out = out
-not_keyed (Some (Free stamp)) key out = out
-not_keyed (Some (Unlinked seen)) key out = out
 not_keyed (Some (InHand known)) key out = absurd (out tt)
+not_keyed _ key out = out
 
 not_valued : (h : Option Holding) (value : ℕ) → ¬ (IsInHand h) → ¬ (IsInHand (with_value h value))
-not_valued None value out = out
-not_valued (Some (Free stamp)) value out = out
-not_valued (Some (Unlinked seen)) value out = out
 not_valued (Some (InHand known)) value out = absurd (out tt)
+not_valued _ value out = out
 
 not_aimed : (h : Option Holding) (link : Link) → ¬ (IsInHand h) → ¬ (IsInHand (with_link h link))
-not_aimed None link out = out
-not_aimed (Some (Free stamp)) link out = out
-not_aimed (Some (Unlinked seen)) link out = out
 not_aimed (Some (InHand known)) link out = absurd (out tt)
+not_aimed _ link out = out
 
 module _ (s : ℕ) where
   -- the slot isn't in hand, by what is known
@@ -148,27 +138,22 @@ module _ (s : ℕ) where
   out_from start w who (e ∷ events) none out =
       let sum = born-append who (e ∷ []) events in
       out_from start (after start w e.pass e.step) who events (omega (arith, none, sum))
-      (next (omega (arith, none, sum)) (cases_eq e.pass who))
-    where
-      next : born who (e ∷ []) ≡ 0 → (e.pass ≡ who) ⊎ (e.pass ≢ who) →
-          Out ((after start w e.pass e.step).know who)
-      next first (inr ne) =
-          subst (λ (k : Know). Out k) (sym (know_other start w who e.pass e.step (λ x. ne (sym x)))) out
-      next first (inl mine) =
-          let P : ℕ → Type 0 = λ i. Out ((after start w e.pass e.step).know i) in
-          let S : ℕ → Type 0 = λ i. Out (w.know i) in
-          subst P mine
-          (subst (λ (k : Know). Out k) (sym (know_own start w e.pass e.step))
-          (out_learned e.step (found start w e.step) (stamp_shown w e.step) (w.know e.pass)
-          (not_born who e mine first) (subst S (sym mine) out)))
+      (elim (cases_eq e.pass who) [
+        | inr ne ↦ subst (λ (k : Know). Out k) (sym (know_other start w who e.pass e.step (λ x. ne (sym x)))) out
+        | inl mine ↦
+            let P : ℕ → Type 0 = λ i. Out ((after start w e.pass e.step).know i) in
+            let S : ℕ → Type 0 = λ i. Out (w.know i) in
+            subst P mine
+            (subst (λ (k : Know). Out k) (sym (know_own start w e.pass e.step))
+            (out_learned e.step (found start w e.step) (stamp_shown w e.step) (w.know e.pass)
+            (not_born who e mine (omega (arith, none, sum))) (subst S (sym mine) out)))
+      ])
 
 -- ---- throughout a call
 
 in_or_out : (h : Option Holding) → IsInHand h ⊎ (¬ (IsInHand h))
-in_or_out None = inr (λ h. h)
-in_or_out (Some (Free stamp)) = inr (λ h. h)
-in_or_out (Some (Unlinked seen)) = inr (λ h. h)
 in_or_out (Some (InHand known)) = inl tt
+in_or_out _ = inr (λ h. h)
 
 pub held_throughout : (p q : PassView) (aside : Aside) (moment : List Event) → IsPutAside p aside → KeepsSlots p q →
     IsSame p.trace q.trace → Begins p.trace.seen moment → Begins moment q.trace.seen →

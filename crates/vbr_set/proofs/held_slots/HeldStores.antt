@@ -1,6 +1,5 @@
 -- Stores by a slot in hand, as calls of a map; and what they leave of a member.
-use Rattle.std.proofs.Common.{◌≡◌, ℕ, Bool, List, Option, Some, None, Result, Ok, Err, refl, sym, ap, subst}
-use Rattle.std.proofs.Common.{◌∙◌}
+use Rattle.std.proofs.Common.{◌≡◌, ℕ, Bool, List, Option, Some, None, Result, Ok, Err, refl, sym, ap, subst, ◌∙◌}
 use Rattle.std.specs.Prelude.{IfErr, IfOk, ℤ, pos}
 use Rattle.std.specs.Int.{w64, int_wrapping_add}
 use Rattle.vbr_machine.specs.declared.history.Call.{Call}
@@ -29,6 +28,7 @@ use Rattle.vbr_set.specs.calls.RecordCalls.{aside_left}
 use Rattle.vbr_set.specs.calls.MapCalls.{MapAnswersAll}
 use Rattle.vbr_set.specs.calls.Members.{CallsBy, MemberView, as_caller, as_member}
 use Rattle.vbr_set.specs.declared.record_refusals.HeldRefusal.{HeldRefusal}
+use Rattle.vbr_set.proofs.held_slots.HeldMembers.{member_with_aside}
 use Rattle.vbr_set.proofs.members.Balances.{added, changed, kept, kept_where, once_in_map}
 use Rattle.vbr_set.proofs.histories.EntryCalls.{quiet_answers}
 use Rattle.vbr_set.proofs.histories.Histories.{each_answer}
@@ -114,8 +114,7 @@ abbrev takes_up : {T E : Type 0} (Does : PassView → PassView → HandView → 
     {hand : HandView} (came : Result T E) → KeepsAllButHand p first → Does first back hand came →
     IsHandOf first hand → (set : TableView) (q : PassView) (was : Option Aside) (aside : Aside) → EmptiesHand back q →
     was ≡ Some aside → hand.slot ≡ aside.slot → hand.birth ≡ aside.birth →
-    TakesUp Does (record { set = set; pass = p; aside = was })
-    (record { set = set; pass = q; aside = aside_left came was })
+    TakesUp Does (member_with_aside set p was) (member_with_aside set q (aside_left came was))
 takes_up Does {first = first} {back = back} {hand = hand} came up does is set q was aside ends some slot birth =
     record {
       hand = hand;
@@ -136,8 +135,7 @@ takes_up Does {first = first} {back = back} {hand = hand} came up does is set q 
 put_counts : (key value who : ℕ) (came : Result (Option ℕ) (HandView × ℕ)) →
     one_where (wants Absent) (as_put came) ≡ changed (put_told key value who) (as_put came)
 put_counts key value who (Ok (Some old)) = refl
-put_counts key value who (Ok None) = refl
-put_counts key value who (Err left) = refl
+put_counts key value who _ = refl
 
 module _ {p first back : PassView} {key value budget : ℕ} {hand : HandView}
     {came : Result (Option ℕ) (HandView × ℕ)} (up : KeepsAllButHand p first)
@@ -171,21 +169,20 @@ module _ {p first back : PassView} {key value budget : ℕ} {hand : HandView}
   pub put_same : {left : HandView × ℕ} → came ≡ Err left → left.0 ≡ hand
   put_same is = (let kept = rw is at by.puts.kept in kept.same)
 
-  pub puts_aside : (set : TableView) (q : PassView) (was left : Option Aside) (aside : Aside)
-      (answer : Result (Option ℕ) HeldRefusal) → EmptiesHand back q → IsHandOf first hand → was ≡ Some aside →
-      hand.slot ≡ aside.slot → hand.birth ≡ aside.birth → aside_left came was ≡ left → put_answer came ≡ answer →
-      PutsAside (record { set = set; pass = p; aside = was }) (record { set = set; pass = q; aside = left }) key value
-      budget answer
-  puts_aside set q was left aside answer ends is some slot birth gone replies =
+  pub puts_aside : {result : Result (Option ℕ) (HandView × ℕ)} (set : TableView) (q : PassView) (was : Option Aside)
+      (aside : Aside) {view : MemberView} → member_with_aside set p was ≡ view → EmptiesHand back q →
+      IsHandOf first hand → was ≡ Some aside → hand.slot ≡ aside.slot → hand.birth ≡ aside.birth → came ≡ result →
+      PutsAside view (member_with_aside set q (aside_left result was)) key value budget (put_answer result)
+  puts_aside set q was aside is_view ends is some slot birth came_is =
       subst
-      (λ (l : Option Aside).
-      PutsAside (record { set = set; pass = p; aside = was }) (record { set = set; pass = q; aside = l }) key value
-      budget answer) gone
+      (λ (x : MemberView × Result (Option ℕ) (HandView × ℕ)).
+      PutsAside x.0 (member_with_aside set q (aside_left x.1 was)) key value budget (put_answer x.1))
+      (λ i. (is_view i, came_is i))
       (record {
         by = takes_up (λ p q hand came. PutsByHeld p q key value budget hand came) came up by is set q was aside ends
             some slot birth;
         called = put_called set q ends;
-        replies = sym replies;
+        replies = refl;
       })
 
 -- ---- a replacement of one entry
@@ -219,44 +216,38 @@ module _ {p first back : PassView} {key value budget : ℕ} {hand : HandView} {e
   pub replaced_same : {told : HandView × NotReplaced} → came ≡ Err told → told.0 ≡ hand
   replaced_same is = (let kept = rw is at by.replaces.kept in kept.same)
 
-  pub replaces_aside : (set : TableView) (q : PassView) (was left : Option Aside) (aside : Aside)
-      (answer : Result Bool HeldRefusal) → EmptiesHand back q → IsHandOf first hand → was ≡ Some aside →
-      hand.slot ≡ aside.slot → hand.birth ≡ aside.birth → aside_left came was ≡ left →
-      replaced_answer came ≡ answer →
-      ReplacesAside (record { set = set; pass = p; aside = was }) (record { set = set; pass = q; aside = left }) key
-      value budget entry answer
-  replaces_aside set q was left aside answer ends is some slot birth gone replies =
+  pub replaces_aside : {result : Result (Unit {0}) (HandView × NotReplaced)} (set : TableView) (q : PassView)
+      (was : Option Aside) (aside : Aside) {view : MemberView} → member_with_aside set p was ≡ view →
+      EmptiesHand back q → IsHandOf first hand → was ≡ Some aside → hand.slot ≡ aside.slot →
+      hand.birth ≡ aside.birth → came ≡ result →
+      ReplacesAside view (member_with_aside set q (aside_left result was)) key value budget entry
+      (replaced_answer result)
+  replaces_aside set q was aside is_view ends is some slot birth came_is =
       subst
-      (λ (l : Option Aside).
-      ReplacesAside (record { set = set; pass = p; aside = was }) (record { set = set; pass = q; aside = l }) key value
-      budget entry answer) gone
+      (λ (x : MemberView × Result (Unit {0}) (HandView × NotReplaced)).
+      ReplacesAside x.0 (member_with_aside set q (aside_left x.1 was)) key value budget entry (replaced_answer x.1))
+      (λ i. (is_view i, came_is i))
       (record {
         by = takes_up (λ p q hand came. ReplacesByHeld p q key value budget hand entry came) came up by is set q was
             aside ends some slot birth;
         called = replaced_called set q ends;
-        replies = sym replies;
+        replies = refl;
       })
 
   -- what the member tells where it didn't replace the entry
   pub tells_unreplaced : {told : HandView × NotReplaced} (set : TableView) (q : PassView) (was : Option Aside)
-      (aside : Aside) (answer : Result Bool HeldRefusal) → EmptiesHand back q → came ≡ Err told →
-      IsHandOf first hand → was ≡ Some aside → hand.slot ≡ aside.slot → hand.birth ≡ aside.birth →
-      answer ≡ answer_unreplaced told.1 →
-      ReplacesHeldBy (record { set = set; pass = p; aside = was }) (record { set = set; pass = q; aside = was }) key
-      value budget entry answer
-  tells_unreplaced {told} set q was aside answer ends is in_hand some slot birth so =
-      subst (ReplacesHeldBy m n key value budget entry) (sym so)
-      (go told.1
-      (replaces_aside set q was was aside (answer_unreplaced told.1) ends in_hand some slot birth
-      (ap (λ (x : Result (Unit {0}) (HandView × NotReplaced)). aside_left x was) is) (ap replaced_answer is)))
+      (aside : Aside) (answer : Result Bool HeldRefusal) {view : MemberView} → member_with_aside set p was ≡ view →
+      EmptiesHand back q → came ≡ Err told → IsHandOf first hand → was ≡ Some aside → hand.slot ≡ aside.slot →
+      hand.birth ≡ aside.birth → answer ≡ answer_unreplaced told.1 →
+      ReplacesHeldBy view (member_with_aside set q was) key value budget entry answer
+  tells_unreplaced {told} set q was aside answer {view} is_view ends is in_hand some slot birth so =
+      subst (ReplacesHeldBy view n key value budget entry) (sym so)
+      (go told.1 (replaces_aside set q was aside is_view ends in_hand some slot birth is))
     where
-      m : MemberView
-      m = record { set = set; pass = p; aside = was }
-
       n : MemberView
-      n = record { set = set; pass = q; aside = was }
+      n = member_with_aside set q was
 
-      go : (why : NotReplaced) → ReplacesAside m n key value budget entry (answer_unreplaced why) →
-          ReplacesHeldBy m n key value budget entry (answer_unreplaced why)
+      go : (why : NotReplaced) → ReplacesAside view n key value budget entry (answer_unreplaced why) →
+          ReplacesHeldBy view n key value budget entry (answer_unreplaced why)
       go Other x = x
       go (OutOfSteps used) x = x

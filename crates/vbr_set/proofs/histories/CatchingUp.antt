@@ -1,23 +1,18 @@
 -- What a pass has that caught up with a token: the calls that the token tells stand in front.
-use Rattle.std.proofs.Common.{◌≡◌, List, [], ◌∷◌, ◌++◌, sym, ap, ◌∙◌, append_assoc, append-nil}
-use Rattle.vbr_machine.specs.Start.{Start, IsStart}
+use Rattle.std.proofs.Common.{◌≡◌, List, [], ◌∷◌, ◌++◌, sym, ap, ◌∙◌, append_assoc}
+use Rattle.vbr_machine.specs.Start.{IsStart}
 use Rattle.vbr_machine.specs.Calls.{own_calls}
 use Rattle.vbr_machine.specs.Runs.{Begins, IsRun}
 use Rattle.vbr_machine.specs.declared.event.Event.{Event}
 use Rattle.vbr_machine.specs.declared.history.Call.{Call}
-use Rattle.vbr_machine.proofs.Lemmas.{begins_trans, calls_since, every_run, others_leave_calls}
+use Rattle.vbr_machine.proofs.Lemmas.{begins_refl, begins_trans, calls_since, every_run, others_leave_calls}
 use Rattle.vbr_slots.specs.steps.Calls.{IsSame, Quiet}
 use Rattle.vbr_slots.specs.Tokens.{SeenView, Since}
 use Rattle.vbr_slots.specs.views.Views.{IsOf, KeepsPool, PassView, TableView, Trace}
 use Rattle.vbr_set.specs.histories.Answers.{AnswersAll, Follows}
 use Rattle.vbr_set.specs.histories.Histories.{calls_of}
-use Rattle.vbr_set.specs.histories.Tokens.{BeginsWith, CatchesUp, IsChain, IsTokenOf, Precedes, end_of}
+use Rattle.vbr_set.specs.histories.Tokens.{CatchesUp, IsChain, IsTokenOf, Precedes, end_of}
 use Rattle.vbr_set.proofs.histories.Histories.{reads_right, start_of}
-
--- a run that goes on adds its calls at the end
-pub calls_begin : (start : Start) (seen run : List Event) → Begins seen run →
-    BeginsWith (calls_of start seen) (calls_of start run)
-calls_begin = calls_since
 
 -- what is answered later stands after all that the token tells
 pub stands_behind : (told : List Event) (q : Trace) (calls : List Call) (r s : Trace) → Begins told q.seen →
@@ -25,7 +20,7 @@ pub stands_behind : (told : List Event) (q : Trace) (calls : List Call) (r s : T
     Follows (calls_of q.start told) calls (calls_of s.start s.seen)
 stands_behind told q calls r s first same on answered =
     let told_calls = calls_of q.start told in
-    let front = calls_begin q.start told r.seen (begins_trans told q.seen r.seen first on) in
+    let front = calls_since q.start told r.seen (begins_trans told q.seen r.seen first on) in
     let x = answered.together in
     record {
       between = front.0 ++ x.between;
@@ -61,7 +56,7 @@ catches_up {set} {p} {q} {token} own is since pool begins =
       pool = pool;
       begins = begins;
       legal = safe.legal;
-      told = calls_begin q.trace.start token.seen q.trace.seen begins;
+      told = calls_since q.trace.start token.seen q.trace.seen begins;
       later = λ calls r s same on answered. stands_behind token.seen q.trace calls r s begins same on answered;
       exchanges = safe.exchanges;
       reads = reads_right q.trace.start q.trace.passes q.trace.seen start run;
@@ -70,12 +65,9 @@ catches_up {set} {p} {q} {token} own is since pool begins =
 
 -- ---- chains
 
-begins_itself : (seen : List Event) → Begins seen seen
-begins_itself seen = ([], sym (append-nil seen))
-
 chain_begins : (first : SeenView) (tokens : List SeenView) → IsChain first tokens →
     Begins first.seen (end_of first tokens).seen
-chain_begins first [] chain = begins_itself first.seen
+chain_begins first [] chain = begins_refl first.seen
 chain_begins first (next ∷ tokens) chain =
     begins_trans first.seen next.seen (end_of next tokens).seen chain.1 (chain_begins next tokens chain.2)
 
@@ -91,7 +83,7 @@ handed_on set first tokens p q chain caught =
       pool = caught.pool;
       begins = begins;
       legal = caught.legal;
-      told = calls_begin q.trace.start first.seen q.trace.seen begins;
+      told = calls_since q.trace.start first.seen q.trace.seen begins;
       later = λ calls r s same on answered. stands_behind first.seen q.trace calls r s begins same on answered;
       exchanges = caught.exchanges;
       reads = caught.reads;
@@ -116,7 +108,7 @@ pub in_order : (set : TableView) (ones others : List Call) (g h k : Trace) (firs
 in_order set ones others g h k first tokens p q r s answered same on token chain caught same_then on_then
     answered_then =
     let own = answered.together in
-    let more = calls_begin h.start h.seen k.seen on in
+    let more = calls_since h.start h.seen k.seen on in
     let start : q.trace.start ≡ h.start = caught.pass.1 ∙ sym token.pass.1 ∙ same.start in
     let told : calls_of q.trace.start first.seen ≡ calls_of h.start k.seen = λ i. calls_of (start i) (token.seen i) in
     let then = (handed_on set first tokens p q chain caught).later others r s same_then on_then answered_then in

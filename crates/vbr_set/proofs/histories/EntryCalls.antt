@@ -1,5 +1,5 @@
 -- Calls that name an entry, as calls of a set or a map.
-use Rattle.std.proofs.Common.{◌≡◌, ℕ, [], ◌++◌, Bool, true, false, Option, Some, None, Result, Ok, Err, refl, sym, ap}
+use Rattle.std.proofs.Common.{◌≡◌, ℕ, [], ◌++◌, Bool, true, false, Option, Some, None, Result, Ok, refl, sym, ap}
 use Rattle.std.proofs.Common.{◌∙◌, append-nil}
 use Rattle.vbr_machine.specs.Start.{Start, IsStart}
 use Rattle.vbr_machine.specs.Runs.{IsRun}
@@ -75,11 +75,9 @@ called_key_taken set p q key entry budget answer before after x = record {
 pub taken_takes : (who key : ℕ) (answer : Result (Option ℕ) Refusal) →
     changed (taken_calls who key) answer +ℤ one_where (wants Present) answer ≡ pos 0
 taken_takes who key (Ok (Some value)) = refl
-taken_takes who key (Ok None) = refl
-taken_takes who key (Err refusal) = refl
+taken_takes who key _ = refl
 
 pub key_taken_takes : (who key : ℕ) (answer : Result Bool Refusal) →
     changed (key_taken_calls who key) answer +ℤ one_where (λ reply. reply) answer ≡ pos 0
 key_taken_takes who key (Ok true) = refl
-key_taken_takes who key (Ok false) = refl
-key_taken_takes who key (Err refusal) = refl
+key_taken_takes who key _ = refl

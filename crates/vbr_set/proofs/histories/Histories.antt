@@ -59,13 +59,10 @@ stands_among : (who : ℕ) (call : Call) (calls : List Call) → calls_by who ca
     (front : List Call) × (back : List Call) × (calls ≡ front ++ call ∷ back)
 stands_among who call [] e = let no : 0 ≡ 1 = ap length e in absurd (omega (arith, no))
 stands_among who call (c ∷ cs) e =
-    go (picked (c.who == who) c call (calls_by who cs) e) (λ rest. stands_among who call cs rest)
-  where
-    go : (c ≡ call) ⊎ (calls_by who cs ≡ call ∷ []) →
-        (calls_by who cs ≡ call ∷ [] → (front : List Call) × (back : List Call) × (cs ≡ front ++ call ∷ back)) →
-        (front : List Call) × (back : List Call) × (c ∷ cs ≡ front ++ call ∷ back)
-    go (inl is) later = ([], cs, ap (λ (d : Call). d ∷ cs) is)
-    go (inr rest) later = let more = later rest in (c ∷ more.0, more.1, ap (λ l. c ∷ l) more.2)
+    elim (picked (c.who == who) c call (calls_by who cs) e) [
+      | inl is ↦ ([], cs, ap (λ (d : Call). d ∷ cs) is)
+      | inr rest ↦ let more = stands_among who call cs rest in (c ∷ more.0, more.1, ap (λ l. c ∷ l) more.2)
+    ]
 
 -- one that was made stands after all calls that its pass had seen
 follows_one : {call : Call} {p q : Trace} → Made call p q →

@@ -45,10 +45,9 @@ called_entry maps {told = told} set p q budget answer before after e =
 
 -- one call, or two next to each other
 pub all_answers : (calls : List Call) {p q : Trace} → IsStart p.start → Makes calls p q → AnswersAll calls p q
-all_answers [] is made = absurd made
 all_answers (first ∷ []) is made = answers is made
 all_answers (first ∷ second ∷ []) is made = answers_two is made
-all_answers (first ∷ second ∷ third ∷ calls) is made = absurd made
+all_answers _ is made = absurd made
 
 -- so it is of a store
 pub called_store : RunsAreMaps →

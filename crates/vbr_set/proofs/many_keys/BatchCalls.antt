@@ -1,5 +1,5 @@
 -- Each look-up of a batch is a call with budget enough, where the shape of the table tells so.
-use Rattle.std.proofs.Common.{ℕ, ◌+◌, ◌*◌, ◌<◌, ◌≤◌, Bool, List, [], ◌∷◌, Option, Result, Ok, Err, sym, ap, subst}
+use Rattle.std.proofs.Common.{ℕ, ◌+◌, ◌*◌, ◌<◌, ◌≤◌, List, [], ◌∷◌, Result, sym, ap, subst}
 use Rattle.std.proofs.Common.{arith, inr}
 use Rattle.vbr_machine.specs.Start.{IsStart, Start}
 use Rattle.vbr_machine.specs.Runs.{IsRun}
@@ -13,10 +13,11 @@ use Rattle.vbr_set.specs.calls.Batches.{InTurn}
 use Rattle.vbr_set.specs.progress.Callers.{BatchesCall, CallsAndGoesOn, ComesByCalls, MadeAmply, enough_by_shape, got}
 use Rattle.vbr_set.specs.progress.Callers.{looked_up}
 use Rattle.vbr_set.specs.calls.MapCalls.{GetsEntry}
-use Rattle.vbr_set.specs.calls.Members.{Called, MemberView}
+use Rattle.vbr_set.specs.calls.Members.{Called, CallerView, CallsBy, MemberView}
 use Rattle.vbr_set.specs.progress.Progressing.{SeesRun, most_unanswered}
 use Rattle.vbr_list.specs.calls.Budgets.{listed_for}
 use Rattle.vbr_list.specs.traversals.Disturbed.{enough_among}
+use Rattle.vbr_machine.specs.declared.history.Call.{Call}
 use Rattle.vbr_machine.specs.declared.history.Op.TheVariants.{Has}
 use Rattle.vbr_set.proofs.progress.EnoughByShape.{shapes_tell}
 use Rattle.vbr_set.proofs.members.MembersCalls.{members_calls}
@@ -34,31 +35,10 @@ sees_on same sees run = record {
   is_run = run;
 }
 
-has_leaves : (m n : MemberView) (key budget : ℕ) (answer : Result Bool Refusal) → SeesRun m.pass.trace →
-    Called Has m n key budget answer → Leaves m.pass n.pass budget
-has_leaves m n key budget (Ok reply) sees c = record {
-  same = c.same;
-  sees = sees_on c.same sees (c.answers.is_run);
-  steps = c.steps;
-}
-has_leaves m n key budget (Err refusal) sees c = record {
-  same = c.same;
-  sees = sees_on c.same sees (c.quiet.is_run sees.is_run);
-  steps = c.steps;
-}
-
-get_leaves : (m n : MemberView) (key budget : ℕ) (answer : Result (Option ℕ) Refusal) → SeesRun m.pass.trace →
-    GetsEntry m n key budget answer → Leaves m.pass n.pass budget
-get_leaves m n key budget (Ok reply) sees c = record {
-  same = c.same;
-  sees = sees_on c.same sees (c.answers.answers.is_run);
-  steps = c.steps;
-}
-get_leaves m n key budget (Err refusal) sees c = record {
-  same = c.same;
-  sees = sees_on c.same sees (c.quiet.is_run sees.is_run);
-  steps = c.steps;
-}
+leaves : {A : Type 0} {Leave : List Call → Trace → Trace → Type 0} {told : A → List Call}
+    {BoundsSo : Result A Refusal → Type 0} {m n : CallerView} {budget : ℕ} {answer : Result A Refusal} →
+    SeesRun m.pass.trace → CallsBy Leave told BoundsSo m n budget answer → Leaves m.pass n.pass budget
+leaves sees c = record { same = c.same; sees = sees_on c.same sees c.safe.is_run; steps = c.steps }
 
 -- what is enough by the shape stays
 enough_on : (p q : PassView) (budget : ℕ) → IsSame p.trace q.trace → enough_by_shape p ≤ budget →
@@ -74,8 +54,6 @@ module _ {A : Type 0} (budget : ℕ) (Calls : MemberView → MemberView → ℕ 
   comes : (m n : MemberView) (keys : List ℕ) (answers : List A) → SeesRun m.pass.trace →
       enough_by_shape m.pass ≤ budget → InTurn Calls m n keys answers → ComesByCalls budget m.pass n.pass
   comes m n [] [] sees enough is = ([], tt, ap (λ (x : MemberView). x.pass) (sym is))
-  comes m n [] (answer ∷ answers) sees enough is = absurd is
-  comes m n (key ∷ keys) [] sees enough is = absurd is
   comes m n (key ∷ keys) (answer ∷ answers) sees enough (between, call, on) =
       let left = leaves m between key answer sees call in
       let rest = comes between n keys answers left.sees (enough_on m.pass between.pass budget left.same enough) on in
@@ -89,6 +67,7 @@ module _ {A : Type 0} (budget : ℕ) (Calls : MemberView → MemberView → ℕ 
         steps = omega (arith, took, within);
       } in
       (between.pass ∷ rest.0, (sees, inr (budget, omega arith, goes), rest.1), rest.2)
+  comes m n _ _ sees enough is = absurd is
 
 pub batches_call : BatchesCall
 batches_call =
@@ -97,12 +76,12 @@ batches_call =
           comes budget (λ m n key answer. Called Has m n key budget answer)
           (λ m n key answer enough c.
           looked_up key answer (at_key m key budget enough) (members_calls.called Has m n key budget answer c))
-          (λ m n key answer sees c. has_leaves m n key budget answer sees c) m n keys answers sees enough all;
+          (λ m n key answer sees c. leaves sees c) m n keys answers sees enough all;
       gets = λ m n keys budget answers sees enough all.
           comes budget (λ m n key answer. GetsEntry m n key budget answer)
           (λ m n key answer enough c.
           got key answer (at_key m key budget enough) (members_calls.got m n key budget answer c))
-          (λ m n key answer sees c. get_leaves m n key budget answer sees c) m n keys answers sees enough all;
+          (λ m n key answer sees c. leaves sees c) m n keys answers sees enough all;
     }
   where
     at_key : (m : MemberView) (key budget : ℕ) → enough_by_shape m.pass ≤ budget →

@@ -10,16 +10,14 @@ module _ {A : Type 0} (Calls : MemberView → MemberView → ℕ → A → Type 
 
   pub calls_in_turn : (m n : MemberView) (keys : List ℕ) (answers : List A) → InTurn CallsAside m n keys answers →
       InTurn Calls m n keys answers
-  calls_in_turn m n [] [] same = same
-  calls_in_turn m n [] (answer ∷ answers) x = x
-  calls_in_turn m n (key ∷ keys) [] x = x
   calls_in_turn m n (key ∷ keys) (answer ∷ answers) (between, call, rest) =
       (between, call.0, calls_in_turn between n keys answers rest)
+  calls_in_turn m n [] [] x = x
+  calls_in_turn m n _ _ x = x
 
   pub aside_in_turn : (m n : MemberView) (keys : List ℕ) (answers : List A) → InTurn CallsAside m n keys answers →
       n.aside ≡ m.aside
   aside_in_turn m n [] [] same = ap (λ (m : MemberView). m.aside) same
-  aside_in_turn m n [] (answer ∷ answers) x = absurd x
-  aside_in_turn m n (key ∷ keys) [] x = absurd x
   aside_in_turn m n (key ∷ keys) (answer ∷ answers) (between, call, rest) =
       aside_in_turn between n keys answers rest ∙ call.1
+  aside_in_turn m n _ _ x = absurd x

@@ -13,10 +13,9 @@ module _ {M A : Type 0} (Calls : M → M → ℕ → A → Type 0) where
   one_more : (m n o : M) (keys : List ℕ) (answers : List A) (key : ℕ) (answer : A) → InTurn Calls m n keys answers →
       Calls n o key answer → InTurn Calls m o (keys ++ key ∷ []) (answers ++ answer ∷ [])
   one_more m n o [] [] key answer is call = (o, subst (λ (p : M). Calls p o key answer) is call, refl)
-  one_more m n o [] (a ∷ answers) key answer is call = absurd is
-  one_more m n o (k ∷ keys) [] key answer is call = absurd is
   one_more m n o (k ∷ keys) (a ∷ answers) key answer is call =
       (is.0, is.1, one_more is.0 n o keys answers key answer is.2 call)
+  one_more m n o _ _ key answer is call = absurd is
 
   -- the keys so far have been asked in turn
   abbrev pub SoFar : M → M → List ℕ → List A → ℕ → Type 0
@@ -37,8 +36,6 @@ pub all_at : {N A : Type 0} {kind : Ghosts N} (Calls : MemberView → MemberView
     IsSameSet c d × InTurn (λ m n key answer. Calls m n key budget answer) (member_at c) (member_at d) keys answers
 all_at Calls c d [] budget [] is =
     (record { pass = ap (λ m. m.pass.ghost_name) is; set = ap (λ m. m.set) is }, ap member_at is)
-all_at Calls c d [] budget (a ∷ answers) is = absurd is
-all_at Calls c d (k ∷ keys) budget [] is = absurd is
 all_at Calls c d (k ∷ keys) budget (a ∷ answers) is =
     let rest = all_at Calls is.0 d keys budget answers is.2 in (
       record { pass = rest.0.pass ∙ is.1.same.pass; set = rest.0.set ∙ is.1.same.set },
@@ -49,3 +46,4 @@ all_at Calls c d (k ∷ keys) budget (a ∷ answers) is =
         rest.1,
       ),
     )
+all_at Calls c d _ budget _ is = absurd is

@@ -19,8 +19,7 @@ use Rattle.vbr_at_table.specs.reads.Moments.{WasEntry}
 use Rattle.vbr_at_table.specs.costs.WithinBudget.{TookWithin}
 use Rattle.vbr_at_table.proofs.Lemmas.{none_on, none_refl}
 use Rattle.vbr_list.specs.look_ups.Cursors.{HasGiven, HasGivenAll, HasStayedOrMoved, IsAtEnd, IsPastKey, IsToCome}
-use Rattle.vbr_list.specs.look_ups.Cursors.{SeesMore}
-use Rattle.vbr_list.specs.look_ups.Cursors.{StopsShort, costs_over_among, first_cursor}
+use Rattle.vbr_list.specs.look_ups.Cursors.{SeesMore, StopsShort, costs_over_among, first_cursor}
 use Rattle.vbr_list.specs.traversals.Disturbed.{disturbed_in, enough_among}
 use Rattle.vbr_list.specs.calls.Budgets.{nodes_listed_in}
 use Rattle.vbr_list.specs.look_ups.Next.{enough_to_seek}
@@ -29,8 +28,7 @@ use Rattle.vbr_at_table.specs.declared.refusal.Refusal.{Refusal}
 use Rattle.vbr_list.proofs.Lemmas.{enough_later, entry_more, entry_since, given_all, given_none, given_on, sees_on}
 use Rattle.vbr_list.proofs.Lemmas.{undisturbed_in}
 use Rattle.vbr_set.specs.calls.Iterating.{AreItemsOf, CallsNextWhere, GoesOnSafe, GoesOver, HasGathered}
-use Rattle.vbr_set.specs.calls.Iterating.{HasGoneOverEntries}
-use Rattle.vbr_set.specs.calls.Iterating.{HasGoneOverWhere, StandsShort}
+use Rattle.vbr_set.specs.calls.Iterating.{HasGoneOverEntries, HasGoneOverWhere, StandsShort}
 use Rattle.vbr_set.specs.calls.Members.{CallerView, as_caller}
 
 -- ---- entries and steps

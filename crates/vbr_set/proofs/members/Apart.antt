@@ -16,19 +16,17 @@ module _ {N : Type 0} where
   pub parts_more : (stakes : List (Stake N)) (passes : List PassView) (stake : Stake N) (pass : PassView) →
       AreParts stakes passes → IsStake stake pass → AreParts (stakes ++ stake ∷ []) (passes ++ pass ∷ [])
   parts_more [] [] stake pass parts part = (part, tt)
-  parts_more [] (q ∷ qs) stake pass parts part = absurd parts
-  parts_more (s ∷ ss) [] stake pass parts part = absurd parts
   parts_more (s ∷ ss) (q ∷ qs) stake pass parts part = (parts.0, parts_more ss qs stake pass parts.1 part)
+  parts_more _ _ stake pass parts part = absurd parts
 
   pub members_more : (stakes : List (Stake N)) (passes : List PassView) (stake : Stake N) (pass : PassView) →
       AreParts stakes passes →
       members_of (stakes ++ stake ∷ []) (passes ++ pass ∷ [])
       ≡ members_of stakes passes ++ member_with stake pass ∷ []
   members_more [] [] stake pass parts = refl
-  members_more [] (q ∷ qs) stake pass parts = absurd parts
-  members_more (s ∷ ss) [] stake pass parts = absurd parts
   members_more (s ∷ ss) (q ∷ qs) stake pass parts =
       ap (λ (ms : List MemberView). member_with s q ∷ ms) (members_more ss qs stake pass parts.1)
+  members_more _ _ stake pass parts = absurd parts
 
   -- one more member is taken apart
   pub taken : (stakes stakes' : List (Stake N)) (passes passes' : List PassView) (stake : Stake N) (pass : PassView)
@@ -68,17 +66,15 @@ module _ {N : Type 0} where
   pub passes_in : (stakes : List (Stake N)) (passes : List PassView) → AreParts stakes passes →
       map (λ m. m.pass) (members_of stakes passes) ≡ passes
   passes_in [] [] parts = refl
-  passes_in [] (q ∷ qs) parts = absurd parts
-  passes_in (s ∷ ss) [] parts = absurd parts
   passes_in (s ∷ ss) (q ∷ qs) parts = ap (λ (ps : List PassView). q ∷ ps) (passes_in ss qs parts.1)
+  passes_in _ _ parts = absurd parts
 
   pub all_parts_of : (set : TableView) (stakes : List (Stake N)) (passes : List PassView) → AreParts stakes passes →
       AreOfSet set (members_of stakes passes) → AllOf set passes
   all_parts_of set [] [] parts all = tt
-  all_parts_of set [] (q ∷ qs) parts all = absurd parts
-  all_parts_of set (s ∷ ss) [] parts all = absurd parts
   all_parts_of set (s ∷ ss) (q ∷ qs) parts all =
       (subst (IsOf q.trace) all.0 parts.0.part.own, all_parts_of set ss qs parts.1 all.1)
+  all_parts_of set _ _ parts all = absurd parts
 
   -- there are as many members as passes
   pub as_many_passes : (stakes : List (Stake N)) (passes : List PassView) → AreParts stakes passes →
@@ -91,36 +87,41 @@ module _ {N : Type 0} (first : Stake N) where
   abbrev set : TableView
   set = set_shared first.share
 
-  abbrev pub AreAllOfFirst : List MemberView → Type 0
+  abbrev AreAllOfFirst : List MemberView → Type 0
   AreAllOfFirst members = AreOfSet set members × (set.passes ≤ length members)
 
-  pub all_of_first : (stakes : List (Stake N)) (passes : List PassView) → AreParts stakes passes →
+  all_of_first : (stakes : List (Stake N)) (passes : List PassView) → AreParts stakes passes →
       AreOfOneSet (members_of stakes passes) → ¬ (AreTooFew (members_of stakes passes)) →
       slice_get stakes 0 ≡ Some first → AreAllOfFirst (members_of stakes passes)
   all_of_first [] [] parts one_set enough is = absurd (enough tt)
-  all_of_first [] (q ∷ qs) parts one_set enough is = absurd parts
-  all_of_first (s ∷ ss) [] parts one_set enough is = absurd parts
   all_of_first (s ∷ ss) (q ∷ qs) parts one_set enough is =
       let members : List MemberView = members_of (s ∷ ss) (q ∷ qs) in
       let same : set_shared s.share ≡ set = ap (λ (o : Option (Stake N)). set_shared (unwrap_or o first).share) is in
       let all : ¬ (length members < (set_shared s.share).passes) = enough in
       subst (λ (t : TableView). AreOfSet t members × (t.passes ≤ length members)) same ((refl, one_set), omega arith)
+  all_of_first _ _ parts one_set enough is = absurd parts
 
--- so what the set returns by the passes is returned by all members
-module _ {N R : Type 0} (tells : TableView → List PassView → R → Type 0) where
-  told_by_all : (first : Stake N) (stakes : List (Stake N)) (passes : List PassView) → AreParts stakes passes →
-      AreAllOfFirst first (members_of stakes passes) → (report : R) → tells (set_shared first.share) passes report →
-      ReportsAllBy tells (members_of stakes passes) report
-  told_by_all first stakes passes parts all report closes = record {
+-- so the set may report by their passes, and what it returns is returned by all members
+module _ {N : Type 0} {table : TableView} (first : Stake N) (stakes : List (Stake N)) (passes : List PassView)
+    (is_table : table ≡ set_shared first.share) (parts : AreParts stakes passes)
+    (one_set : AreOfOneSet (members_of stakes passes)) (enough : ¬ (AreTooFew (members_of stakes passes)))
+    (is : slice_get stakes 0 ≡ Some first) where
+  all : AreAllOfFirst first (members_of stakes passes)
+  all = all_of_first first stakes passes parts one_set enough is
+
+  pub may_report : AllOf table passes × (table.passes ≤ length passes)
+  may_report = subst (λ (t : TableView). AllOf t passes × (t.passes ≤ length passes)) (sym is_table) (
+    all_parts_of _ stakes passes parts all.0,
+    (let many = as_many_passes stakes passes parts in let some = all.1 in omega arith),
+  )
+
+  pub all_told : {R : Type 0} (tells : TableView → List PassView → R → Type 0) (told : Result R AllocError) →
+      IfOk told (tells table passes) → IfOk told (ReportsAllBy tells (members_of stakes passes))
+  all_told tells (Ok report) closes = record {
     set = set_shared first.share;
     of_set = all.0;
     all = all.1;
-    closes = subst (λ (ps : List PassView). tells (set_shared first.share) ps report)
-        (sym (passes_in stakes passes parts)) closes;
+    closes = subst (λ (x : TableView × List PassView). tells x.0 x.1 report)
+        (λ i. (is_table i, sym (passes_in stakes passes parts) i)) closes;
   }
-
-  pub all_told : (first : Stake N) (stakes : List (Stake N)) (passes : List PassView) → AreParts stakes passes →
-      AreAllOfFirst first (members_of stakes passes) → (told : Result R AllocError) →
-      IfOk told (tells (set_shared first.share) passes) → IfOk told (ReportsAllBy tells (members_of stakes passes))
-  all_told first stakes passes parts all (Ok report) closes = told_by_all first stakes passes parts all report closes
-  all_told first stakes passes parts all (Err refused) closes = tt
+  all_told tells (Err refused) closes = tt

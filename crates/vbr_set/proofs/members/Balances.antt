@@ -128,27 +128,23 @@ module _ {A : Type 0} {told : A → List Call} {BoundsSo : Result A Refusal → 
 pub yes_adds : (who key : ℕ) (answer : Result Bool Refusal) →
     one_where (λ reply. reply) answer ≡ changed (one (set_call who Insert key)) answer
 yes_adds who key (Ok true) = refl
-yes_adds who key (Ok false) = refl
-yes_adds who key (Err refusal) = refl
+yes_adds who key _ = refl
 
 pub stored_adds : (who key value : ℕ) (answer : Result Bool Refusal) →
     one_where (λ reply. reply) answer ≡ changed (one (stored_call who key value)) answer
 stored_adds who key value (Ok true) = refl
-stored_adds who key value (Ok false) = refl
-stored_adds who key value (Err refusal) = refl
+stored_adds who key value _ = refl
 
 -- one is taken out where a remove is answered yes
 pub yes_takes : (who key : ℕ) (answer : Result Bool Refusal) →
     changed (one (set_call who Remove key)) answer +ℤ one_where (λ reply. reply) answer ≡ pos 0
 yes_takes who key (Ok true) = refl
-yes_takes who key (Ok false) = refl
-yes_takes who key (Err refusal) = refl
+yes_takes who key _ = refl
 
 pub given_takes : (who key : ℕ) (answer : Result (Option ℕ) Refusal) →
     changed (one (given_call who Remove key)) answer +ℤ one_where (wants Present) answer ≡ pos 0
 given_takes who key (Ok (Some value)) = refl
-given_takes who key (Ok None) = refl
-given_takes who key (Err refusal) = refl
+given_takes who key _ = refl
 
 -- a call that expects a value changed the key exactly if what was there was as wanted
 pub changed_wants : (expected : ℕ) (answer : Result Outcome Refusal) → ChangedIfExpected expected answer →
@@ -165,21 +161,18 @@ removal_takes who key expected (Ok (Some value)) = go (expected == value)
     go : (b : Bool) → (change_by (if b then Remove else Get) true +ℤ pos 0) +ℤ (if b then pos 1 else pos 0) ≡ pos 0
     go true = refl
     go false = refl
-removal_takes who key expected (Ok None) = refl
-removal_takes who key expected (Err refusal) = refl
+removal_takes who key expected _ = refl
 
 -- one is added where a store finds none, and wants none or anything; and a store that replaces adds none
 pub put_adds : (who key value : ℕ) (answer : Result (Option ℕ) Refusal) →
     one_where (wants Absent) answer ≡ changed (stored_calls who key value Anything) answer
 put_adds who key value (Ok (Some old)) = refl
-put_adds who key value (Ok None) = refl
-put_adds who key value (Err refusal) = refl
+put_adds who key value _ = refl
 
 pub absent_adds : (who key value : ℕ) (answer : Result (Option ℕ) Refusal) →
     one_where (wants Absent) answer ≡ changed (stored_calls who key value Absent) answer
 absent_adds who key value (Ok (Some old)) = refl
-absent_adds who key value (Ok None) = refl
-absent_adds who key value (Err refusal) = refl
+absent_adds who key value _ = refl
 
 pub replace_keeps : (who key value : ℕ) (there : Option ℕ) →
     change_of (stored_calls who key value Present there) ≡ pos 0

@@ -6,7 +6,7 @@ use Rattle.vbr_machine.specs.Knowledge.{Know}
 use Rattle.vbr_machine.specs.Learning.{birth_in_hand}
 use Rattle.vbr_machine.specs.declared.event.Step.TheVariants.{ReadEpoch}
 use Rattle.vbr_slots.specs.views.Views.{Did, KeepsPool, PassView, knows}
-use Rattle.vbr_at_table.specs.hands.Aside.{HasAside, IsPutAside}
+use Rattle.vbr_at_table.specs.hands.Aside.{HasAside}
 use Rattle.vbr_at_table.specs.declared.aside.Aside.{Aside}
 use Rattle.vbr_at_table.proofs.Lemmas.{did_none, kept_aside, pool_aside}
 
@@ -27,9 +27,3 @@ caught_aside p q (Some aside) know pool same has = record {
   );
   given = ap (λ (k : Know). birth_in_hand (k.own aside.slot)) know ∙ has.given;
 }
-
--- the same slot by another name
-pub same_aside : (p : PassView) (one other : Aside) → other.slot ≡ one.slot → other.birth ≡ one.birth →
-    IsPutAside p one → IsPutAside p other
-same_aside p one other slot birth has =
-    subst (IsPutAside p) (λ i. record { slot = sym slot i; birth = sym birth i }) has

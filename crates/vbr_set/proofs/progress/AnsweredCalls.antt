@@ -1,24 +1,19 @@
 -- Where each pass advances the epoch in need, a call with budget enough is refused only where another is answered.
-use Rattle.std.proofs.Common.{◌≡◌, ℕ, zero, suc, ◌+◌, ◌*◌, ◌<◌, ◌≤◌, ◌==◌, ◌&&◌, cond, List, [], ◌∷◌, ◌++◌, Ok, Err}
-use Rattle.std.proofs.Common.{Result, refl, ap, sym, subst, ◌∙◌, arith, inl, inr}
-use Rattle.std.specs.Prelude.{◌⊎◌, count_by}
+use Rattle.std.proofs.Common.{◌≡◌, ℕ, zero, suc, ◌+◌, ◌*◌, ◌<◌, ◌≤◌, ◌==◌, ◌&&◌, cond, [], ◌∷◌, ◌++◌}
+use Rattle.std.proofs.Common.{refl, ap, sym, subst, ◌∙◌, arith, inl, inr, ⊎_elim}
+use Rattle.std.specs.Prelude.{count_by}
 use Rattle.std.proofs.lemmas.List.Sums.{sum_by-append}
 use Rattle.vbr_words.specs.Buckets.{bucket_of}
 use Rattle.vbr_machine.specs.Needs.{AdvancesInNeed}
-use Rattle.vbr_machine.specs.Runs.{Begins, BeginsFor, IsRun}
+use Rattle.vbr_machine.specs.Runs.{IsRun}
 use Rattle.vbr_machine.specs.Start.{Start}
 use Rattle.vbr_machine.specs.declared.event.Event.{Event}
-use Rattle.vbr_machine.specs.declared.event.Step.TheVariants.{ReadEpoch}
-use Rattle.vbr_machine.specs.declared.history.Call.{Call}
-use Rattle.vbr_machine.specs.declared.history.Op.{Op}
-use Rattle.vbr_machine.specs.declared.history.Op.TheVariants.{Get, Has, Insert, Remove}
 use Rattle.vbr_machine.specs.Unretired.{removes}
 use Rattle.vbr_machine.proofs.Lemmas.{AllAdvanceInNeed, disturbances_answered, epoch_paid, need_between, need_still}
 use Rattle.vbr_machine.proofs.Lemmas.{run_agrees}
 use Rattle.vbr_slots.specs.steps.Calls.{Quiet}
-use Rattle.vbr_slots.specs.Tokens.{SeenView}
-use Rattle.vbr_slots.specs.views.Views.{Did, KeepsPool, PassView, TableView, Trace, new_trace}
-use Rattle.vbr_at_table.specs.costs.Advances.{AdvancedInNeed, AdvancesWhereNeeded}
+use Rattle.vbr_slots.specs.views.Views.{PassView, TableView, Trace, new_trace}
+use Rattle.vbr_at_table.specs.costs.Advances.{AdvancedInNeed}
 use Rattle.vbr_at_table.specs.costs.StepKinds.{advances, is_advance}
 use Rattle.vbr_at_table.proofs.Lemmas.{did_none, stays_in_need}
 use Rattle.vbr_list.specs.look_ups.Cursors.{SeesMore}
@@ -28,16 +23,10 @@ use Rattle.vbr_list.specs.traversals.Disturbed.{enough_to_search_among, enough_t
 use Rattle.vbr_list.specs.traversals.Disturbed.{steps_to_prepare}
 use Rattle.vbr_list.specs.declared.wanted.Wanted.{Wanted}
 use Rattle.vbr_at_table.specs.declared.refusal.Refusal.TheVariants.{OutOfSteps}
-use Rattle.vbr_at_table.specs.declared.refusal.Refusal.{Refusal}
-use Rattle.vbr_set.specs.histories.Answers.{AnswersAll}
-use Rattle.vbr_set.specs.calls.MapCalls.{IsCall, IsMapCall, IsSetCall, MapAnswersAll}
-use Rattle.vbr_set.specs.calls.Members.{CalledBy, MemberView}
-use Rattle.vbr_set.specs.progress.Progressing.{AnotherIsAnswered, AnswersDisturb, CameBack, EpochsArePaid}
-use Rattle.vbr_set.specs.progress.Progressing.{MapRefusalsShowAnswers}
-use Rattle.vbr_set.specs.progress.Progressing.{PassesAdvanceInNeed, Proceeds, RefusalsShowAnswers, SeesRun}
-use Rattle.vbr_set.specs.progress.Progressing.{most_unanswered}
-use Rattle.vbr_set.specs.progress.Progressing.{updates_in}
-use Rattle.vbr_set.specs.histories.Tokens.{CatchesUp}
+use Rattle.vbr_set.specs.progress.Progressing.{AnotherIsAnswered, AnswersDisturb, EpochsArePaid}
+use Rattle.vbr_set.specs.progress.Progressing.{MapRefusalsShowAnswers, PassesAdvanceInNeed, Proceeds}
+use Rattle.vbr_set.specs.progress.Progressing.{RefusalsShowAnswers, SeesRun, most_unanswered, updates_in}
+use Rattle.vbr_set.proofs.histories.AnyCall.{call_leaves}
 use Rattle.vbr_set.proofs.progress.AnsweredMeanwhile.{another_answered}
 use Rattle.vbr_set.proofs.progress.Progress.{fewer_to_look_up, fewer_to_search, lacks_to_insert, lacks_to_store}
 use Rattle.vbr_set.proofs.progress.StretchedRuns.{come_by_calls, run_at}
@@ -47,16 +36,13 @@ use Rattle.vbr_set.proofs.progress.StretchedRuns.{come_by_calls, run_at}
 -- each pass that stood still, or came back, advanced the epoch in need
 all_in_need : (p q : PassView) → Proceeds p.trace q.trace →
     AllAdvanceInNeed p.trace.start p.trace.passes p.trace.seen q.trace.seen
-all_in_need p q goes who low = go (goes.each who (subst (λ (n : ℕ). who < n) (sym goes.sees.same.passes) low))
-  where
-    go : BeginsFor who p.trace.seen q.trace.seen ⊎ CameBack q.trace who →
-        AdvancesInNeed p.trace.start p.trace.seen q.trace.seen who
-    go (inl still) = need_still p.trace.start p.trace.seen q.trace.seen who still
-    go (inr back) =
-        need_between p.trace.start p.trace.seen q.trace.seen back.view.trace.seen back.run who
-        (subst (λ (x : Start × ℕ). AdvancesInNeed x.0 [] back.view.trace.seen x.1)
-        (λ i. ((back.start ∙ goes.sees.same.start) i, back.is i)) back.in_need)
-        back.own back.seen
+all_in_need p q goes who low = elim (goes.each who (subst (λ (n : ℕ). who < n) (sym goes.sees.same.passes) low)) [
+  | inl still ↦ need_still p.trace.start p.trace.seen q.trace.seen who still
+  | inr back ↦ need_between p.trace.start p.trace.seen q.trace.seen back.view.trace.seen back.run who
+      (subst (λ (x : Start × ℕ). AdvancesInNeed x.0 [] back.view.trace.seen x.1)
+      (λ i. ((back.start ∙ goes.sees.same.start) i, back.is i)) back.in_need)
+      back.own back.seen
+]
 
 disturbed_in_by : (p q : PassView) (bucket : ℕ) → SeesRun p.trace → Proceeds p.trace q.trace →
     disturbed_in p.trace q.trace bucket ≤ most_unanswered p.trace + 3 * updates_in p.trace q.trace
@@ -168,64 +154,10 @@ map_refusals_show =
 
 -- ---- the calls
 
--- an answered call has seen more, and a refused one too
-module _ {A : Type 0} (Leave : List Call → Trace → Trace → Type 0)
-    (begins : (calls : List Call) (p q : Trace) → Leave calls p q → Begins p.seen q.seen) (told : A → List Call)
-    (BoundsSo : Result A Refusal → Type 0) where
-  seen_called : (m n : MemberView) (budget : ℕ) (answer : Result A Refusal) →
-      CalledBy Leave told BoundsSo m n budget answer → Begins m.pass.trace.seen n.pass.trace.seen
-  seen_called m n budget (Ok reply) c = begins (told reply) m.pass.trace n.pass.trace c.answers
-  seen_called m n budget (Err refusal) c = c.quiet.seen
-
-  -- so it has advanced the epoch in need
-  need_called : (m n : MemberView) (budget : ℕ) (answer : Result A Refusal) →
-      CalledBy Leave told BoundsSo m n budget answer → AdvancesWhereNeeded m.pass n.pass →
-      AdvancedInNeed m.pass.trace → AdvancedInNeed n.pass.trace
-  need_called m n budget answer c needed before =
-      stays_in_need m.pass n.pass c.same (seen_called m n budget answer c) needed before
-
-set_begins : (calls : List Call) (p q : Trace) → AnswersAll calls p q → Begins p.seen q.seen
-set_begins calls p q a = a.begins
-
-map_begins : (calls : List Call) (p q : Trace) → MapAnswersAll calls p q → Begins p.seen q.seen
-map_begins calls p q a = a.answers.begins
-
-need_set : (op : Op) (m n : MemberView) → AdvancedInNeed m.pass.trace → IsSetCall op m n → AdvancedInNeed n.pass.trace
-need_set Insert m n need (key, budget, answer, c) =
-    need_called AnswersAll set_begins _ _ m n budget answer c c.bounds.advances need
-need_set Remove m n need (key, budget, answer, c) =
-    need_called AnswersAll set_begins _ _ m n budget answer c (inl c.bounds.takes_no_slot.count) need
-need_set Has m n need (key, budget, answer, c) =
-    need_called AnswersAll set_begins _ _ m n budget answer c (inl c.bounds.takes_no_slot.count) need
-need_set Get m n need (key, budget, answer, c) = absurd c.bounds
-
-need_map : (op : Op) (m n : MemberView) → AdvancedInNeed m.pass.trace → IsMapCall op m n → AdvancedInNeed n.pass.trace
-need_map Insert m n need (inl (key, value, budget, answer, c)) =
-    need_called MapAnswersAll map_begins _ _ m n budget answer c c.bounds.advances need
-need_map Insert m n need (inr (key, value, wanted, budget, answer, c)) =
-    need_called MapAnswersAll map_begins _ _ m n budget answer c c.bounds.1.advances need
-need_map Remove m n need (inl (key, budget, answer, c)) =
-    need_called MapAnswersAll map_begins _ _ m n budget answer c (inl c.bounds.takes_no_slot.count) need
-need_map Remove m n need (inr (key, expected, budget, answer, c)) =
-    need_called MapAnswersAll map_begins _ _ m n budget answer c (inl c.bounds.takes_no_slot.count) need
-need_map Has m n need call = need_set Has m n need call
-need_map Get m n need (key, budget, answer, c) =
-    need_called MapAnswersAll map_begins _ _ m n budget answer c (inl c.bounds.takes_no_slot.count) need
-
-need_call : (op : Op) (m n : MemberView) → AdvancedInNeed m.pass.trace → IsCall op m n → AdvancedInNeed n.pass.trace
-need_call op m n need (inl call) = need_set op m n need call
-need_call op m n need (inr call) = need_map op m n need call
-
 -- a pass that has seen nothing made no step
 need_opened : (set : TableView) (who : ℕ) → AdvancedInNeed (new_trace set who)
 need_opened set who [] after from e = absurd (cc)
 need_opened set who (x ∷ before) after from e = absurd (cc)
-
-need_met : (p q : PassView) (epoch : ℕ) → AdvancedInNeed p.trace → Did ReadEpoch p.trace q.trace epoch →
-    KeepsPool p q → AdvancedInNeed q.trace
-need_met p q epoch need did pool =
-    let came = come_by_calls.met p q epoch did pool in
-    stays_in_need p q came.sees.same came.sees.begins (inl (did_none did refl tt pool).count) need
 
 -- who caught up made no step
 advances_grow : (p q : Trace) → SeesMore p q → advances p ≤ advances q
@@ -235,22 +167,23 @@ advances_grow p q sees =
     (λ i. count_by (λ (e : Event). (e.pass == sees.same.who i) && is_advance e.step) (sees.begins.1 i)) in
     omega (arith, sum, is)
 
-need_caught : (set : TableView) (p q : PassView) (token : SeenView) → AdvancedInNeed p.trace →
-    CatchesUp set p token q → AdvancedInNeed q.trace
-need_caught set p q token need c =
-    let came = come_by_calls.caught set p q token c in
-    let more = advances_grow p.trace q.trace came.sees in
-    let most = came.advances in
-    stays_in_need p q came.sees.same came.sees.begins (inl (omega (arith, most, more))) need
-
 pub advance_in_need : PassesAdvanceInNeed
 advance_in_need =
     record {
       opened = need_opened;
-      called = need_call;
+      called = λ op m n need call.
+          (let left = call_leaves op m n call in
+          stays_in_need m.pass n.pass left.sees.same left.sees.begins
+          (⊎_elim (λ none. inl none.count) (λ may. may.advances) left.slots) need);
       went_over = λ p q need sees none. stays_in_need p q sees.same sees.begins (inl none.count) need;
-      met = need_met;
-      caught = need_caught;
+      met = λ p q epoch need did pool.
+          (let sees = (come_by_calls.met p q epoch did pool).sees in
+          stays_in_need p q sees.same sees.begins (inl (did_none did refl tt pool).count) need);
+      caught = λ set p q token need c.
+          (let came = come_by_calls.caught set p q token c in
+          let more = advances_grow p.trace q.trace came.sees in
+          let most = came.advances in
+          stays_in_need p q came.sees.same came.sees.begins (inl (omega (arith, most, more))) need);
       gave = λ p q shared need g. stays_in_need p q g.quiet.same g.quiet.seen (inl g.advances) need;
       reserved = λ p q steps need takes.
           stays_in_need p q takes.quiet.same takes.quiet.seen (inl takes.advances) need;

@@ -1,7 +1,7 @@
 -- In a stretch in which many steps are made a whole call lies, and so somebody is answered.
 use Rattle.std.proofs.Common.{◌≡◌, ℕ, zero, suc, ◌+◌, ◌*◌, ◌<◌, ◌≤◌, ◌==◌, Bool, cond, List, [], ◌∷◌, ◌++◌}
 use Rattle.std.proofs.Common.{length, length-append, Ok, Err, refl, ap, sym, subst, ◌∙◌, append_assoc}
-use Rattle.std.proofs.Common.{append-nil, eq-eqb, arith, inl, inr}
+use Rattle.std.proofs.Common.{append-nil, eq-eqb, arith, inl, inr, ⊎_elim}
 use Rattle.std.specs.Prelude.{◌⊎◌, Contains}
 use Rattle.std.proofs.lemmas.Bool.{cases_order}
 use Rattle.std.proofs.lemmas.List.{append_cancel_left}
@@ -16,22 +16,19 @@ use Rattle.vbr_machine.proofs.Lemmas.{begins_refl, begins_run, begins_trans, cal
 use Rattle.vbr_machine.specs.History.{calls_by}
 use Rattle.vbr_slots.specs.steps.Calls.{IsSame, Made, Quiet, made_by}
 use Rattle.vbr_slots.specs.views.Views.{PassView, Trace, steps_in, steps_of}
+use Rattle.vbr_slots.proofs.Lemmas.{same_on}
 use Rattle.vbr_at_table.specs.costs.WithinBudget.{TookWithin}
-use Rattle.vbr_at_table.specs.declared.refusal.Refusal.TheVariants.{OutOfSteps, NoSlot, EpochSpent}
+use Rattle.vbr_at_table.specs.declared.refusal.Refusal.TheVariants.{OutOfSteps}
 use Rattle.vbr_list.specs.updates.Storing.{Makes, stored_calls}
 use Rattle.vbr_set.specs.progress.Callers.{CallsAreAnswered, CallsOn, CallsThrough, CallsOrRests, MadeAmply, MakesFew}
-use Rattle.vbr_set.specs.progress.Callers.{Rests}
-use Rattle.vbr_set.specs.progress.Callers.{SomebodyIsAnswered, StepsAreAnswered, got, inserted, inserted_entry}
-use Rattle.vbr_set.specs.progress.Callers.{last_view}
-use Rattle.vbr_set.specs.progress.Callers.{inserted_entry_knowing, inserted_knowing, looked_up, removed, removed_entry}
-use Rattle.vbr_set.specs.progress.Callers.{removed_if, stored, stored_knowing}
+use Rattle.vbr_set.specs.progress.Callers.{Rests, SomebodyIsAnswered, StepsAreAnswered, got, inserted, inserted_entry}
+use Rattle.vbr_set.specs.progress.Callers.{last_view, inserted_entry_knowing, inserted_knowing, looked_up, removed}
+use Rattle.vbr_set.specs.progress.Callers.{removed_entry, removed_if, stored, stored_knowing}
 use Rattle.vbr_set.specs.histories.Histories.{calls_of}
-use Rattle.vbr_set.specs.progress.Progressing.{AnotherIsAnswered, CameBack, Proceeds, SeesRun}
+use Rattle.vbr_set.specs.progress.Progressing.{AnotherIsAnswered, Proceeds, SeesRun}
 use Rattle.vbr_set.specs.progress.WalkProgress.{BringsAWalkOn, BringsOn, CallsRestsOrWalks, DoesInStretch}
-use Rattle.vbr_set.specs.progress.WalkProgress.{SomebodyGoesOn}
-use Rattle.vbr_set.specs.progress.WalkProgress.{StepsOrWalksAreAnswered, WalkedAmply, WalksOnWithin, called}
-use Rattle.vbr_set.specs.progress.WalkProgress.{comes_through}
-use Rattle.vbr_set.specs.progress.WalkProgress.{makes_few, walked}
+use Rattle.vbr_set.specs.progress.WalkProgress.{SomebodyGoesOn, StepsOrWalksAreAnswered, WalkedAmply, WalksOnWithin}
+use Rattle.vbr_set.specs.progress.WalkProgress.{called, comes_through, makes_few, walked}
 use Rattle.vbr_set.proofs.progress.AnsweredCalls.{map_refusals_show, refusals_show}
 use Rattle.vbr_set.proofs.progress.AnsweredWalks.{walks_show}
 use Rattle.vbr_set.proofs.progress.KnownBudgets.{known_budgets_show}
@@ -116,8 +113,7 @@ module _ (p q : PassView) (budget : ℕ) where
   facts_of (inserted key (Ok reply) enough room c) = facts_ok _ c.made c.steps
   facts_of (inserted key (Err (OutOfSteps used)) enough room c) =
       facts_err c.quiet c.steps (λ law goes. refusals_show.insert p q key budget used law goes c enough)
-  facts_of (inserted key (Err NoSlot) enough room c) = absurd room
-  facts_of (inserted key (Err (EpochSpent epoch)) enough room c) = absurd room
+  facts_of (inserted key (Err _) enough room c) = absurd room
   facts_of (got key (Ok reply) enough c) = facts_ok _ c.calls.made c.calls.steps
   facts_of (got key (Err refusal) enough c) =
       facts_err c.calls.quiet c.calls.steps (λ law goes. map_refusals_show.get p q key budget refusal law goes c enough)
@@ -133,35 +129,30 @@ module _ (p q : PassView) (budget : ℕ) where
   facts_of (inserted_entry key value (Err (OutOfSteps used)) enough room c) =
       facts_err c.calls.quiet c.calls.steps
       (λ law goes. map_refusals_show.insert_entry p q key value budget used law goes c enough)
-  facts_of (inserted_entry key value (Err NoSlot) enough room c) = absurd room
-  facts_of (inserted_entry key value (Err (EpochSpent epoch)) enough room c) = absurd room
+  facts_of (inserted_entry key value (Err _) enough room c) = absurd room
   facts_of (stored key value wanted (Ok there) enough room c) =
       facts_made (stored_calls p.trace.who key value wanted there) c.made c.steps
   facts_of (stored key value wanted (Err (OutOfSteps used)) enough room c) =
       facts_err c.quiet c.steps
       (λ law goes. map_refusals_show.store p q key value wanted budget used law goes c enough)
-  facts_of (stored key value wanted (Err NoSlot) enough room c) = absurd room
-  facts_of (stored key value wanted (Err (EpochSpent epoch)) enough room c) = absurd room
+  facts_of (stored key value wanted (Err _) enough room c) = absurd room
   facts_of (inserted_knowing key (Ok reply) beyond others enough room c) = facts_ok _ c.made c.steps
   facts_of (inserted_knowing key (Err (OutOfSteps used)) beyond others enough room c) =
       facts_err c.quiet c.steps
       (λ law goes. known_budgets_show.insert p q beyond key budget used law goes others c enough)
-  facts_of (inserted_knowing key (Err NoSlot) beyond others enough room c) = absurd room
-  facts_of (inserted_knowing key (Err (EpochSpent epoch)) beyond others enough room c) = absurd room
+  facts_of (inserted_knowing key (Err _) beyond others enough room c) = absurd room
   facts_of (inserted_entry_knowing key value (Ok reply) beyond others enough room c) =
       facts_ok _ c.calls.made c.calls.steps
   facts_of (inserted_entry_knowing key value (Err (OutOfSteps used)) beyond others enough room c) =
       facts_err c.calls.quiet c.calls.steps
       (λ law goes. known_budgets_show.insert_entry p q beyond key value budget used law goes others c enough)
-  facts_of (inserted_entry_knowing key value (Err NoSlot) beyond others enough room c) = absurd room
-  facts_of (inserted_entry_knowing key value (Err (EpochSpent epoch)) beyond others enough room c) = absurd room
+  facts_of (inserted_entry_knowing key value (Err _) beyond others enough room c) = absurd room
   facts_of (stored_knowing key value wanted (Ok there) beyond others enough room c) =
       facts_made (stored_calls p.trace.who key value wanted there) c.made c.steps
   facts_of (stored_knowing key value wanted (Err (OutOfSteps used)) beyond others enough room c) =
       facts_err c.quiet c.steps
       (λ law goes. known_budgets_show.store p q beyond key value wanted budget used law goes others c enough)
-  facts_of (stored_knowing key value wanted (Err NoSlot) beyond others enough room c) = absurd room
-  facts_of (stored_knowing key value wanted (Err (EpochSpent epoch)) beyond others enough room c) = absurd room
+  facts_of (stored_knowing key value wanted (Err _) beyond others enough room c) = absurd room
 
 pub calls_answered : CallsAreAnswered
 calls_answered p q budget law goes made = (facts_of p q budget made).answered law goes
@@ -178,14 +169,13 @@ rest_same x y xs ys e = cc
 either_begins : (xs ys a b : List Event) → xs ++ a ≡ ys ++ b → Begins xs ys ⊎ Begins ys xs
 either_begins [] ys a b e = inl (ys, refl)
 either_begins (x ∷ xs) [] a b e = inr (x ∷ xs, refl)
-either_begins (x ∷ xs) (y ∷ ys) a b e = go (either_begins xs ys a b (rest_same x y (xs ++ a) (ys ++ b) e))
+either_begins (x ∷ xs) (y ∷ ys) a b e = elim (either_begins xs ys a b (rest_same x y (xs ++ a) (ys ++ b) e)) [
+  | inl l ↦ inl (l.0, λ i. sym first i ∷ l.1 i)
+  | inr r ↦ inr (r.0, λ i. first i ∷ r.1 i)
+]
   where
     first : x ≡ y
     first = first_same x y (xs ++ a) (ys ++ b) e
-
-    go : Begins xs ys ⊎ Begins ys xs → Begins (x ∷ xs) (y ∷ ys) ⊎ Begins (y ∷ ys) (x ∷ xs)
-    go (inl l) = inl (l.0, λ i. sym first i ∷ l.1 i)
-    go (inr r) = inr (r.0, λ i. first i ∷ r.1 i)
 
 which_begins : (xs ys run : List Event) → Begins xs run → Begins ys run → Begins xs ys ⊎ Begins ys xs
 which_begins xs ys run b c = either_begins xs ys b.0 c.0 (sym b.1 ∙ c.1)
@@ -217,15 +207,6 @@ steps_grow who xs ys b =
     let is = ap (steps_in who) b.1 in
     omega (arith, sum, is)
 
-same_on : {p q r : Trace} → IsSame p q → IsSame q r → IsSame p r
-same_on a b =
-    record {
-      table = b.table ∙ a.table;
-      start = b.start ∙ a.start;
-      passes = b.passes ∙ a.passes;
-      who = b.who ∙ a.who;
-    }
-
 -- of a call of a walk: it brings its cursor on, or somebody is answered
 record WalkFacts (p q : PassView) (budget : ℕ) (Brought : Type 0) : Type 0 where
   same : IsSame p.trace q.trace
@@ -240,13 +221,9 @@ walk_facts p q budget walk = record {
   seen = walk.call.quiet.seen;
   steps = walk.call.steps;
   brought = λ law goes.
-      either (walks_show.on p q walk.from walk.to budget walk.answer law goes walk.call walk.enough);
+      ⊎_elim (λ on. inl on) (λ other. inr (others_answered p.trace q.trace other))
+      (walks_show.on p q walk.from walk.to budget walk.answer law goes walk.call walk.enough);
 }
-  where
-    either : BringsOn walk.from walk.to walk.answer ⊎ AnotherIsAnswered p.trace q.trace →
-        BringsOn walk.from walk.to walk.answer ⊎ SomebodyIsAnswered p.trace q.trace
-    either (inl on) = inl on
-    either (inr other) = inr (others_answered p.trace q.trace other)
 
 -- what a pass does next, in any case
 record Goes (most : ℕ) (p q : PassView) : Type 0 where
@@ -330,20 +307,9 @@ module _ (p q : PassView) (goes : Proceeds p.trace q.trace) where
       is_run = begins_run w.trace.start w.trace.passes w.trace.seen q.trace.seen c
           (run_at q.trace.seen to_start to_passes goes.sees.is_run);
     };
-    each = λ who low. go who (goes.each who (subst (λ (n : ℕ). who < n) (sym to_passes) low));
-  }
-    where
-      to_start : q.trace.start ≡ w.trace.start
-      to_start = goes.sees.same.start ∙ sym (same.start ∙ like.start)
-
-      to_passes : q.trace.passes ≡ w.trace.passes
-      to_passes = goes.sees.same.passes ∙ sym (same.passes ∙ like.passes)
-
-      go : (who : ℕ) → BeginsFor who p.trace.seen q.trace.seen ⊎ CameBack q.trace who →
-          BeginsFor who v.trace.seen w.trace.seen ⊎ CameBack w.trace who
-      go who (inl still) =
-          inl (still_between who p.trace.seen v.trace.seen w.trace.seen q.trace.seen a b c still)
-      go who (inr back) =
+    each = λ who low. elim (goes.each who (subst (λ (n : ℕ). who < n) (sym to_passes) low)) [
+      | inl still ↦ inl (still_between who p.trace.seen v.trace.seen w.trace.seen q.trace.seen a b c still)
+      | inr back ↦
           inr (record {
             view = back.view;
             is = back.is;
@@ -353,6 +319,14 @@ module _ (p q : PassView) (goes : Proceeds p.trace q.trace) where
             own = back.own;
             seen = begins_trans w.trace.seen q.trace.seen back.run c back.seen;
           })
+    ];
+  }
+    where
+      to_start : q.trace.start ≡ w.trace.start
+      to_start = goes.sees.same.start ∙ sym (same.start ∙ like.start)
+
+      to_passes : q.trace.passes ≡ w.trace.passes
+      to_passes = goes.sees.same.passes ∙ sym (same.passes ∙ like.passes)
 
   -- what was answered in a part was answered in the whole
   whole : (v w : PassView) → IsLike p v → IsSame v.trace w.trace → Begins p.trace.seen v.trace.seen →
@@ -436,15 +410,11 @@ module _ (p q : PassView) (goes : Proceeds p.trace q.trace) where
           inr (inl (inside v goes.back call.0 does.0 like (facts_of v goes.back call.0 goes.call) a
           (begins_trans goes.back.trace.seen w.trace.seen q.trace.seen goes.seen on)))
       go (walked budget low walk) rest (inr on) =
-          inr (by (facts.brought does.0 (part v w like facts.same a facts.seen on)))
-        where
-          facts : WalkFacts v w budget (BringsOn walk.from walk.to walk.answer)
-          facts = walk_facts v w budget walk
-
-          by : BringsOn walk.from walk.to walk.answer ⊎ SomebodyIsAnswered v.trace w.trace →
-              Done most v (w ∷ views) (does.0, walked budget low walk, does.2)
-          by (inl brought) = inr (inl (a, on, brought))
-          by (inr answered) = inl (whole v w like facts.same a on answered)
+          let facts = walk_facts v w budget walk in
+          inr (elim (facts.brought does.0 (part v w like facts.same a facts.seen on)) [
+            | inl brought ↦ inr (inl (a, on, brought))
+            | inr answered ↦ inl (whole v w like facts.same a on answered)
+          ])
 
   -- from a view ahead of it
   from_ahead : (most who : ℕ) (v : PassView) (views : List PassView) → v.trace.who ≡ who → IsLike p v →
@@ -456,36 +426,24 @@ module _ (p q : PassView) (goes : Proceeds p.trace q.trace) where
       let first = steps_grow who v.trace.seen p.trace.seen a in
       omega (arith, few, first))
   from_ahead most who v (w ∷ views) is like does a later =
-      go (λ ahead. from_ahead most who w views (ahead_goes.same.who ∙ is) (like_on like ahead_goes.same) does.2 ahead
-      later)
-      (which_begins p.trace.seen w.trace.seen (last_view w views).trace.seen
+      let step = goes_of most v w does.1 in
+      elim (which_begins p.trace.seen w.trace.seen (last_view w views).trace.seen
       (begins_trans p.trace.seen q.trace.seen (last_view w views).trace.seen goes.sees.begins later)
-      (calls_seen most w views does.2))
-    where
-      ahead_goes : Goes most v w
-      ahead_goes = goes_of most v w does.1
-
-      more : FewOr who (steps_in who w.trace.seen + most) (Done most w views does.2) →
-          FewOr who (steps_in who p.trace.seen + 2 * most) (Done most v (w ∷ views) does)
-      more (inl few) =
-          inl (let one = call_steps most who is ahead_goes in
-          let first = steps_grow who v.trace.seen p.trace.seen a in
-          omega (arith, few, one, first))
-      more (inr done) = inr (later_done views does.1 does.0 does.2 done)
-
-      ahead_more : FewOr who (steps_in who p.trace.seen + 2 * most) (Done most w views does.2) →
-          FewOr who (steps_in who p.trace.seen + 2 * most) (Done most v (w ∷ views) does)
-      ahead_more (inl few) = inl few
-      ahead_more (inr done) = inr (later_done views does.1 does.0 does.2 done)
-
-      go : (Begins w.trace.seen p.trace.seen →
-          FewOr who (steps_in who p.trace.seen + 2 * most) (Done most w views does.2)) →
-          Begins p.trace.seen w.trace.seen ⊎ Begins w.trace.seen p.trace.seen →
-          FewOr who (steps_in who p.trace.seen + 2 * most) (Done most v (w ∷ views) does)
-      go rest (inl comes) =
-          more (from_within most who w views (ahead_goes.same.who ∙ is) (like_on like ahead_goes.same) does.2 comes
-          later)
-      go rest (inr ahead) = ahead_more (rest ahead)
+      (calls_seen most w views does.2)) [
+        | inl comes ↦
+            elim (from_within most who w views (step.same.who ∙ is) (like_on like step.same) does.2 comes later) [
+              | inl few ↦
+                  inl (let one = call_steps most who is step in
+                  let first = steps_grow who v.trace.seen p.trace.seen a in
+                  omega (arith, few, one, first))
+              | inr done ↦ inr (later_done views does.1 does.0 does.2 done)
+            ]
+        | inr ahead ↦
+            elim (from_ahead most who w views (step.same.who ∙ is) (like_on like step.same) does.2 ahead later) [
+              | inl few ↦ inl few
+              | inr done ↦ inr (later_done views does.1 does.0 does.2 done)
+            ]
+      ]
 
   -- a pass makes few steps in the stretch, or somebody is answered in it, or a walk of the pass is brought on
   few_or_done : (most who : ℕ) (does : DoesInStretch p.trace q.trace most who) →
@@ -498,24 +456,21 @@ module _ (p q : PassView) (goes : Proceeds p.trace q.trace) where
   AllFew most n = (who : ℕ) → who < n → MakesFew p.trace q.trace (2 * most) who
 
   one_few_more : (most n : ℕ) → AllFew most n → MakesFew p.trace q.trace (2 * most) n → AllFew most (suc n)
-  one_few_more most n few last who low = at (cases_order who n)
-    where
-      at : (who ≡ n) ⊎ ((who < n) ⊎ (n < who)) → MakesFew p.trace q.trace (2 * most) who
-      at (inl is) = subst (MakesFew p.trace q.trace (2 * most)) (sym is) last
-      at (inr (inl less)) = few who less
-      at (inr (inr more)) = absurd (omega (arith, low, more))
+  one_few_more most n few last who low = elim (cases_order who n) [
+    | inl is ↦ subst (MakesFew p.trace q.trace (2 * most)) (sym is) last
+    | inr (inl less) ↦ few who less
+    | inr (inr more) ↦ absurd (omega (arith, low, more))
+  ]
 
   -- all of them do, or something is done
   all_few : (most n : ℕ) (Else : Type 0) →
       ((who : ℕ) → who < n → MakesFew p.trace q.trace (2 * most) who ⊎ Else) → AllFew most n ⊎ Else
   all_few most zero Else each = inl (λ who low. absurd (omega (arith, low)))
   all_few most (suc n) Else each =
-      go (all_few most n Else (λ who low. each who (omega (arith, low)))) (each n (omega arith))
-    where
-      go : AllFew most n ⊎ Else → MakesFew p.trace q.trace (2 * most) n ⊎ Else → AllFew most (suc n) ⊎ Else
-      go (inr done) last = inr done
-      go (inl few) (inr done) = inr done
-      go (inl few) (inl last) = inl (one_few_more most n few last)
+      elim (all_few most n Else (λ who low. each who (omega (arith, low)))) [
+        | inr done ↦ inr done
+        | inl few ↦ ⊎_elim (λ last. inl (one_few_more most n few last)) (λ done. inr done) (each n (omega arith))
+      ]
 
 -- ---- all steps
 
@@ -563,20 +518,15 @@ not_all_few p q most law goes many few = omega (arith, most_of_all, all, long, m
 
 pub steps_or_walks : StepsOrWalksAreAnswered
 steps_or_walks p q most law goes does many =
-    go (all_few p q goes most p.trace.passes (SomebodyGoesOn p.trace q.trace most does)
-    (λ who low. by who low (few_or_done p q goes most who (does who low))))
-  where
-    by : (who : ℕ) (low : who < p.trace.passes) →
-        MakesFew p.trace q.trace (2 * most) who ⊎ (SomebodyIsAnswered p.trace q.trace ⊎ BringsAWalkOn (does who low)) →
-        MakesFew p.trace q.trace (2 * most) who ⊎ SomebodyGoesOn p.trace q.trace most does
-    by who low (inl few) = inl few
-    by who low (inr (inl answered)) = inr (inl answered)
-    by who low (inr (inr walks)) = inr (inr (who, low, walks))
-
-    go : ((who : ℕ) → who < p.trace.passes → MakesFew p.trace q.trace (2 * most) who)
-        ⊎ SomebodyGoesOn p.trace q.trace most does → SomebodyGoesOn p.trace q.trace most does
-    go (inr done) = done
-    go (inl few) = absurd (not_all_few p q most law goes many few)
+    elim (all_few p q goes most p.trace.passes (SomebodyGoesOn p.trace q.trace most does)
+    (λ who low. elim (few_or_done p q goes most who (does who low)) [
+      | inl few ↦ inl few
+      | inr (inl answered) ↦ inr (inl answered)
+      | inr (inr walks) ↦ inr (inr (who, low, walks))
+    ])) [
+      | inr done ↦ done
+      | inl few ↦ absurd (not_all_few p q most law goes many few)
+    ]
 
 -- ---- callers that don't walk
 
@@ -616,9 +566,7 @@ no_walks {p} {q} {most} (inr c) walks = no_walk p q most c.first c.views c.calls
 
 pub steps_answered : StepsAreAnswered
 steps_answered p q most law goes each many =
-    go (steps_or_walks p q most law goes (λ who low. as_walkers (each who low)) many)
-  where
-    go : SomebodyGoesOn p.trace q.trace most (λ who low. as_walkers (each who low)) →
-        SomebodyIsAnswered p.trace q.trace
-    go (inl answered) = answered
-    go (inr walks) = absurd (no_walks (each walks.0 walks.1) walks.2)
+    elim (steps_or_walks p q most law goes (λ who low. as_walkers (each who low)) many) [
+      | inl answered ↦ answered
+      | inr walks ↦ absurd (no_walks (each walks.0 walks.1) walks.2)
+    ]

@@ -1,7 +1,7 @@
 -- A call of a walk with budget enough brings its cursor on, or another pass is answered meanwhile.
-use Rattle.std.proofs.Common.{◌≡◌, ◌≢◌, ℕ, zero, suc, ◌+◌, ◌-◌, ◌*◌, ◌<◌, ◌≤◌, Option, Some, None, Ok, Err}
+use Rattle.std.proofs.Common.{◌≡◌, ℕ, zero, suc, ◌+◌, ◌-◌, ◌*◌, ◌<◌, ◌≤◌, Option, Some, Ok, Err}
 use Rattle.std.proofs.Common.{Result, ap, subst, arith, inl, inr}
-use Rattle.std.specs.Prelude.{◌⊎◌}
+use Rattle.std.specs.Prelude.{◌⊎◌, IfErr, IfOk}
 use Rattle.std.proofs.lemmas.Bool.{cases_eq}
 use Rattle.std.proofs.lemmas.Nat.{mul-le}
 use Rattle.vbr_machine.specs.Start.{Start}
@@ -9,66 +9,54 @@ use Rattle.vbr_slots.specs.steps.Calls.{Quiet}
 use Rattle.vbr_slots.specs.views.Views.{PassView, Trace}
 use Rattle.vbr_list.specs.calls.Budgets.{nodes_listed_in, steps_to_value_of}
 use Rattle.vbr_list.specs.look_ups.Cursors.{IteratesEntries, IteratesKeys, StopsShort, costs_over_among}
-use Rattle.vbr_list.specs.look_ups.Cursors.{enough_to_come_among}
+use Rattle.vbr_list.specs.look_ups.Cursors.{GivesNext, GivesNextEntry, enough_to_come_among}
 use Rattle.vbr_list.specs.traversals.Disturbed.{disturbed_in, most_disturbed}
 use Rattle.vbr_list.specs.declared.cursor.Cursor.{Cursor}
 use Rattle.vbr_list.proofs.Lemmas.{disturbed_most_in, enough_among_more, enough_to_come_more, few_to_value}
 use Rattle.vbr_at_table.specs.declared.refusal.Refusal.{Refusal}
 use Rattle.vbr_set.specs.calls.Iterating.{StandsShort}
 use Rattle.vbr_set.specs.calls.Members.{MemberView, caller}
-use Rattle.vbr_set.specs.progress.Progressing.{AnotherIsAnswered, Proceeds, SeesRun, most_unanswered}
-use Rattle.vbr_set.specs.progress.Progressing.{updates_in}
+use Rattle.vbr_set.specs.progress.Progressing.{AnotherIsAnswered, Proceeds, SeesRun, most_unanswered, updates_in}
 use Rattle.vbr_set.specs.progress.Stretches.{most_disturbed_by}
 use Rattle.vbr_set.specs.progress.WalkProgress.{BringsOn, MembersWalk, WalksMakeProgress, WalksShowAnswers}
-use Rattle.vbr_set.specs.progress.WalkProgress.{enough_unanswered}
-use Rattle.vbr_set.specs.progress.WalkProgress.{enough_unanswered_over, key_told}
+use Rattle.vbr_set.specs.progress.WalkProgress.{enough_unanswered, enough_unanswered_over, key_told}
 use Rattle.vbr_set.proofs.progress.AnsweredCalls.{few_in, refuted, shown}
 use Rattle.vbr_set.proofs.progress.StretchedRuns.{disturbed_in_by}
 
 -- ---- calls for entries
 
--- a call for the next entry is one for the next key
+-- what an answer is refused by, and what it cost, is told of its key
+key_refused : (P : Refusal → Type 0) (answer : Result (Option (ℕ × ℕ)) Refusal) → IfErr answer P →
+    IfErr (key_told answer) P
+key_refused P (Ok (Some entry)) x = x
+key_refused P _ x = x
+
+key_cost : (Costs : Type 0) (answer : Result (Option (ℕ × ℕ)) Refusal) → IfOk answer (λ given. Costs) →
+    IfOk (key_told answer) (λ given. Costs)
+key_cost Costs (Ok (Some entry)) x = x
+key_cost Costs _ x = x
+
+-- so a call for the next entry is one for the next key
 keys_of_entries : (p q : PassView) (c d : Cursor) (budget : ℕ) (answer : Result (Option (ℕ × ℕ)) Refusal) →
     IteratesEntries p q c d budget answer → IteratesKeys p q c d budget (key_told answer)
-keys_of_entries p q c d budget (Ok (Some entry)) x = record {
-  gives = x.gives.0;
-  refused = tt;
+keys_of_entries p q c d budget answer x = record {
+  gives = key_given answer x.gives;
+  refused = key_refused _ answer x.refused;
   quiet = x.quiet;
   only_loads = x.only_loads;
   adds_none = x.adds_none;
   takes_no_slot = x.takes_no_slot;
   hand = x.hand;
   steps = x.steps;
-  costs = x.costs;
-  disturbed_costs = x.disturbed_costs;
-  going = x.going;
+  costs = key_cost _ answer x.costs;
+  disturbed_costs = key_cost _ answer x.disturbed_costs;
+  going = key_cost _ answer x.going;
 }
-keys_of_entries p q c d budget (Ok None) x = record {
-  gives = x.gives;
-  refused = tt;
-  quiet = x.quiet;
-  only_loads = x.only_loads;
-  adds_none = x.adds_none;
-  takes_no_slot = x.takes_no_slot;
-  hand = x.hand;
-  steps = x.steps;
-  costs = x.costs;
-  disturbed_costs = x.disturbed_costs;
-  going = x.going;
-}
-keys_of_entries p q c d budget (Err refusal) x = record {
-  gives = tt;
-  refused = x.refused;
-  quiet = x.quiet;
-  only_loads = x.only_loads;
-  adds_none = x.adds_none;
-  takes_no_slot = x.takes_no_slot;
-  hand = x.hand;
-  steps = x.steps;
-  costs = tt;
-  disturbed_costs = tt;
-  going = tt;
-}
+  where
+    key_given : (answer : Result (Option (ℕ × ℕ)) Refusal) → IfOk answer (GivesNextEntry p.trace q.trace c d) →
+        IfOk (key_told answer) (GivesNext p.trace q.trace c d)
+    key_given (Ok (Some entry)) x = x.0
+    key_given _ x = x
 
 pub members_walk : MembersWalk
 members_walk =
@@ -122,13 +110,10 @@ module _ (p : Trace) where
       let none : less ≡ 0 = omega (arith, le) in
       let same = ap (enough_unanswered_over p from) none in
       omega (arith, same)
-  over_more from less (suc count) le = go (cases_eq less (suc count)) (λ low. over_more from less count low)
-    where
-      go : (less ≡ suc count) ⊎ (less ≢ suc count) →
-          (less ≤ count → enough_unanswered_over p from less ≤ enough_unanswered_over p from count) →
-          enough_unanswered_over p from less ≤ enough_unanswered_over p from (suc count)
-      go (inl is) before = let same = ap (enough_unanswered_over p from) is in omega (arith, same)
-      go (inr ne) before = let rest = before (omega (arith, le, ne)) in omega (arith, rest)
+  over_more from less (suc count) le = elim (cases_eq less (suc count)) [
+    | inl is ↦ let same = ap (enough_unanswered_over p from) is in omega (arith, same)
+    | inr ne ↦ let rest = over_more from less count (omega (arith, le, ne)) in omega (arith, rest)
+  ]
 
 -- ---- what a refusal shows
 
@@ -137,7 +122,10 @@ module _ (p q : PassView) (law : SeesRun p.trace) (goes : Proceeds p.trace q.tra
   here : (c d : Cursor) (budget : ℕ) (refusal : Refusal) → IteratesKeys p q c d budget (Err refusal) →
       enough_unanswered p.trace c.bucket ≤ budget →
       (c.bucket < d.bucket) ⊎ AnotherIsAnswered p.trace q.trace
-  here c d budget refusal x enough = go x.refused.moved
+  here c d budget refusal x enough = elim x.refused.moved [
+    | inl same ↦ inr (shown p q law x.quiet (still same))
+    | inr on ↦ inl on.0
+  ]
     where
       P : Cursor → Type 0
       P e = StopsShort p q c e budget refusal
@@ -152,11 +140,6 @@ module _ (p q : PassView) (law : SeesRun p.trace) (goes : Proceeds p.trace q.tra
           let more = enough_among_more (nodes_listed_in p.trace c.bucket) (disturbed_in p.trace q.trace c.bucket)
           (most_unanswered p.trace) (few_in p q c.bucket law goes none) in
           refuted budget (enough_unanswered p.trace c.bucket) (omega (arith, short, free, more)) enough
-
-      go : (d ≡ c) ⊎ ((c.bucket < d.bucket) × (d.from ≡ 0)) →
-          (c.bucket < d.bucket) ⊎ AnotherIsAnswered p.trace q.trace
-      go (inl same) = inr (shown p q law x.quiet (still same))
-      go (inr on) = inl on.0
 
   on : (c d : Cursor) (budget : ℕ) (answer : Result (Option ℕ) Refusal) → IteratesKeys p q c d budget answer →
       enough_unanswered p.trace c.bucket ≤ budget → BringsOn c d answer ⊎ AnotherIsAnswered p.trace q.trace

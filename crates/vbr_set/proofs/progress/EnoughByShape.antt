@@ -34,10 +34,7 @@ counted_low test (suc n) = go (test n) (count_below test n) (counted_low test n)
 abbrev slots : PassView → ℕ
 slots p = p.trace.start.shape.slots
 
-nodes_in_low : (p : PassView) (bucket : ℕ) → nodes_listed_in p.trace bucket ≤ slots p
-nodes_in_low p bucket = counted_low _ (slots p)
-
-nodes_low : (p : PassView) (key : ℕ) → listed_for p.trace key ≤ slots p
+pub nodes_low : (p : PassView) (key : ℕ) → listed_for p.trace key ≤ slots p
 nodes_low p key = counted_low _ (slots p)
 
 pub times_low : (p : PassView) → most_unanswered p.trace ≤ 2 * slots p + 1
@@ -91,4 +88,4 @@ shapes_tell =
 pub shapes_tell_to_walk : ShapesTellEnoughToWalk
 shapes_tell_to_walk p bucket =
     look_up_low (nodes_listed_in p.trace bucket) (most_unanswered p.trace) (slots p) (2 * slots p + 1)
-    (nodes_in_low p bucket) (times_low p)
+    (counted_low _ (slots p)) (times_low p)

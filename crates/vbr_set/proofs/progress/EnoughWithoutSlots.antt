@@ -2,7 +2,6 @@
 use Rattle.std.proofs.Common.{ℕ, ◌+◌, ◌*◌, ◌≤◌, List, [], ◌∷◌, arith}
 use Rattle.std.proofs.lemmas.Nat.{mul-le}
 use Rattle.vbr_machine.specs.Start.{Start}
-use Rattle.vbr_slots.specs.views.Views.{PassView}
 use Rattle.vbr_at_table.specs.costs.Budgets.{most_to_take_among}
 use Rattle.vbr_list.specs.calls.Budgets.{listed_for}
 use Rattle.vbr_list.specs.traversals.Disturbed.{enough_to_store_among}
@@ -10,10 +9,7 @@ use Rattle.vbr_list.specs.updates.Wanted.{steps_to_compare}
 use Rattle.vbr_set.specs.progress.Progressing.{most_unanswered}
 use Rattle.vbr_set.specs.progress.Winning.{ShapesTellWithoutSlots, known_steps_for_slot, known_steps_to_prepare}
 use Rattle.vbr_set.specs.progress.Winning.{most_gained}
-use Rattle.vbr_set.proofs.progress.EnoughByShape.{counted_low, insert_low, times_low}
-
-nodes_few : (p : PassView) (key : ℕ) → listed_for p.trace key ≤ p.trace.start.shape.slots
-nodes_few p key = counted_low _ p.trace.start.shape.slots
+use Rattle.vbr_set.proofs.progress.EnoughByShape.{insert_low, nodes_low, times_low}
 
 -- an empty own pool is the worst
 taking_most : (start : Start) (pool : List ℕ) (gains : ℕ) →
@@ -32,13 +28,13 @@ shapes_tell_without =
     record {
       insert = λ p beyond key.
           (let low = insert_low (listed_for p.trace key) (most_unanswered p.trace) p.trace.start.shape.slots
-          (2 * p.trace.start.shape.slots + 1) (known_steps_for_slot p beyond) (nodes_few p key) (times_low p) in
+          (2 * p.trace.start.shape.slots + 1) (known_steps_for_slot p beyond) (nodes_low p key) (times_low p) in
           let most = taking_most p.trace.start p.pool (most_gained p.trace beyond) in
           omega (arith, low, most));
       store = λ p wanted beyond key.
           store_low (listed_for p.trace key) (most_unanswered p.trace) p.trace.start.shape.slots
           (2 * p.trace.start.shape.slots + 1) (known_steps_to_prepare wanted p beyond)
           (most_to_take_among p.trace.start [] (most_gained p.trace beyond) + steps_to_compare wanted)
-          (nodes_few p key) (times_low p)
+          (nodes_low p key) (times_low p)
           (let most = taking_most p.trace.start p.pool (most_gained p.trace beyond) in omega (arith, most));
     }

@@ -1,14 +1,12 @@
 -- A budget that is known to be enough, whatever is in the own pool, shows that another was answered.
-use Rattle.std.proofs.Common.{◌≡◌, ◌≢◌, ℕ, zero, suc, ◌≤◌, ◌==◌, ◌&&◌, not, true, false, List}
-use Rattle.std.proofs.Common.{[], ◌∷◌, ◌++◌, refl, sym, ap, ◌∙◌, eq-eqb, inl, inr, ⊎_elim, arith}
-use Rattle.std.specs.Prelude.{◌⊎◌, Contains}
+use Rattle.std.proofs.Common.{◌≡◌, ◌≢◌, ℕ, zero, suc, ◌≤◌, ◌==◌, ◌&&◌, not, true, List}
+use Rattle.std.proofs.Common.{[], ◌∷◌, refl, sym, ap, ◌∙◌, eq-eqb, inl, inr, ⊎_elim, arith}
+use Rattle.std.specs.Prelude.{◌⊎◌}
 use Rattle.std.proofs.lemmas.Bool.{and_parts, cases_Bool, false≢true}
-use Rattle.std.proofs.lemmas.List.Elements.{Contains-append_left, Contains-append_right}
 use Rattle.vbr_machine.specs.Disturbances.{is_update, one_if}
-use Rattle.vbr_machine.specs.Start.{Start}
 use Rattle.vbr_machine.specs.declared.history.Call.{Call}
 use Rattle.vbr_machine.specs.declared.history.Op.{Op}
-use Rattle.vbr_machine.specs.declared.history.Op.TheVariants.{Get, Has, Insert, Remove}
+use Rattle.vbr_machine.specs.declared.history.Op.TheVariants.{Insert, Remove}
 use Rattle.vbr_machine.proofs.Lemmas.{calls_since}
 use Rattle.vbr_slots.specs.views.Views.{PassView, Trace}
 use Rattle.vbr_at_table.specs.costs.Gained.{gained}
@@ -23,76 +21,39 @@ use Rattle.vbr_set.specs.progress.Progressing.{AnotherIsAnswered, SeesRun, most_
 use Rattle.vbr_set.specs.progress.Winning.{KnownBudgetsShowAnswers, OthersComeInNeed, inserts_of_others, is_insertion}
 use Rattle.vbr_set.specs.progress.Winning.{known_steps_for_slot, known_steps_to_prepare, most_gained, others_inserted}
 use Rattle.vbr_set.proofs.progress.AnsweredCalls.{map_refusals_show, refusals_show}
+use Rattle.vbr_set.proofs.progress.AnsweredMeanwhile.{IsOfAnother, first_is, is_answered, later_is}
 use Rattle.vbr_set.proofs.progress.PaidGains.{inserts-append}
 use Rattle.vbr_set.proofs.progress.WonFlags.{inserts_pay}
 
 -- ---- an insert of another pass
 
--- one of these calls is an insert that was answered yes, and not one of this caller
-record HasInsert (who : ℕ) (calls : List Call) : Type 0 where
-  call : Call
-  among : Contains calls call
-  other : call.who ≢ who
-  update : is_update call.op ≡ true
-  yes : call.reply ≡ true
-
 an_update : (op : Op) → is_insertion op ≡ true → is_update op ≡ true
 an_update Insert e = refl
 an_update Remove e = refl
-an_update Has e = absurd (false≢true e)
-an_update Get e = absurd (false≢true e)
+an_update _ e = absurd (false≢true e)
 
 another : (who caller : ℕ) → not (caller == who) ≡ true → caller ≢ who
 another who caller away own = false≢true (sym (ap not (eq-eqb caller who own)) ∙ away)
 
-has_insert : (who : ℕ) (calls : List Call) → 1 ≤ inserts_of_others who calls → HasInsert who calls
+has_insert : (who : ℕ) (calls : List Call) → 1 ≤ inserts_of_others who calls → IsOfAnother who calls
 has_insert who [] some = absurd (omega (arith, some))
 has_insert who (c ∷ cs) some =
-    go (λ more. has_insert who cs more) (cases_Bool (not (c.who == who) && (is_insertion c.op && c.reply)))
-  where
-    go : (1 ≤ inserts_of_others who cs → HasInsert who cs) →
-        ((not (c.who == who) && (is_insertion c.op && c.reply)) ≡ true) ⊎
-        ((not (c.who == who) && (is_insertion c.op && c.reply)) ≡ false) → HasInsert who (c ∷ cs)
-    go later (inl here) =
-        let parts = and_parts (not (c.who == who)) (is_insertion c.op && c.reply) here in
-        let rest = and_parts (is_insertion c.op) c.reply parts.1 in
-        record {
-          call = c;
-          among = Contains-append_left (c ∷ []) cs c (0, omega arith, refl);
-          other = another who c.who parts.0;
-          update = an_update c.op rest.0;
-          yes = rest.1;
-        }
-    go later (inr away) =
-        let nothing : one_if (not (c.who == who) && (is_insertion c.op && c.reply)) ≡ 0 = ap one_if away in
-        let there = later (omega (arith, some, nothing)) in
-        record {
-          call = there.call;
-          among = Contains-append_right (c ∷ []) cs there.call there.among;
-          other = there.other;
-          update = there.update;
-          yes = there.yes;
-        }
+    elim (cases_Bool (not (c.who == who) && (is_insertion c.op && c.reply))) [
+      | inl here ↦
+          let parts = and_parts (not (c.who == who)) (is_insertion c.op && c.reply) here in
+          let rest = and_parts (is_insertion c.op) c.reply parts.1 in
+          first_is who c cs (another who c.who parts.0) (an_update c.op rest.0) rest.1
+      | inr away ↦
+          let nothing : one_if (not (c.who == who) && (is_insertion c.op && c.reply)) ≡ 0 = ap one_if away in
+          later_is who c cs (has_insert who cs (omega (arith, some, nothing)))
+    ]
 
 -- so where one was made since, another pass was answered
 another_inserted : (p q : Trace) → SeesMore p q → 1 ≤ others_inserted p q → AnotherIsAnswered p q
-another_inserted p q sees more = record {
-  since = since.0;
-  adds = ap (λ (s : Start). calls_of s q.seen) sees.same.start ∙ since.1;
-  call = there.call;
-  among = there.among;
-  other = there.other;
-  update = there.update;
-  yes = there.yes;
-}
-  where
-    since : (calls : List Call) × (calls_of p.start q.seen ≡ calls_of p.start p.seen ++ calls)
-    since = calls_since p.start p.seen q.seen sees.begins
-
-    there : HasInsert p.who since.0
-    there = has_insert p.who since.0
-        (let sum = ap (inserts_of_others p.who) since.1 ∙ inserts-append p.who (calls_of p.start p.seen) since.0 in
-        omega (arith, more, sum))
+another_inserted p q sees more =
+    let since = calls_since p.start p.seen q.seen sees.begins in
+    let sum = ap (inserts_of_others p.who) since.1 ∙ inserts-append p.who (calls_of p.start p.seen) since.0 in
+    is_answered since sees.same.start (has_insert p.who since.0 (omega (arith, more, sum)))
 
 -- ---- what is enough
 

@@ -1,7 +1,7 @@
 -- The marked nodes are those of calls under way, and of calls that ended without room to unlink theirs.
 use Rattle.std.proofs.Common.{◌≡◌, ℕ, ◌+◌, ◌≤◌, Bool, true, false, List, [], ◌∷◌, ◌++◌, Option}
 use Rattle.std.proofs.Common.{Some, None, Ok, Err, Result, refl, ap, ◌∙◌, inl, inr, arith}
-use Rattle.std.specs.Prelude.{◌⊎◌, ◌==◌, ◌&&◌, if◌then◌else◌}
+use Rattle.std.specs.Prelude.{◌==◌, ◌&&◌, if◌then◌else◌}
 use Rattle.std.proofs.lemmas.Bool.{cases_Bool}
 use Rattle.vbr_machine.specs.History.{calls_by, set_call}
 use Rattle.vbr_machine.specs.MarkedBy.{HasOneLeft, marked_by}
@@ -16,7 +16,7 @@ use Rattle.vbr_machine.specs.declared.history.Op.{Op}
 use Rattle.vbr_machine.specs.declared.history.Op.TheVariants.{Get, Has, Insert, Remove}
 use Rattle.vbr_machine.proofs.Lemmas.{calls_by-append, calls_since, marks_added, marks_fall, marks_follow}
 use Rattle.vbr_machine.proofs.Lemmas.{others_leave_calls, removes-append}
-use Rattle.vbr_slots.specs.steps.Calls.{IsSame, Quiet, made_by}
+use Rattle.vbr_slots.specs.steps.Calls.{Quiet, made_by}
 use Rattle.vbr_slots.specs.views.Views.{PassView, Trace}
 use Rattle.vbr_list.specs.updates.Expecting.{removal_call}
 use Rattle.vbr_list.specs.updates.Storing.{stored_calls, storing_calls}
@@ -29,22 +29,18 @@ use Rattle.vbr_set.specs.histories.Histories.{calls_of}
 use Rattle.vbr_set.specs.progress.LeftMarked.{CallsLeaveNone, FewLeft, IsViewOf, LeavesAtMost, LeavesNone, MarksAreLeft}
 use Rattle.vbr_set.specs.progress.LeftMarked.{left_by, none_removed, removed, removed_entry, removed_if, rests, stored}
 use Rattle.vbr_set.specs.progress.LeftMarked.{under_way}
-use Rattle.vbr_set.specs.calls.MapCalls.{IsCall, IsMapCall, IsSetCall, MapAnswersAll}
-use Rattle.vbr_set.specs.calls.Members.{CalledBy, MemberView}
+use Rattle.vbr_set.specs.calls.MapCalls.{IsCall, IsMapCall, IsSetCall}
+use Rattle.vbr_set.specs.calls.Members.{CallerView, CallsBy, MemberView}
 use Rattle.vbr_set.specs.progress.Progressing.{SeesRun}
+use Rattle.vbr_list.specs.look_ups.Cursors.{SeesMore}
+use Rattle.vbr_set.proofs.histories.AnyCall.{call_leaves, map_all, set_all}
 use Rattle.vbr_set.proofs.progress.EnoughByShape.{few_unanswered}
 use Rattle.vbr_set.proofs.sums.PassSums.{sum_no_more}
 use Rattle.vbr_set.proofs.progress.StretchedRuns.{run_at}
 
 -- ---- one pass goes on
 
--- a pass has seen more of one run
-record GoesOn (p q : Trace) : Type 0 where
-  same : IsSame p q
-  begins : Begins p.seen q.seen
-  is_run : IsRun q.start q.passes q.seen
-
-module _ (p : PassView) (q : Trace) (law : SeesRun p.trace) (on : GoesOn p.trace q) where
+module _ (p : PassView) (q : Trace) (law : SeesRun p.trace) (on : SeesMore p.trace q) where
   run : IsRun p.trace.start p.trace.passes q.seen
   run = run_at q.seen on.same.start on.same.passes on.is_run
 
@@ -86,10 +82,10 @@ module _ (p : PassView) (q : Trace) (law : SeesRun p.trace) (on : GoesOn p.trace
   by_no_call : removes (made_by q) ≡ removes (made_by p.trace) → left_by q ≤ left_by p.trace
   by_no_call none = let f = follow in omega (arith, f, none)
 
-goes_by : {calls : List Call} {p q : Trace} → AnswersAll calls p q → GoesOn p q
+goes_by : {calls : List Call} {p q : Trace} → AnswersAll calls p q → SeesMore p q
 goes_by a = record { same = a.same; begins = a.begins; is_run = a.is_run }
 
-goes_quiet : (p : PassView) (q : Trace) → SeesRun p.trace → Quiet p.trace q → GoesOn p.trace q
+goes_quiet : (p : PassView) (q : Trace) → SeesRun p.trace → Quiet p.trace q → SeesMore p.trace q
 goes_quiet p q law quiet =
     record { same = quiet.same; begins = quiet.seen; is_run = quiet.is_run law.is_run }
 
@@ -124,8 +120,7 @@ module _ (m n : MemberView) (law : SeesRun m.pass.trace) where
   stored_new who key value wanted false e = rw e refl
 
   leaves_none : LeavesNone m n → left_by n.pass.trace ≤ left_by m.pass.trace
-  leaves_none (none_removed sees none) =
-      by_no_call m.pass n.pass.trace law (record { same = sees.same; begins = sees.begins; is_run = sees.is_run }) none
+  leaves_none (none_removed sees none) = by_no_call m.pass n.pass.trace law sees none
   leaves_none (removed key budget (Ok true) room c) =
       answered_one _ c.answers refl key (inl (c.bounds.unlists refl room))
   leaves_none (removed key budget (Ok false) room c) = answered_none _ c.answers refl
@@ -135,28 +130,25 @@ module _ (m n : MemberView) (law : SeesRun m.pass.trace) where
   leaves_none (removed_entry key budget (Ok None) room c) = answered_none _ c.answers.answers refl
   leaves_none (removed_entry key budget (Err refusal) room c) = quiet_none m.pass n.pass.trace law c.quiet
   leaves_none (removed_if key expected budget (Ok None) room c) = answered_none _ c.answers.answers refl
-  leaves_none (removed_if key expected budget (Ok (Some old)) room c) = go (cases_Bool (expected == old))
+  leaves_none (removed_if key expected budget (Ok (Some old)) room c) = elim (cases_Bool (expected == old)) [
+    | inl same ↦ answered_one _ c.answers.answers (counts true same) key (inl (c.bounds.unlists same room))
+    | inr other ↦ answered_none _ c.answers.answers (counts false other)
+  ]
     where
       counts : (b : Bool) → (expected == old) ≡ b →
           removes (removal_call m.pass.trace.who key (Some expected) (Some old) ∷ []) ≡ one_if b
       counts = removal_counts m.pass.trace.who key expected old
-
-      go : ((expected == old) ≡ true) ⊎ ((expected == old) ≡ false) → left_by n.pass.trace ≤ left_by m.pass.trace
-      go (inl same) = answered_one _ c.answers.answers (counts true same) key (inl (c.bounds.unlists same room))
-      go (inr other) = answered_none _ c.answers.answers (counts false other)
   leaves_none (removed_if key expected budget (Err refusal) room c) = quiet_none m.pass n.pass.trace law c.quiet
   leaves_none (stored key value wanted budget (Ok None) room c) =
       answered_none _ c.answers.answers (stored_new m.pass.trace.who key value wanted (wants wanted None) refl)
-  leaves_none (stored key value wanted budget (Ok (Some old)) room c) = go (cases_Bool (wants wanted (Some old)))
+  leaves_none (stored key value wanted budget (Ok (Some old)) room c) = elim (cases_Bool (wants wanted (Some old))) [
+    | inl same ↦ answered_one _ c.answers.answers (counts true same) key (inr (c.bounds.1.leaves same room))
+    | inr other ↦ answered_none _ c.answers.answers (counts false other)
+  ]
     where
       counts : (b : Bool) → wants wanted (Some old) ≡ b →
           removes (stored_calls m.pass.trace.who key value wanted (Some old)) ≡ one_if b
       counts = stored_counts m.pass.trace.who key value old wanted
-
-      go : (wants wanted (Some old) ≡ true) ⊎ (wants wanted (Some old) ≡ false) →
-          left_by n.pass.trace ≤ left_by m.pass.trace
-      go (inl same) = answered_one _ c.answers.answers (counts true same) key (inr (c.bounds.1.leaves same room))
-      go (inr other) = answered_none _ c.answers.answers (counts false other)
   leaves_none (stored key value wanted budget (Err refusal) room c) = quiet_none m.pass n.pass.trace law c.quiet
 
 -- a call makes one remove at most that is answered yes
@@ -177,51 +169,37 @@ one_of_store who key value wanted there = go (wants wanted there) there
     go true None = omega arith
     go true (Some old) = omega arith
 
-module _ {A : Type 0} (Leave : List Call → Trace → Trace → Type 0)
-    (to_all : (calls : List Call) (p q : Trace) → Leave calls p q → AnswersAll calls p q) (told : A → List Call)
-    (few : (reply : A) → removes (told reply) ≤ 1) (BoundsSo : Result A Refusal → Type 0) (m n : MemberView) where
-  one_removed : (budget : ℕ) (answer : Result A Refusal) → CalledBy Leave told BoundsSo m n budget answer →
-      SeesRun m.pass.trace → GoesOn m.pass.trace n.pass.trace
-      × (removes (made_by n.pass.trace) ≤ removes (made_by m.pass.trace) + 1)
-  one_removed budget (Ok reply) c law =
-      let a = to_all (told reply) m.pass.trace n.pass.trace c.answers in
+abbrev RemovesFew : MemberView → MemberView → Type 0
+RemovesFew m n = removes (made_by n.pass.trace) ≤ removes (made_by m.pass.trace) + 1
+
+module _ {A : Type 0} {Leave : List Call → Trace → Trace → Type 0}
+    (all : (calls : List Call) (p q : Trace) → Leave calls p q → AnswersAll calls p q) {told : A → List Call}
+    (few : (reply : A) → removes (told reply) ≤ 1) {BoundsSo : Result A Refusal → Type 0} {m n : CallerView} where
+  one_removed : (budget : ℕ) (answer : Result A Refusal) → CallsBy Leave told BoundsSo m n budget answer →
+      removes (made_by n.pass.trace) ≤ removes (made_by m.pass.trace) + 1
+  one_removed budget (Ok reply) c =
+      let a = all (told reply) m.pass.trace n.pass.trace c.answers in
       let count = ap removes a.once ∙ removes-append (made_by m.pass.trace) (told reply) in
       let one = few reply in
-      (goes_by a, omega (arith, count, one))
-  one_removed budget (Err refusal) c law =
-      let same = ap removes c.quiet.calls in (goes_quiet m.pass n.pass.trace law c.quiet, omega (arith, same))
-
-set_all : (calls : List Call) (p q : Trace) → AnswersAll calls p q → AnswersAll calls p q
-set_all calls p q a = a
-
-map_all : (calls : List Call) (p q : Trace) → MapAnswersAll calls p q → AnswersAll calls p q
-map_all calls p q a = a.answers
-
-abbrev RemovesFew : MemberView → MemberView → Type 0
-RemovesFew m n = SeesRun m.pass.trace → GoesOn m.pass.trace n.pass.trace
-    × (removes (made_by n.pass.trace) ≤ removes (made_by m.pass.trace) + 1)
+      omega (arith, count, one)
+  one_removed budget (Err refusal) c = let same = ap removes c.quiet.calls in omega (arith, same)
 
 few_of_set : (op : Op) (m n : MemberView) → IsSetCall op m n → RemovesFew m n
 few_of_set op m n (key, budget, answer, c) =
-    one_removed AnswersAll set_all _ (λ reply. one_at_most (set_call m.pass.trace.who op key reply)) _ m n budget answer
-    c
+    one_removed set_all (λ reply. one_at_most (set_call m.pass.trace.who op key reply)) budget answer c
 
 few_of_map : (op : Op) (m n : MemberView) → IsMapCall op m n → RemovesFew m n
 few_of_map Insert m n (inl (key, value, budget, answer, c)) =
-    one_removed MapAnswersAll map_all _ (λ reply. one_at_most (stored_call m.pass.trace.who key value reply)) _ m n
-    budget answer c
+    one_removed map_all (λ reply. one_at_most (stored_call m.pass.trace.who key value reply)) budget answer c
 few_of_map Insert m n (inr (key, value, wanted, budget, answer, c)) =
-    one_removed MapAnswersAll map_all _ (one_of_store m.pass.trace.who key value wanted) _ m n budget answer c
+    one_removed map_all (one_of_store m.pass.trace.who key value wanted) budget answer c
 few_of_map Remove m n (inl (key, budget, answer, c)) =
-    one_removed MapAnswersAll map_all _ (λ there. one_at_most (given_call m.pass.trace.who Remove key there)) _ m n
-    budget answer c
+    one_removed map_all (λ there. one_at_most (given_call m.pass.trace.who Remove key there)) budget answer c
 few_of_map Remove m n (inr (key, expected, budget, answer, c)) =
-    one_removed MapAnswersAll map_all _ (λ there. one_at_most (removal_call m.pass.trace.who key (Some expected) there))
-    _ m n budget answer c
+    one_removed map_all (λ there. one_at_most (removal_call m.pass.trace.who key (Some expected) there)) budget answer c
 few_of_map Has m n call = few_of_set Has m n call
 few_of_map Get m n (key, budget, answer, c) =
-    one_removed MapAnswersAll map_all _ (λ there. one_at_most (given_call m.pass.trace.who Get key there)) _ m n budget
-    answer c
+    one_removed map_all (λ there. one_at_most (given_call m.pass.trace.who Get key there)) budget answer c
 
 few_removed : (op : Op) (m n : MemberView) → IsCall op m n → RemovesFew m n
 few_removed op m n (inl call) = few_of_set op m n call
@@ -232,9 +210,8 @@ call_leaves_none =
     record {
       opened = λ set who. refl;
       called = λ m n law none. leaves_none m n law none;
-      one = λ op m n law call. (let f = few_removed op m n call law in
-          let all = follow m.pass n.pass.trace law f.0 in
-          let few = f.1 in
+      one = λ op m n law call. (let all = follow m.pass n.pass.trace law (call_leaves op m n call).sees in
+          let few = few_removed op m n call in
           omega (arith, all, few));
     }
 
@@ -281,13 +258,13 @@ module _ (p : PassView) (law : SeesRun p.trace) (who : ℕ) where
       omega (arith, more, same, there, few)
   at_most most (under_way op m n is call a b few) =
       let more = follows m.pass is a in
-      let f = few_removed op m n call is.sees in
+      let sees = (call_leaves op m n call).sees in
       let there = left_there m.pass is in
       let made = made_there m.pass is in
-      let one = f.1 in
+      let one = few_removed op m n call in
       let later = own_on start who seen n.pass.trace.seen b in
       let last : removes (made_by n.pass.trace) ≡ removes (own_calls start n.pass.trace.seen who) =
-      (λ i. removes (own_calls ((f.0.same.start ∙ is.start) i) n.pass.trace.seen ((f.0.same.who ∙ is.is) i))) in
+      (λ i. removes (own_calls ((sees.same.start ∙ is.start) i) n.pass.trace.seen ((sees.same.who ∙ is.is) i))) in
       omega (arith, more, there, made, one, later, last, few)
 
 pub marks_are_left : MarksAreLeft

@@ -1,11 +1,10 @@
 -- A pass that needs each flag wins one, and one more for each insert of it that is answered yes.
-use Rattle.std.proofs.Common.{◌≡◌, ◌≢◌, ℕ, zero, suc, ◌+◌, ◌-◌, ◌<◌, ◌≤◌, ◌==◌, ◌&&◌, not, Bool, true, false}
-use Rattle.std.proofs.Common.{List, [], ◌∷◌, ◌++◌, Option, Some, None, refl, sym, ap, ◌∙◌, subst, eq-eqb, inl, inr}
-use Rattle.std.proofs.Common.{arith}
-use Rattle.std.specs.Prelude.{◌⊎◌, nat_lt, if◌then◌else◌}
+use Rattle.std.proofs.Common.{◌≡◌, ◌≢◌, ℕ, zero, suc, ◌+◌, ◌-◌, ◌<◌, ◌≤◌, ◌==◌, ◌&&◌, not, Bool, true, false, List, []}
+use Rattle.std.proofs.Common.{◌∷◌, ◌++◌, Option, Some, None, refl, sym, ap, ◌∙◌, subst, eq-eqb, inl, inr, arith}
+use Rattle.std.specs.Prelude.{nat_lt, if◌then◌else◌}
 use Rattle.std.specs.Option.{option_to_list}
-use Rattle.std.proofs.lemmas.Bool.{cases_eq, eqb-true, ne_eqb}
-use Rattle.std.proofs.lemmas.Bool.Decides.{nat_tests}
+use Rattle.std.proofs.lemmas.Bool.{cases_eq, eqb-true, lt-ltb, ltb-false, ne_eqb}
+use Rattle.std.proofs.Math.Bool.{and-false}
 use Rattle.vbr_words.specs.Flags.{has_flag}
 use Rattle.vbr_words.specs.Words.{link_of, word_of}
 use Rattle.vbr_words.specs.declared.link.Link.{Link}
@@ -56,10 +55,6 @@ use Rattle.vbr_set.specs.progress.Winning.{inserts_of_others}
 abbrev pub by_other : (World → ℕ → Step → Bool) → ℕ → World → Event → Bool
 by_other test who w e = not (e.pass == who) && test w e.pass e.step
 
-and_false : (b : Bool) → (b && false) ≡ false
-and_false true = refl
-and_false false = refl
-
 module _ (start : Start) (who : ℕ) where
   abbrev Silent : List Entry → Type 0
   Silent entries = gains_in who entries ≡ 0
@@ -67,7 +62,7 @@ module _ (start : Start) (who : ℕ) where
   silent_one : (p : ℕ) (what : Happening) → is_gain what ≡ false → Silent (just p what)
   silent_one p what none =
       let away : one_if (not (p == who) && is_gain what) ≡ 0 =
-      ap (λ (b : Bool). one_if (not (p == who) && b)) none ∙ ap one_if (and_false (not (p == who))) in
+      ap (λ (b : Bool). one_if (not (p == who) && b)) none ∙ ap one_if (and-false (not (p == who))) in
       omega (arith, away)
 
   silent_either : (b : Bool) (xs ys : List Entry) → Silent xs → Silent ys → Silent (if b then xs else ys)
@@ -76,20 +71,18 @@ module _ (start : Start) (who : ℕ) where
 
   silent_given_up : (a : Incarnations) (p s : ℕ) (what : Happening) (own : Option Holding) → is_gain what ≡ false →
       Silent (after_giving_up a p s what own)
-  silent_given_up a p s what None none = silent_one p what none
-  silent_given_up a p s what (Some (Free stamp)) none = silent_one p what none
-  silent_given_up a p s what (Some (Unlinked seen)) none = silent_one p what none
   silent_given_up a p s what (Some (InHand known)) none =
-      let first : one_if (not (p == who) && false) ≡ 0 = ap one_if (and_false (not (p == who))) in
+      let first : one_if (not (p == who) && false) ≡ 0 = ap one_if (and-false (not (p == who))) in
       let last = silent_one p what none in
       omega (arith, first, last)
+  silent_given_up a p s what _ none = silent_one p what none
 
   silent_answer : (p : ℕ) (made : Option Call) → Silent (entry_of_call p made)
   silent_answer p None = refl
   silent_answer p (Some call) = silent_one p (Confirms call) refl
 
   no_win : (p : ℕ) → one_if (not (p == who) && false) ≡ 0
-  no_win p = ap one_if (and_false (not (p == who)))
+  no_win p = ap one_if (and-false (not (p == who)))
 
   -- what a step adds
   gain_of_step : (w : World) (a : Incarnations) (p : ℕ) (step : Step) →
@@ -182,53 +175,40 @@ module _ (own : ℕ → Option Holding) (s : ℕ) (holding : Option Holding) whe
   counted_put : (n : ℕ) → s < n →
       count_below now n + one_if (may_bear (own s)) ≡ count_below before n + one_if (may_bear holding)
   counted_put zero low = absurd (omega (arith, low))
-  counted_put (suc n) low = go (λ less. counted_put n less) (cases_eq s n)
-    where
-      go : (s < n → count_below now n + one_if (may_bear (own s)) ≡ count_below before n + one_if (may_bear holding)) →
-          (s ≡ n) ⊎ (s ≢ n) →
-          count_below now (suc n) + one_if (may_bear (own s))
-          ≡ count_below before (suc n) + one_if (may_bear holding)
-      go rest (inl is) =
-          let more = counted_more now n in
-          let also = counted_more before n in
-          let under = counted_apart n (omega (arith, is)) in
-          let here : one_if (now n) ≡ one_if (may_bear holding) =
-          ap (λ (k : ℕ). one_if (now k)) (sym is)
-          ∙ ap (λ (h : Option Holding). one_if (may_bear h)) (put_here own s holding) in
-          let there : one_if (before n) ≡ one_if (before s) = ap (λ (k : ℕ). one_if (before k)) (sym is) in
-          omega (arith, more, also, under, here, there)
-      go rest (inr other) =
-          let more = counted_more now n in
-          let also = counted_more before n in
-          let under = rest (omega (arith, low, other)) in
-          let here : one_if (now n) ≡ one_if (before n) =
-          ap (λ (h : Option Holding). one_if (may_bear h)) (put_other own s holding n (λ same. other (sym same))) in
-          omega (arith, more, also, under, here)
+  counted_put (suc n) low = elim (cases_eq s n) [
+    | inl is ↦ let more = counted_more now n in
+        let also = counted_more before n in
+        let under = counted_apart n (omega (arith, is)) in
+        let here : one_if (now n) ≡ one_if (may_bear holding) =
+        ap (λ (k : ℕ). one_if (now k)) (sym is)
+        ∙ ap (λ (h : Option Holding). one_if (may_bear h)) (put_here own s holding) in
+        let there : one_if (before n) ≡ one_if (before s) = ap (λ (k : ℕ). one_if (before k)) (sym is) in
+        omega (arith, more, also, under, here, there)
+    | inr other ↦ let more = counted_more now n in
+        let also = counted_more before n in
+        let under = counted_put n (omega (arith, low, other)) in
+        let here : one_if (now n) ≡ one_if (before n) =
+        ap (λ (h : Option Holding). one_if (may_bear h)) (put_other own s holding n (λ same. other (sym same))) in
+        omega (arith, more, also, under, here)
+  ]
 
 -- ---- one for a pass that has a slot
 
 abbrev some : ℕ → ℕ
 some n = one_if (nat_lt 0 n)
 
+one_low : (b : Bool) → one_if b ≤ 1
+one_low true = omega arith
+one_low false = omega arith
+
 some_low : (n : ℕ) → some n ≤ 1
-some_low n = go (nat_lt 0 n)
-  where
-    go : (b : Bool) → one_if b ≤ 1
-    go true = omega arith
-    go false = omega arith
+some_low n = one_low (nat_lt 0 n)
 
 some_of : (n : ℕ) → 1 ≤ n → some n ≡ 1
-some_of n more = ap one_if (has n more)
-  where
-    has : (k : ℕ) → 1 ≤ k → nat_lt 0 k ≡ true
-    has k low = grind (arith, nat_tests)
+some_of n more = ap one_if (lt-ltb 0 n more)
 
 some_on : (m n : ℕ) → (1 ≤ m → 1 ≤ n) → some m ≤ some n
-some_on zero n on = go (nat_lt 0 n)
-  where
-    go : (b : Bool) → some 0 ≤ one_if b
-    go true = omega arith
-    go false = omega arith
+some_on zero n on = omega arith
 some_on (suc m) n on =
     let low = some_low (suc m) in let one = some_of n (on (omega arith)) in omega (arith, low, one)
 
@@ -241,38 +221,25 @@ publishes start w (Replace s expected t) = found start w (Replace s expected t) 
 publishes start w _ = false
 
 may_reread : (holding : Option Holding) → may_bear (reread holding) ≡ may_bear holding
-may_reread None = refl
-may_reread (Some (Free stamp)) = refl
-may_reread (Some (Unlinked seen)) = refl
 may_reread (Some (InHand known)) = refl
+may_reread _ = refl
 
 may_keyed : (holding : Option Holding) (key : ℕ) → may_bear (with_key holding key) ≡ may_bear holding
-may_keyed None key = refl
-may_keyed (Some (Free stamp)) key = refl
-may_keyed (Some (Unlinked seen)) key = refl
 may_keyed (Some (InHand known)) key = refl
+may_keyed _ key = refl
 
 may_valued : (holding : Option Holding) (value : ℕ) → may_bear (with_value holding value) ≡ may_bear holding
-may_valued None value = refl
-may_valued (Some (Free stamp)) value = refl
-may_valued (Some (Unlinked seen)) value = refl
 may_valued (Some (InHand known)) value = refl
+may_valued _ value = refl
 
 may_linked : (holding : Option Holding) (link : Link) → may_bear (with_link holding link) ≡ may_bear holding
-may_linked None link = refl
-may_linked (Some (Free stamp)) link = refl
-may_linked (Some (Unlinked seen)) link = refl
 may_linked (Some (InHand known)) link = refl
+may_linked _ link = refl
 
 may_is : (holding : Option Holding) → MayBear holding → may_bear holding ≡ true
-may_is None m = absurd m
 may_is (Some (Free stamp)) m = refl
-may_is (Some (Unlinked seen)) m = absurd m
 may_is (Some (InHand known)) m = refl
-
-one_low : (b : Bool) → one_if b ≤ 1
-one_low true = omega arith
-one_low false = omega arith
+may_is _ m = absurd m
 
 module _ (start : Start) (w : World) (p : ℕ) where
   -- what a step leaves of the slots that its pass may give birth in, where it teaches this
@@ -339,13 +306,10 @@ module _ (start : Start) (w : World) (p : ℕ) where
           let one = ap one_if (may_is ((w.know p).own s) may) in
           omega (arith, all, one)
 
-      at_least_two : (k : ℕ) → nat_lt k 2 ≡ false → 2 ≤ k
-      at_least_two k not_below = grind (arith, nat_tests)
-
       go : (b : Bool) → nat_lt n 2 ≡ b → 0 + some n ≤ 0 + one_if (nat_lt n 2) + some left
       go true below = let one = ap one_if below in let most = some_low n in omega (arith, one, most)
       go false not_below =
-          let two = at_least_two n not_below in
+          let two = ltb-false n 2 not_below in
           let one = some_of left (omega (arith, two, sum)) in
           let most = some_low n in
           omega (arith, one, most)
@@ -476,30 +440,21 @@ module _ (start : Start) (who : ℕ) (w : World) (p : ℕ) where
       ≤ inserts_of_others who (calls_added start w p step)
 
   no_insert : (calls : List Call) → one_if (not (p == who) && false) ≤ inserts_of_others who calls
-  no_insert calls = let none = ap one_if (and_false (not (p == who))) in omega (arith, none)
+  no_insert calls = let none = ap one_if (and-false (not (p == who))) in omega (arith, none)
+
+  abbrev inserted : ℕ → Option ℕ → Call
+  inserted key value = record { who = p; op = Insert; key = key; reply = true; value = value }
 
   published_inserts : (b : Bool) (key : ℕ) (value : Option ℕ) →
       one_if (not (p == who) && b)
-      ≤ inserts_of_others who (option_to_list (if b then Some (record {
-        who = p;
-        op = Insert;
-        key = key;
-        reply = true;
-        value = value;
-      }) else None))
+      ≤ inserts_of_others who (option_to_list (if b then Some (inserted key value) else None))
   published_inserts true key value = omega arith
   published_inserts false key value = no_insert []
 
   replaced_inserts : (b : Bool) (removed : Call) (key : ℕ) (value : Option ℕ) →
       one_if (not (p == who) && b)
       ≤ inserts_of_others who (option_to_list (if b then Some removed else None)
-      ++ option_to_list (if b then Some (record {
-        who = p;
-        op = Insert;
-        key = key;
-        reply = true;
-        value = value;
-      }) else None))
+      ++ option_to_list (if b then Some (inserted key value) else None))
   replaced_inserts true removed key value = omega arith
   replaced_inserts false removed key value = no_insert []
 
@@ -514,25 +469,21 @@ module _ (start : Start) (who : ℕ) (w : World) (p : ℕ) where
 
 sum_one : (n p : ℕ) (f g : ℕ → ℕ) → p < n → ((o : ℕ) → o ≢ p → f o ≡ g o) → sum_of n f + g p ≡ sum_of n g + f p
 sum_one zero p f g low others = absurd (omega (arith, low))
-sum_one (suc n) p f g low others = go (λ less. sum_one n p f g less others) (cases_eq p n)
+sum_one (suc n) p f g low others = elim (cases_eq p n) [
+  | inl is ↦ let same = all_same n (omega (arith, is)) in
+      let here = ap f is in
+      let there = ap g is in
+      omega (arith, same, here, there)
+  | inr other ↦ let before = sum_one n p f g (omega (arith, low, other)) others in
+      let now = others n (λ same. other (sym same)) in
+      omega (arith, before, now)
+]
   where
     all_same : (m : ℕ) → m ≤ p → sum_of m f ≡ sum_of m g
     all_same zero under = refl
     all_same (suc m) under =
         let before = all_same m (omega (arith, under)) in
         let now = others m (λ same. omega (arith, under, same)) in
-        omega (arith, before, now)
-
-    go : (p < n → sum_of n f + g p ≡ sum_of n g + f p) → (p ≡ n) ⊎ (p ≢ n) →
-        sum_of n f + f n + g p ≡ sum_of n g + g n + f p
-    go rest (inl is) =
-        let same = all_same n (omega (arith, is)) in
-        let here = ap f is in
-        let there = ap g is in
-        omega (arith, same, here, there)
-    go rest (inr other) =
-        let before = rest (omega (arith, low, other)) in
-        let now = others n (λ same. other (sym same)) in
         omega (arith, before, now)
 
 module _ (start : Start) (passes who : ℕ) where
@@ -563,17 +514,14 @@ module _ (start : Start) (passes who : ℕ) where
 
       go : (n : ℕ) → who < n → sum_of n (has w) + 1 ≤ n
       go zero less = absurd (omega (arith, less))
-      go (suc n) less = by (λ under. go n under) (cases_eq who n)
-        where
-          by : (who < n → sum_of n (has w) + 1 ≤ n) → (who ≡ n) ⊎ (who ≢ n) → sum_of n (has w) + has w n + 1 ≤ suc n
-          by rest (inl is) =
-              let before = no_more n in
-              let here : has w n ≡ 0 = ap (has w) (sym is) ∙ own in
-              omega (arith, before, here)
-          by rest (inr other) =
-              let before = rest (omega (arith, less, other)) in
-              let now = one n in
-              omega (arith, before, now)
+      go (suc n) less = elim (cases_eq who n) [
+        | inl is ↦ let before = no_more n in
+            let here : has w n ≡ 0 = ap (has w) (sym is) ∙ own in
+            omega (arith, before, here)
+        | inr other ↦ let before = go n (omega (arith, less, other)) in
+            let now = one n in
+            omega (arith, before, now)
+      ]
 
   -- what one event leaves
   abbrev Paid : World → Event → Type 0
@@ -584,7 +532,28 @@ module _ (start : Start) (passes who : ℕ) where
 
   one_paid : (w : World) (a : Incarnations) (notes : ℕ → Notes) (e : Event) → Agrees start w a notes →
       e.pass < passes → Accepts start (w.know e.pass) e.step → Paid w e
-  one_paid w a notes e g low ok = go (cases_eq e.pass who)
+  one_paid w a notes e g low ok = elim (cases_eq e.pass who) [
+    | inl own ↦ let none_won : one_if (not (e.pass == who) && wins_flag start w e.pass e.step) ≡ 0 =
+        ap (λ (b : Bool). one_if (not b && wins_flag start w e.pass e.step)) (eq-eqb e.pass who own) in
+        let sum = sum_one passes e.pass (has v) (has w) low other_same in
+        let mine : (u : World) → has u e.pass ≡ 0 =
+        (λ u. ap (λ (b : Bool). if b then 0 else some (slots_with start u e.pass)) (eq-eqb e.pass who own)) in
+        let before = mine w in
+        let later = mine v in
+        omega (arith, none_won, sum, before, later, calls)
+    | inr away ↦ let tests : (not (e.pass == who)) ≡ true = ap not (ne_eqb e.pass who away) in
+        let won = ap (λ (b : Bool). one_if (b && wins_flag start w e.pass e.step)) tests in
+        let beyond = ap (λ (b : Bool). one_if (b && goes_beyond start w e.pass e.step)) tests in
+        let published = ap (λ (b : Bool). one_if (b && publishes start w e.step)) tests in
+        let its : (u : World) → has u e.pass ≡ some (slots_with start u e.pass) =
+        (λ u. ap (λ (b : Bool). if b then 0 else some (slots_with start u e.pass)) (ne_eqb e.pass who away)) in
+        let before = its w in
+        let later = its v in
+        let sum = sum_one passes e.pass (has v) (has w) low other_same in
+        let step = own_step start w a notes e.pass g e.step ok in
+        let inserts = step_inserts start who w e.pass e.step in
+        omega (arith, won, beyond, published, before, later, sum, step, inserts, calls)
+  ]
     where
       v : World
       v = after start w e.pass e.step
@@ -598,30 +567,6 @@ module _ (start : Start) (passes who : ℕ) where
       other_same o away =
           ap (λ (known : Know). if o == who then 0 else some (free_slots start known))
           (know_other start w o e.pass e.step away)
-
-      go : (e.pass ≡ who) ⊎ (e.pass ≢ who) → Paid w e
-      go (inl own) =
-          let none_won : one_if (not (e.pass == who) && wins_flag start w e.pass e.step) ≡ 0 =
-          ap (λ (b : Bool). one_if (not b && wins_flag start w e.pass e.step)) (eq-eqb e.pass who own) in
-          let sum = sum_one passes e.pass (has v) (has w) low other_same in
-          let mine : (u : World) → has u e.pass ≡ 0 =
-          (λ u. ap (λ (b : Bool). if b then 0 else some (slots_with start u e.pass)) (eq-eqb e.pass who own)) in
-          let before = mine w in
-          let later = mine v in
-          omega (arith, none_won, sum, before, later, calls)
-      go (inr away) =
-          let tests : (not (e.pass == who)) ≡ true = ap not (ne_eqb e.pass who away) in
-          let won = ap (λ (b : Bool). one_if (b && wins_flag start w e.pass e.step)) tests in
-          let beyond = ap (λ (b : Bool). one_if (b && goes_beyond start w e.pass e.step)) tests in
-          let published = ap (λ (b : Bool). one_if (b && publishes start w e.step)) tests in
-          let its : (u : World) → has u e.pass ≡ some (slots_with start u e.pass) =
-          (λ u. ap (λ (b : Bool). if b then 0 else some (slots_with start u e.pass)) (ne_eqb e.pass who away)) in
-          let before = its w in
-          let later = its v in
-          let sum = sum_one passes e.pass (has v) (has w) low other_same in
-          let step = own_step start w a notes e.pass g e.step ok in
-          let inserts = step_inserts start who w e.pass e.step in
-          omega (arith, won, beyond, published, before, later, sum, step, inserts, calls)
 
   all_paid : (w : World) (a : Incarnations) (notes : ℕ → Notes) (events : List Event) → Agrees start w a notes →
       AreAccepted start passes w events →

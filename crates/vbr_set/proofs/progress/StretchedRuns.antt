@@ -1,5 +1,5 @@
 -- In a stretch of a run the epoch advances no more often than inserts are begun, by all passes.
-use Rattle.std.proofs.Common.{◌≡◌, ℕ, ◌+◌, ◌≤◌, ◌==◌, ◌&&◌, Bool, true, cond, List, [], ◌∷◌, ◌++◌, Ok, Err, Result}
+use Rattle.std.proofs.Common.{◌≡◌, ℕ, ◌+◌, ◌≤◌, ◌==◌, ◌&&◌, Bool, true, cond, List, [], ◌∷◌, ◌++◌}
 use Rattle.std.proofs.Common.{refl, ap, sym, subst, ◌∙◌, arith, eq-eqb, inl, inr, append_assoc}
 use Rattle.std.specs.Prelude.{count_by}
 use Rattle.std.proofs.lemmas.Bool.{ne_eqb}
@@ -13,27 +13,19 @@ use Rattle.vbr_machine.specs.Whereabouts.{sum_of}
 use Rattle.vbr_machine.specs.declared.event.Event.{Event}
 use Rattle.vbr_machine.specs.declared.event.Step.{Step}
 use Rattle.vbr_machine.specs.declared.event.Step.TheVariants.{ReadEpoch}
-use Rattle.vbr_machine.specs.declared.history.Call.{Call}
-use Rattle.vbr_machine.specs.declared.history.Op.{Op}
-use Rattle.vbr_machine.specs.declared.history.Op.TheVariants.{Get, Has, Insert, Remove}
 use Rattle.vbr_machine.proofs.Lemmas.{IsAdvance, begins_refl, disturbances_paid, is_run_after, moved_by_steps}
 use Rattle.vbr_slots.specs.steps.PassLaw.{PassLaw}
-use Rattle.vbr_slots.specs.Tokens.{SeenView}
-use Rattle.vbr_slots.specs.views.Views.{Did, PassView, TableView, Trace, event_of}
+use Rattle.vbr_slots.specs.views.Views.{Did, PassView, Trace, event_of}
 use Rattle.vbr_slots.proofs.Lemmas.{same_refl}
 use Rattle.vbr_at_table.specs.costs.Advances.{AdvancesWhereNeeded}
 use Rattle.vbr_at_table.specs.costs.StepKinds.{advances, is_advance}
 use Rattle.vbr_at_table.proofs.Lemmas.{did_none}
 use Rattle.vbr_list.specs.look_ups.Cursors.{SeesMore}
 use Rattle.vbr_list.specs.traversals.Disturbed.{disturbed, disturbed_in}
-use Rattle.vbr_at_table.specs.declared.refusal.Refusal.{Refusal}
 use Rattle.vbr_list.proofs.Lemmas.{sees_on}
-use Rattle.vbr_set.specs.histories.Answers.{AnswersAll}
-use Rattle.vbr_set.specs.calls.MapCalls.{IsCall, IsMapCall, IsSetCall, MapAnswersAll}
-use Rattle.vbr_set.specs.calls.Members.{CalledBy, MemberView}
-use Rattle.vbr_set.specs.progress.Stretches.{BeganIn, CameBy, MapStretchesMakeProgress, PassesComeByCalls, Stretch}
-use Rattle.vbr_set.specs.progress.Stretches.{StretchesDisturb, StretchesMakeProgress, inserts_begun, most_disturbed_by}
-use Rattle.vbr_set.specs.histories.Tokens.{CatchesUp}
+use Rattle.vbr_set.specs.progress.Stretches.{BeganIn, MapStretchesMakeProgress, PassesComeByCalls, Stretch}
+use Rattle.vbr_set.specs.progress.Stretches.{StretchesDisturb, StretchesMakeProgress, most_disturbed_by}
+use Rattle.vbr_set.proofs.histories.AnyCall.{call_leaves}
 use Rattle.vbr_set.proofs.progress.Progress.{fewer_to_look_up, fewer_to_search, lacks_to_insert, lacks_to_store}
 use Rattle.vbr_set.proofs.sums.PassSums.{one_in_sum, sum_both, sum_no_more, sum_same}
 
@@ -175,78 +167,6 @@ one_for_an_insert p q (inr once) = let one = once.count in omega (arith, one)
 none_else : (p q : PassView) → advances q.trace ≡ advances p.trace → advances q.trace ≤ advances p.trace + 0
 none_else p q same = omega (arith, same)
 
--- what an answered call has seen begins with what its pass had seen, and is a run
-record GoesOn (p q : Trace) : Type 0 where
-  begins : Begins p.seen q.seen
-  is_run : IsRun q.start q.passes q.seen
-
-module _ {A : Type 0} (Leave : List Call → Trace → Trace → Type 0)
-    (goes : (calls : List Call) (p q : Trace) → Leave calls p q → GoesOn p q) (told : A → List Call)
-    (BoundsSo : Result A Refusal → Type 0) where
-  sees_called : (m n : MemberView) (budget : ℕ) (answer : Result A Refusal) → PassLaw m.pass →
-      CalledBy Leave told BoundsSo m n budget answer → SeesMore m.pass.trace n.pass.trace
-  sees_called m n budget (Ok reply) law c =
-      let on = goes (told reply) m.pass.trace n.pass.trace c.answers in
-      record { same = c.same; begins = on.begins; is_run = on.is_run }
-  sees_called m n budget (Err refusal) law c =
-      record { same = c.same; begins = c.quiet.seen; is_run = c.quiet.is_run law.is_run }
-
-set_goes : (calls : List Call) (p q : Trace) → AnswersAll calls p q → GoesOn p q
-set_goes calls p q a = record { begins = a.begins; is_run = a.is_run }
-
-map_goes : (calls : List Call) (p q : Trace) → MapAnswersAll calls p q → GoesOn p q
-map_goes calls p q a = set_goes calls p q a.answers
-
-came_set : (op : Op) (m n : MemberView) → PassLaw m.pass → IsSetCall op m n → CameBy (inserts_begun op) m.pass n.pass
-came_set Insert m n law (key, budget, answer, c) =
-    record {
-      sees = sees_called AnswersAll set_goes _ _ m n budget answer law c;
-      advances = one_for_an_insert m.pass n.pass c.bounds.advances;
-    }
-came_set Remove m n law (key, budget, answer, c) =
-    record {
-      sees = sees_called AnswersAll set_goes _ _ m n budget answer law c;
-      advances = none_else m.pass n.pass c.bounds.takes_no_slot.count;
-    }
-came_set Has m n law (key, budget, answer, c) =
-    record {
-      sees = sees_called AnswersAll set_goes _ _ m n budget answer law c;
-      advances = none_else m.pass n.pass c.bounds.takes_no_slot.count;
-    }
-came_set Get m n law (key, budget, answer, c) = absurd c.bounds
-
-came_map : (op : Op) (m n : MemberView) → PassLaw m.pass → IsMapCall op m n → CameBy (inserts_begun op) m.pass n.pass
-came_map Insert m n law (inl (key, value, budget, answer, c)) =
-    record {
-      sees = sees_called MapAnswersAll map_goes _ _ m n budget answer law c;
-      advances = one_for_an_insert m.pass n.pass c.bounds.advances;
-    }
-came_map Insert m n law (inr (key, value, wanted, budget, answer, c)) =
-    record {
-      sees = sees_called MapAnswersAll map_goes _ _ m n budget answer law c;
-      advances = one_for_an_insert m.pass n.pass c.bounds.1.advances;
-    }
-came_map Remove m n law (inl (key, budget, answer, c)) =
-    record {
-      sees = sees_called MapAnswersAll map_goes _ _ m n budget answer law c;
-      advances = none_else m.pass n.pass c.bounds.takes_no_slot.count;
-    }
-came_map Remove m n law (inr (key, expected, budget, answer, c)) =
-    record {
-      sees = sees_called MapAnswersAll map_goes _ _ m n budget answer law c;
-      advances = none_else m.pass n.pass c.bounds.takes_no_slot.count;
-    }
-came_map Has m n law call = came_set Has m n law call
-came_map Get m n law (key, budget, answer, c) =
-    record {
-      sees = sees_called MapAnswersAll map_goes _ _ m n budget answer law c;
-      advances = none_else m.pass n.pass c.bounds.takes_no_slot.count;
-    }
-
-came_called : (op : Op) (m n : MemberView) → PassLaw m.pass → IsCall op m n → CameBy (inserts_begun op) m.pass n.pass
-came_called op m n law (inl call) = came_set op m n law call
-came_called op m n law (inr call) = came_map op m n law call
-
 -- who met others read the epoch, and who caught up made no step
 sees_met : (p q : Trace) (epoch : ℕ) → Did ReadEpoch p q epoch → SeesMore p q
 sees_met p q epoch did =
@@ -266,29 +186,6 @@ none_of who (e ∷ events) none = of_both who (e ∷ []) events ∙ (λ i. other
     other : advance_steps_of who (e ∷ []) ≡ 0
     other = ap (λ (b : Bool). 0 + cond (b && is_advance e.step) 1 0) (ne_eqb e.pass who none.0)
 
-came_caught : (set : TableView) (p q : PassView) (token : SeenView) → CatchesUp set p token q → CameBy 0 p q
-came_caught set p q token c =
-    record {
-      sees = record {
-        same = c.quiet.same;
-        begins = c.quiet.seen;
-        is_run = run_at q.trace.seen (sym c.since.same.1) (sym c.since.same.2) c.since.is_run;
-      };
-      advances =
-          (let who = ap (λ (k : ℕ). advance_steps_of k q.trace.seen) c.since.same.3 in
-          let all = ap (advance_steps_of p.trace.who) c.since.seen in
-          let both = of_both p.trace.who p.trace.seen c.since.rest in
-          let none = none_of p.trace.who c.since.rest c.since.none in
-          omega (arith, who, all, both, none));
-    }
-
-came_after : (first then : ℕ) (p q r : PassView) → CameBy first p q → CameBy then q r → CameBy (first + then) p r
-came_after first then p q r a b =
-    record {
-      sees = sees_on a.sees b.sees;
-      advances = (let x = a.advances in let y = b.advances in omega (arith, x, y));
-    }
-
 pub come_by_calls : PassesComeByCalls
 come_by_calls =
     record {
@@ -297,14 +194,38 @@ come_by_calls =
             sees = record { same = same_refl p.trace; begins = begins_refl p.trace.seen; is_run = law.is_run };
             advances = omega arith;
           };
-      called = came_called;
+      called = λ op m n law call.
+          (let left = call_leaves op m n call in
+          record {
+            sees = left.sees;
+            advances = elim left.slots [
+              | inl none ↦ let same = none.count in omega (arith, same)
+              | inr may ↦
+                  let one = one_for_an_insert m.pass n.pass may.advances in
+                  let inserts = may.inserts in
+                  omega (arith, one, inserts)
+            ];
+          });
       went_over = λ p q sees none. record { sees = sees; advances = none_else p q none.count };
       met = λ p q epoch did pool.
           record {
             sees = sees_met p.trace q.trace epoch did;
             advances = none_else p q (did_none did refl tt pool).count;
           };
-      caught = came_caught;
+      caught = λ set p q token c.
+          record {
+            sees = record {
+              same = c.quiet.same;
+              begins = c.quiet.seen;
+              is_run = run_at q.trace.seen (sym c.since.same.1) (sym c.since.same.2) c.since.is_run;
+            };
+            advances =
+                (let who = ap (λ (k : ℕ). advance_steps_of k q.trace.seen) c.since.same.3 in
+                let all = ap (advance_steps_of p.trace.who) c.since.seen in
+                let both = of_both p.trace.who p.trace.seen c.since.rest in
+                let none = none_of p.trace.who c.since.rest c.since.none in
+                omega (arith, who, all, both, none));
+          };
       gave = λ p q shared law g.
           record {
             sees = record { same = g.quiet.same; begins = g.quiet.seen; is_run = g.quiet.is_run law.is_run };
@@ -316,5 +237,9 @@ come_by_calls =
                 record { same = takes.quiet.same; begins = takes.quiet.seen; is_run = takes.quiet.is_run law.is_run };
             advances = none_else p q takes.advances;
           };
-      after = came_after;
+      after = λ first then p q r a b.
+          record {
+            sees = sees_on a.sees b.sees;
+            advances = (let x = a.advances in let y = b.advances in omega (arith, x, y));
+          };
     }

@@ -1,7 +1,7 @@
 -- The flags that passes win beyond their need, by their calls, and what a call with a known budget shows.
-use Rattle.std.proofs.Common.{◌≡◌, ◌≢◌, ℕ, zero, suc, ◌+◌, ◌-◌, ◌<◌, ◌≤◌, ◌==◌, ◌&&◌, not, Bool, true, false, List, []}
-use Rattle.std.proofs.Common.{◌∷◌, ◌++◌, refl, sym, ap, ◌∙◌, subst, eq-eqb, inl, inr, arith}
-use Rattle.std.specs.Prelude.{◌⊎◌, if◌then◌else◌}
+use Rattle.std.proofs.Common.{◌≡◌, ℕ, zero, suc, ◌+◌, ◌-◌, ◌<◌, ◌≤◌, ◌==◌, ◌&&◌, not, Bool, true, false, List, []}
+use Rattle.std.proofs.Common.{◌∷◌, ◌++◌, refl, sym, ap, ◌∙◌, subst, eq-eqb, inl, inr, ⊎_elim, arith}
+use Rattle.std.specs.Prelude.{if◌then◌else◌}
 use Rattle.std.proofs.lemmas.Bool.{cases_eq, ne_eqb}
 use Rattle.std.proofs.lemmas.List.{append_cancel_left}
 use Rattle.vbr_machine.specs.Disturbances.{one_if}
@@ -12,22 +12,16 @@ use Rattle.vbr_machine.specs.Start.{Start}
 use Rattle.vbr_machine.specs.Whereabouts.{sum_of}
 use Rattle.vbr_machine.specs.declared.event.Event.{Event}
 use Rattle.vbr_machine.specs.declared.event.Step.{Step}
-use Rattle.vbr_machine.specs.declared.history.Op.{Op}
-use Rattle.vbr_machine.specs.declared.history.Op.TheVariants.{Get, Has, Insert, Remove}
 use Rattle.vbr_machine.proofs.Lemmas.{is_run_after}
 use Rattle.vbr_slots.specs.views.Views.{PassView, Trace}
 use Rattle.vbr_at_table.specs.costs.FlagsInNeed.{WinsNoFlag, count_along, goes_beyond, own_along, times_beyond}
-use Rattle.vbr_at_table.specs.hands.KeptSlots.{WinsInNeed}
 use Rattle.vbr_at_table.proofs.Lemmas.{along-append, did_none, none_along}
 use Rattle.vbr_list.proofs.Lemmas.{sees_on}
+use Rattle.vbr_set.proofs.histories.AnyCall.{call_leaves}
 use Rattle.vbr_set.proofs.progress.PaidGains.{by_other, gains_paid}
 use Rattle.vbr_set.proofs.sums.PassSums.{one_in_sum, sum_both, sum_no_more, sum_same}
 use Rattle.vbr_set.proofs.progress.StretchedRuns.{come_by_calls, run_at}
 use Rattle.vbr_set.specs.histories.Histories.{calls_of}
-use Rattle.vbr_set.specs.calls.MapCalls.{IsCall, IsMapCall, IsSetCall}
-use Rattle.vbr_set.specs.calls.Members.{MemberView}
-use Rattle.vbr_set.specs.whereabouts.Room.{HasAllSlots}
-use Rattle.vbr_set.specs.progress.Stretches.{inserts_begun}
 use Rattle.vbr_set.specs.progress.Winning.{InsertsPayForGains, NobodyGoesBeyond, PassesWinInNeed, WentBeyond}
 use Rattle.vbr_set.specs.progress.Winning.{inserts_of_others}
 
@@ -40,21 +34,18 @@ module _ (test : World → ℕ → Step → Bool) (start : Start) (passes who : 
 
   -- one event is of its own pass
   its_one : (w : World) (e : Event) → one_if (by_other test who w e) ≤ its w (e ∷ []) e.pass
-  its_one w e = go (cases_eq e.pass who)
-    where
-      go : (e.pass ≡ who) ⊎ (e.pass ≢ who) → one_if (by_other test who w e) ≤ its w (e ∷ []) e.pass
-      go (inl own) =
-          let none : one_if (not (e.pass == who) && test w e.pass e.step) ≡ 0 =
-          ap (λ (b : Bool). one_if (not b && test w e.pass e.step)) (eq-eqb e.pass who own) in
-          omega (arith, none)
-      go (inr away) =
-          let here : one_if (not (e.pass == who) && test w e.pass e.step) ≡ one_if (test w e.pass e.step) =
-          ap (λ (b : Bool). one_if (not b && test w e.pass e.step)) (ne_eqb e.pass who away) in
-          let there : its w (e ∷ []) e.pass ≡ own_along test start w (e ∷ []) e.pass =
-          ap (λ (b : Bool). if b then 0 else own_along test start w (e ∷ []) e.pass) (ne_eqb e.pass who away) in
-          let own : one_if ((e.pass == e.pass) && test w e.pass e.step) ≡ one_if (test w e.pass e.step) =
-          ap (λ (b : Bool). one_if (b && test w e.pass e.step)) (eq-eqb e.pass e.pass refl) in
-          omega (arith, here, there, own)
+  its_one w e = elim (cases_eq e.pass who) [
+    | inl own ↦ let none : one_if (not (e.pass == who) && test w e.pass e.step) ≡ 0 =
+        ap (λ (b : Bool). one_if (not b && test w e.pass e.step)) (eq-eqb e.pass who own) in
+        omega (arith, none)
+    | inr away ↦ let here : one_if (not (e.pass == who) && test w e.pass e.step) ≡ one_if (test w e.pass e.step) =
+        ap (λ (b : Bool). one_if (not b && test w e.pass e.step)) (ne_eqb e.pass who away) in
+        let there : its w (e ∷ []) e.pass ≡ own_along test start w (e ∷ []) e.pass =
+        ap (λ (b : Bool). if b then 0 else own_along test start w (e ∷ []) e.pass) (ne_eqb e.pass who away) in
+        let own : one_if ((e.pass == e.pass) && test w e.pass e.step) ≡ one_if (test w e.pass e.step) =
+        ap (λ (b : Bool). one_if (b && test w e.pass e.step)) (eq-eqb e.pass e.pass refl) in
+        omega (arith, here, there, own)
+  ]
 
   its_both : (w : World) (e : Event) (events : List Event) (o : ℕ) →
       its w (e ∷ events) o ≡ its w (e ∷ []) o + its (after start w e.pass e.step) events o
@@ -160,7 +151,15 @@ inserts_pay p q beyond law sees others = omega (arith, paid, end, summed, no_mor
 
     one : (o : ℕ) → o < p.trace.passes →
         beyond_by o ≤ others.each o
-    one o low = go (cases_eq o p.trace.who)
+    one o low = elim (cases_eq o p.trace.who) [
+      | inl own ↦ let none = its_is true (eq-eqb o p.trace.who own) in omega (arith, none)
+      | inr away ↦ let all = its_is false (ne_eqb o p.trace.who away) in
+          let most : done_by ≤ others.each o = elim (others.others o low away) [
+            | inl still ↦ let none = still_none p.trace q.trace o b still in omega (arith, none)
+            | inr went ↦ in_stretch p.trace q.trace o b (others.each o) went
+          ] in
+          omega (arith, all, most)
+    ]
       where
         done_by : ℕ
         done_by = own_along (goes_beyond p.trace.start) p.trace.start w b.0 o
@@ -168,19 +167,6 @@ inserts_pay p q beyond law sees others = omega (arith, paid, end, summed, no_mor
         its_is : (t : Bool) → (o == p.trace.who) ≡ t →
             beyond_by o ≡ (if t then 0 else done_by)
         its_is t e = ap (λ (u : Bool). if u then 0 else done_by) e
-
-        by_each : BeginsFor o p.trace.seen q.trace.seen ⊎ WentBeyond p.trace q.trace o (others.each o) →
-            done_by ≤ others.each o
-        by_each (inl still) = let none = still_none p.trace q.trace o b still in omega (arith, none)
-        by_each (inr went) = in_stretch p.trace q.trace o b (others.each o) went
-
-        go : (o ≡ p.trace.who) ⊎ (o ≢ p.trace.who) →
-            beyond_by o ≤ others.each o
-        go (inl own) = let none = its_is true (eq-eqb o p.trace.who own) in omega (arith, none)
-        go (inr away) =
-            let all = its_is false (ne_eqb o p.trace.who away) in
-            let most = by_each (others.others o low away) in
-            omega (arith, all, most)
 
     no_more : sum_of p.trace.passes (beyond_by)
         ≤ sum_of p.trace.passes others.each
@@ -191,55 +177,8 @@ inserts_pay p q beyond law sees others = omega (arith, paid, end, summed, no_mor
 
 -- ---- the calls
 
--- a call of a set or a map by a pass that has all its slots
-beyond_set : (op : Op) (m n : MemberView) → HasAllSlots m.pass → IsSetCall op m n →
-    times_beyond n.pass.trace ≡ times_beyond m.pass.trace
-beyond_set Insert m n all (key, budget, answer, c) = c.bounds.wins.needed all.free
-beyond_set Remove m n all (key, budget, answer, c) = c.bounds.takes_no_slot.wins.beyond
-beyond_set Has m n all (key, budget, answer, c) = c.bounds.takes_no_slot.wins.beyond
-beyond_set Get m n all (key, budget, answer, c) = absurd c.bounds
-
-beyond_map : (op : Op) (m n : MemberView) → HasAllSlots m.pass → IsMapCall op m n →
-    times_beyond n.pass.trace ≡ times_beyond m.pass.trace
-beyond_map Insert m n all (inl (key, value, budget, answer, c)) = c.bounds.wins.needed all.free
-beyond_map Insert m n all (inr (key, value, wanted, budget, answer, c)) = c.bounds.1.wins.needed all.free
-beyond_map Remove m n all (inl (key, budget, answer, c)) = c.bounds.takes_no_slot.wins.beyond
-beyond_map Remove m n all (inr (key, expected, budget, answer, c)) = c.bounds.takes_no_slot.wins.beyond
-beyond_map Has m n all call = beyond_set Has m n all call
-beyond_map Get m n all (key, budget, answer, c) = c.bounds.takes_no_slot.wins.beyond
-
-beyond_called : (op : Op) (m n : MemberView) → HasAllSlots m.pass → IsCall op m n →
-    times_beyond n.pass.trace ≡ times_beyond m.pass.trace
-beyond_called op m n all (inl call) = beyond_set op m n all call
-beyond_called op m n all (inr call) = beyond_map op m n all call
-
--- by any other one it goes beyond its need once at most, and only by an insert
-once_at_most : (p q : PassView) → WinsInNeed p q → times_beyond q.trace ≤ times_beyond p.trace + 1
-once_at_most p q wins = let one = wins.one in let raised = wins.raised in omega (arith, one, raised)
-
 never : (p q : PassView) → WinsNoFlag p.trace q.trace → times_beyond q.trace ≤ times_beyond p.trace + 0
 never p q none = let same = none.beyond in omega (arith, same)
-
-lacking_set : (op : Op) (m n : MemberView) → IsSetCall op m n →
-    times_beyond n.pass.trace ≤ times_beyond m.pass.trace + inserts_begun op
-lacking_set Insert m n (key, budget, answer, c) = once_at_most m.pass n.pass c.bounds.wins
-lacking_set Remove m n (key, budget, answer, c) = never m.pass n.pass c.bounds.takes_no_slot.wins
-lacking_set Has m n (key, budget, answer, c) = never m.pass n.pass c.bounds.takes_no_slot.wins
-lacking_set Get m n (key, budget, answer, c) = absurd c.bounds
-
-lacking_map : (op : Op) (m n : MemberView) → IsMapCall op m n →
-    times_beyond n.pass.trace ≤ times_beyond m.pass.trace + inserts_begun op
-lacking_map Insert m n (inl (key, value, budget, answer, c)) = once_at_most m.pass n.pass c.bounds.wins
-lacking_map Insert m n (inr (key, value, wanted, budget, answer, c)) = once_at_most m.pass n.pass c.bounds.1.wins
-lacking_map Remove m n (inl (key, budget, answer, c)) = never m.pass n.pass c.bounds.takes_no_slot.wins
-lacking_map Remove m n (inr (key, expected, budget, answer, c)) = never m.pass n.pass c.bounds.takes_no_slot.wins
-lacking_map Has m n call = lacking_set Has m n call
-lacking_map Get m n (key, budget, answer, c) = never m.pass n.pass c.bounds.takes_no_slot.wins
-
-lacking_called : (op : Op) (m n : MemberView) → IsCall op m n →
-    times_beyond n.pass.trace ≤ times_beyond m.pass.trace + inserts_begun op
-lacking_called op m n (inl call) = lacking_set op m n call
-lacking_called op m n (inr call) = lacking_map op m n call
 
 -- who caught up made no step
 caught_none : (p q : Trace) (rest : List Event) → NoneOf p.who rest → q.seen ≡ p.seen ++ rest → q.start ≡ p.start →
@@ -261,10 +200,23 @@ win_in_need =
       called = λ op m n law all call.
           record {
             sees = (come_by_calls.called op m n law call).sees;
-            few = (let same = beyond_called op m n all call in omega (arith, same));
+            few =
+                (let same : times_beyond n.pass.trace ≡ times_beyond m.pass.trace =
+                ⊎_elim (λ none. none.wins.beyond) (λ may. may.wins.needed all.free) (call_leaves op m n call).slots in
+                omega (arith, same));
           };
       called_lacking = λ op m n law call.
-          record { sees = (come_by_calls.called op m n law call).sees; few = lacking_called op m n call };
+          record {
+            sees = (come_by_calls.called op m n law call).sees;
+            few = elim (call_leaves op m n call).slots [
+              | inl none ↦ let same = none.wins.beyond in omega (arith, same)
+              | inr may ↦
+                  let one = may.wins.one in
+                  let raised = may.wins.raised in
+                  let inserts = may.inserts in
+                  omega (arith, one, raised, inserts)
+            ];
+          };
       went_over = λ p q sees none. record { sees = sees; few = never p q none.wins };
       met = λ p q epoch did pool.
           record {

@@ -1,12 +1,11 @@
 -- The slots of the linked nodes, sorted by their keys, have the entries of the keys that the calls leave.
-use Rattle.std.proofs.Common.{◌≡◌, ℕ, zero, suc, ◌+◌, ◌<◌, Bool, true, false, cond, List, [], ◌∷◌, ◌++◌, refl, sym, ap}
+use Rattle.std.proofs.Common.{◌≡◌, ℕ, zero, suc, ◌+◌, ◌<◌, Bool, true, false, List, [], ◌∷◌, refl, sym, ap}
 use Rattle.std.proofs.Common.{◌∙◌, subst, length, inl, inr, arith}
 use Rattle.std.specs.Prelude.{◌⊎◌, ◌||◌, All, map, nat_eq, slice_index, slice_index_or}
 use Rattle.std.specs.List.{AllZip, list_any}
 use Rattle.std.specs.List.Sorted.{IsNonDecreasingBy, IsPermutation, IsStrictlyIncreasing}
 use Rattle.std.proofs.lemmas.Bool.{eqb-true, eq-eqb, false≢true, lt-ltb, or_left, or_cases}
-use Rattle.std.proofs.lemmas.List.{map-append}
-use Rattle.std.proofs.lemmas.List.Elements.{All-head, All-map, All-nil, All-push, All-tail, All-weaker}
+use Rattle.std.proofs.lemmas.List.Elements.{All-head, All-map, All-tail, All-weaker}
 use Rattle.std.proofs.lemmas.List.Kept.{AllPairs-from_increasing}
 use Rattle.std.proofs.lemmas.List.Sorted.{All-permutation, IsPermutation-map}
 use Rattle.vbr_words.specs.Dimensions.{Dimensions}
@@ -28,7 +27,7 @@ use Rattle.vbr_set.specs.renewals.RenewingWithSlots.{CarriesOver}
 use Rattle.vbr_set.specs.reports.Walking.{AreAfter, linked_of}
 use Rattle.vbr_set.proofs.reports.Gathering.{Gathered}
 use Rattle.vbr_set.proofs.reports.LinkedEntries.{rises}
-use Rattle.vbr_set.proofs.reports.LinkedKeys.{linked_in, linked_keys, lists_keys}
+use Rattle.vbr_set.proofs.reports.LinkedKeys.{all_linked, keys_linked, linked_in, lists_keys}
 
 -- ---- what was gathered
 
@@ -41,28 +40,6 @@ pub as_gathered : {T : Type 0} (tell : ℕ → T) (a : Incarnations) (s : ℕ) {
     listed ≡ linked_of tell a s → Gathered tell a s listed (count_below (λ s. is_linked (state_in a s)) s)
     (count_below (λ s. is_marked (state_in a s)) s)
 as_gathered tell a s e = record { listed_is = e; live_is = refl; marked_is = refl }
-
-keys_gathered : (a : Incarnations) (n : ℕ) → keys_listed (linked_of (key_with_slot a) a n) ≡ linked_keys a n
-keys_gathered a zero = refl
-keys_gathered a (suc n) = go (is_linked (state_in a n)) (keys_gathered a n)
-  where
-    go : (b : Bool) → keys_listed (linked_of (key_with_slot a) a n) ≡ linked_keys a n →
-        keys_listed (cond b (linked_of (key_with_slot a) a n ++ key_with_slot a n ∷ [])
-        (linked_of (key_with_slot a) a n)) ≡ cond b (linked_keys a n ++ key_in_slot a n ∷ []) (linked_keys a n)
-    go true e = map-append (λ (pair : ℕ × ℕ). pair.0) (linked_of (key_with_slot a) a n) (key_with_slot a n ∷ [])
-        ∙ ap (λ (keys : List ℕ). keys ++ key_in_slot a n ∷ []) e
-    go false e = e
-
-all_keyed : (a : Incarnations) (n : ℕ) → All (IsKeyed a) (linked_of (key_with_slot a) a n)
-all_keyed a zero = All-nil (IsKeyed a)
-all_keyed a (suc n) = go (all_keyed a n) (is_linked (state_in a n)) refl
-  where
-    go : All (IsKeyed a) (linked_of (key_with_slot a) a n) → (b : Bool) → is_linked (state_in a n) ≡ b →
-        All (IsKeyed a)
-        (cond b (linked_of (key_with_slot a) a n ++ key_with_slot a n ∷ []) (linked_of (key_with_slot a) a n))
-    go earlier false is = earlier
-    go earlier true is =
-        All-push (IsKeyed a) (linked_of (key_with_slot a) a n) (key_with_slot a n) earlier (refl, is)
 
 -- ---- the slots alone
 
@@ -84,9 +61,11 @@ lists_slots {start} {words} {run} x pairs sorted slots are moved up is =
     let a = incarnations_after start run in
     let keyed =
     All-permutation (IsKeyed a) pairs sorted moved
-    (subst (λ (l : List (ℕ × ℕ)). All (IsKeyed a) l) (sym are) (all_keyed a start.shape.slots)) in
+    (subst (λ (l : List (ℕ × ℕ)). All (IsKeyed a) l) (sym are)
+    (all_linked (IsKeyed a) (key_with_slot a) a (λ s is. (refl, is)) start.shape.slots)) in
     let keys =
-    lists_keys x (keys_listed pairs) (keys_listed sorted) (ap keys_listed are ∙ keys_gathered a start.shape.slots)
+    lists_keys x (keys_listed pairs) (keys_listed sorted)
+    (ap keys_listed are ∙ keys_linked (key_with_slot a) a (λ s. refl) start.shape.slots)
     (IsPermutation-map (λ (pair : ℕ × ℕ). pair.0) pairs sorted moved) (rises sorted up) in
     subst (λ (l : List ℕ). ListsSlots start run l) (sym is)
     (record {
@@ -105,12 +84,10 @@ AreAbove x xs = (key : ℕ) → list_any (nat_eq key) xs ≡ true → x < key
 
 above : (x : ℕ) (xs : List ℕ) → All (λ (y : ℕ). x < y) xs → AreAbove x xs
 above x [] all key e = absurd (false≢true e)
-above x (y ∷ ys) all key e = go (above x ys (All-tail (λ (y : ℕ). x < y) y ys all) key) (or_cases _ _ e)
-  where
-    go : (list_any (nat_eq key) ys ≡ true → x < key) → (nat_eq key y ≡ true) ⊎ (list_any (nat_eq key) ys ≡ true) →
-        x < key
-    go others (inl here) = subst (λ (k : ℕ). x < k) (sym (eqb-true key y here)) (All-head (λ (y : ℕ). x < y) y ys all)
-    go others (inr there) = others there
+above x (y ∷ ys) all key e = elim (or_cases _ _ e) [
+  | inl here ↦ subst (λ (k : ℕ). x < k) (sym (eqb-true key y here)) (All-head (λ (y : ℕ). x < y) y ys all)
+  | inr there ↦ (above x ys (All-tail (λ (y : ℕ). x < y) y ys all) key) there
+]
 
 ascends_above : (x : ℕ) (xs : List ℕ) → IsStrictlyIncreasing (x ∷ xs) → AreAbove x xs
 ascends_above x xs up =

@@ -8,7 +8,7 @@ use Rattle.vbr_words.specs.declared.link.Link.{Link}
 use Rattle.vbr_words.specs.declared.place.At.TheVariants.{Slot}
 use Rattle.vbr_words.specs.declared.place.Place.TheVariants as place
 use Rattle.vbr_machine.specs.Accounts.{incarnations_after}
-use Rattle.vbr_machine.specs.Incarnations.{State, Unborn, InHand, GivenUp, Linked, Marked, Unlinked, Stamped}
+use Rattle.vbr_machine.specs.Incarnations.{State, Linked, Marked}
 use Rattle.vbr_machine.specs.Incarnations.{Incarnations}
 use Rattle.vbr_machine.specs.declared.event.Event.{Event}
 use Rattle.vbr_machine.specs.Nodes.{count_below, is_linked, is_marked, state_in, is_listed}
@@ -52,20 +52,12 @@ listed_no tell a s e =
 unlisted : (st : State) → is_listed st ≡ false → (is_linked st ≡ false) × (is_marked st ≡ false)
 unlisted Linked e = absurd (true≢false e)
 unlisted Marked e = absurd (true≢false e)
-unlisted Unborn e = (refl, refl)
-unlisted (InHand p) e = (refl, refl)
-unlisted GivenUp e = (refl, refl)
-unlisted (Unlinked p unlinked) e = (refl, refl)
-unlisted (Stamped unlinked stamp) e = (refl, refl)
+unlisted _ e = (refl, refl)
 
 either : (st : State) → is_listed st ≡ true → is_linked st ≡ not (is_marked st)
 either Linked e = refl
 either Marked e = refl
-either Unborn e = absurd (false≢true e)
-either (InHand p) e = absurd (false≢true e)
-either GivenUp e = absurd (false≢true e)
-either (Unlinked p unlinked) e = absurd (false≢true e)
-either (Stamped unlinked stamp) e = absurd (false≢true e)
+either _ e = absurd (false≢true e)
 
 -- the slot has no node in a list
 pub gathered_skip : {T : Type 0} {tell : ℕ → T} {a : Incarnations} {s live marked : ℕ} {listed : List T} (start : Start)

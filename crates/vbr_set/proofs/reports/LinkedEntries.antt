@@ -1,12 +1,12 @@
 -- The entries of the linked nodes, sorted by key, are those of the map that the calls leave.
-use Rattle.std.proofs.Common.{◌≡◌, ℕ, zero, suc, ◌<◌, ◌≤◌, Bool, true, false, cond, List, [], ◌∷◌, ◌++◌, Option, Some}
+use Rattle.std.proofs.Common.{◌≡◌, ℕ, ◌<◌, ◌≤◌, Bool, true, false, List, [], ◌∷◌, Option, Some}
 use Rattle.std.proofs.Common.{None, refl, sym, ap, ◌∙◌, subst, length, arith}
 use Rattle.std.specs.Prelude.{◌||◌, All, nat_eq, if◌then◌else◌}
 use Rattle.std.specs.List.{list_any}
 use Rattle.std.specs.List.Sorted.{IsNonDecreasing, IsNonDecreasingBy, IsPermutation}
 use Rattle.std.proofs.lemmas.Bool.{eqb-true}
-use Rattle.std.proofs.lemmas.List.{get_or-map, length-map, map-append}
-use Rattle.std.proofs.lemmas.List.Elements.{All-head, All-nil, All-push, All-tail}
+use Rattle.std.proofs.lemmas.List.{get_or-map, length-map}
+use Rattle.std.proofs.lemmas.List.Elements.{All-head, All-tail}
 use Rattle.std.proofs.lemmas.List.Sorted.{All-permutation, IsPermutation-map}
 use Rattle.vbr_machine.specs.Start.{Start}
 use Rattle.vbr_machine.specs.Accounts.{incarnations_after}
@@ -15,19 +15,19 @@ use Rattle.vbr_machine.specs.Images.{value_shown}
 use Rattle.vbr_machine.specs.Incarnations.{Incarnations}
 use Rattle.vbr_machine.specs.Keys.{Keys}
 use Rattle.vbr_machine.specs.Maps.{Entries, entries_after, entries_in, keys_listed, map_after, opening_entries}
-use Rattle.vbr_machine.specs.Nodes.{is_linked, key_in_slot, state_in}
+use Rattle.vbr_machine.specs.Nodes.{is_linked, state_in}
 use Rattle.vbr_machine.specs.Opened.{opening_keys, opening_payloads}
 use Rattle.vbr_machine.specs.Sound.{Tells}
 use Rattle.vbr_machine.specs.declared.event.Event.{Event}
 use Rattle.vbr_machine.specs.declared.history.Call.{Call}
 use Rattle.vbr_machine.specs.declared.history.Op.{Op}
-use Rattle.vbr_machine.specs.declared.history.Op.TheVariants.{Insert, Remove, Has, Get}
+use Rattle.vbr_machine.specs.declared.history.Op.TheVariants.{Insert, Remove}
 use Rattle.vbr_machine.proofs.Lemmas.{stands_key}
 use Rattle.vbr_set.specs.reports.Contents.{entry_in_slot}
 use Rattle.vbr_set.specs.histories.Histories.{calls_of}
 use Rattle.vbr_set.specs.reports.Kinds.{AreEntriesOf}
 use Rattle.vbr_set.specs.reports.Walking.{AreAfter, linked_of}
-use Rattle.vbr_set.proofs.reports.LinkedKeys.{linked_in, linked_keys, lists_keys}
+use Rattle.vbr_set.proofs.reports.LinkedKeys.{all_linked, keys_linked, linked_in, lists_keys}
 use Rattle.vbr_set.proofs.reports.ShownNodes.{agrees}
 
 -- ---- the map after a history, by the keys and the values after it
@@ -54,9 +54,7 @@ call_at entries keys payloads Insert key true value q e =
     put_in (nat_eq q key) (keys q) (entries q) (payloads q) value e
 call_at entries keys payloads Insert key false value q e = e
 call_at entries keys payloads Remove key true value q e = taken_out (nat_eq q key) (keys q) (entries q) (payloads q) e
-call_at entries keys payloads Remove key false value q e = e
-call_at entries keys payloads Has key reply value q e = e
-call_at entries keys payloads Get key reply value q e = e
+call_at entries keys payloads _ key _ value q e = e
 
 map_at : (entries : Entries) (keys : Keys) (payloads : Payloads) (calls : List Call) (q : ℕ) →
     entries q ≡ entry_of (keys q) (payloads q) →
@@ -81,35 +79,15 @@ module _ (start : Start) (calls : List Call) where
 abbrev IsStored : Entries → ℕ × ℕ → Type 0
 IsStored entries entry = entries entry.0 ≡ Some (Some entry.1)
 
-keys_linked : (a : Incarnations) (n : ℕ) → keys_listed (linked_of (entry_in_slot a) a n) ≡ linked_keys a n
-keys_linked a zero = refl
-keys_linked a (suc n) = go (is_linked (state_in a n)) (keys_linked a n)
-  where
-    go : (b : Bool) → keys_listed (linked_of (entry_in_slot a) a n) ≡ linked_keys a n →
-        keys_listed (cond b (linked_of (entry_in_slot a) a n ++ entry_in_slot a n ∷ [])
-        (linked_of (entry_in_slot a) a n)) ≡ cond b (linked_keys a n ++ key_in_slot a n ∷ []) (linked_keys a n)
-    go true e = map-append (λ (entry : ℕ × ℕ). entry.0) (linked_of (entry_in_slot a) a n) (entry_in_slot a n ∷ [])
-        ∙ ap (λ (keys : List ℕ). keys ++ key_in_slot a n ∷ []) e
-    go false e = e
-
-all_stored : {start : Start} {a : Incarnations} → Tells start a → start.shape.values ≡ true → (n : ℕ) →
-    All (IsStored (map_left start a.calls)) (linked_of (entry_in_slot a) a n)
-all_stored {start} {a} tells valued zero = All-nil (IsStored (map_left start a.calls))
-all_stored {start} {a} tells valued (suc n) = go (all_stored tells valued n) (is_linked (state_in a n)) refl
-  where
-    go : All (IsStored (map_left start a.calls)) (linked_of (entry_in_slot a) a n) → (b : Bool) →
-        is_linked (state_in a n) ≡ b →
-        All (IsStored (map_left start a.calls))
-        (cond b (linked_of (entry_in_slot a) a n ++ entry_in_slot a n ∷ []) (linked_of (entry_in_slot a) a n))
-    go earlier false is = earlier
-    go earlier true is =
-        let c = linked_in a n is in
-        All-push (IsStored (map_left start a.calls)) (linked_of (entry_in_slot a) a n) (entry_in_slot a n) earlier
-        (ap (map_left start a.calls) (stands_key c.1.stands)
-        ∙ map_is start a.calls (a.key c.0)
-        ∙ (λ i. entry_of (tells.there c.0 c.1.linked i) (tells.stored c.0 c.1.linked i))
-        ∙ ap (λ (values : Bool). Some (if values then Some (a.value c.0) else None)) valued
-        ∙ ap (λ (last : Option ℕ). Some (Some (value_shown a last))) (sym c.1.stands.last))
+stored_is : {start : Start} {a : Incarnations} → Tells start a → start.shape.values ≡ true → (s : ℕ) →
+    is_linked (state_in a s) ≡ true → IsStored (map_left start a.calls) (entry_in_slot a s)
+stored_is {start} {a} tells valued s is =
+    let c = linked_in a s is in
+    ap (map_left start a.calls) (stands_key c.1.stands)
+    ∙ map_is start a.calls (a.key c.0)
+    ∙ (λ i. entry_of (tells.there c.0 c.1.linked i) (tells.stored c.0 c.1.linked i))
+    ∙ ap (λ (values : Bool). Some (if values then Some (a.value c.0) else None)) valued
+    ∙ ap (λ (last : Option ℕ). Some (Some (value_shown a last))) (sym c.1.stands.last)
 
 -- ---- a list of entries
 
@@ -155,12 +133,13 @@ lists_entries {start} {words} {run} x valued entries sorted are moved up =
     let a = incarnations_after start run in
     let g = agrees x in
     let keys = lists_keys x (keys_listed entries) (keys_listed sorted)
-    (ap keys_listed are ∙ keys_linked a start.shape.slots)
+    (ap keys_listed are ∙ keys_linked (entry_in_slot a) a (λ s. refl) start.shape.slots)
     (IsPermutation-map (λ (entry : ℕ × ℕ). entry.0) entries sorted moved) (rises sorted up) in
     let stored =
     All-permutation (IsStored (map_left start a.calls)) entries sorted moved
     (subst (λ (l : List (ℕ × ℕ)). All (IsStored (map_left start a.calls)) l) (sym are)
-    (all_stored g.tells valued start.shape.slots)) in
+    (all_linked (IsStored (map_left start a.calls)) (entry_in_slot a) a (stored_is g.tells valued)
+    start.shape.slots)) in
     record {
       ascending = keys.ascending;
       same = λ key.

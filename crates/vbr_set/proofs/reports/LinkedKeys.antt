@@ -1,22 +1,27 @@
 -- The keys of the linked nodes, sorted, are those of the set that the calls leave.
 use Rattle.std.proofs.Common.{◌≡◌, ℕ, zero, suc, ◌<◌, ◌≤◌, Bool, true, false, cond, List, [], ◌∷◌, ◌++◌, refl, sym, ap}
 use Rattle.std.proofs.Common.{◌∙◌, subst, ⊎_elim, inl, inr, arith}
-use Rattle.std.specs.Prelude.{◌⊎◌, ◌||◌, nat_eq}
+use Rattle.std.specs.Prelude.{◌⊎◌, ◌||◌, All, nat_eq}
 use Rattle.std.specs.List.{IsDistinct, list_any}
 use Rattle.std.specs.List.Sorted.{IsNonDecreasing, IsPermutation}
 use Rattle.std.proofs.lemmas.Bool.{cases_Bool, cases_lt, eq-eqb, eqb-true, false_from_ne_true, false≢true, or_cases}
 use Rattle.std.proofs.lemmas.Bool.{or_left, or_right, true≢false}
 use Rattle.std.proofs.lemmas.Cmp.{nat_eq_equiv}
+use Rattle.std.proofs.lemmas.List.{map-append}
+use Rattle.std.proofs.lemmas.List.Elements.{All-nil, All-push}
 use Rattle.std.proofs.lemmas.List.Folds.{list_any-append}
 use Rattle.std.proofs.lemmas.List.Sorted.{list_any-IsPermutation}
 use Rattle.std.proofs.lemmas.Map.Keys.{IsDistinct-IsPermutation, IsDistinct-push, IsStrictlyIncreasing-from_distinct}
+use Rattle.std.proofs.Math.Bool.{or-false}
+use Rattle.std.specs.Cmp.{both_ways}
 use Rattle.vbr_machine.specs.Start.{Start}
 use Rattle.vbr_machine.specs.Accounts.{incarnations_after}
 use Rattle.vbr_machine.specs.Agreement.{Fits}
 use Rattle.vbr_machine.specs.History.{set_after}
-use Rattle.vbr_machine.specs.Incarnations.{State, Unborn, InHand, GivenUp, Linked, Marked, Unlinked, Stamped}
+use Rattle.vbr_machine.specs.Incarnations.{State, Linked}
 use Rattle.vbr_machine.specs.Incarnations.{Incarnations}
 use Rattle.vbr_machine.specs.Keys.{AreKeysOf}
+use Rattle.vbr_machine.specs.Maps.{keys_listed}
 use Rattle.vbr_machine.specs.Opened.{opening_keys}
 use Rattle.vbr_machine.specs.Sound.{IsListed, Sound, Tells}
 use Rattle.vbr_machine.specs.declared.event.Event.{Event}
@@ -31,16 +36,35 @@ use Rattle.vbr_set.proofs.reports.ShownNodes.{agrees, stands_state}
 abbrev pub linked_keys : Incarnations → ℕ → List ℕ
 linked_keys a n = linked_of (key_in_slot a) a n
 
+-- what is told of each linked node is so of all
+pub all_linked : {T : Type 0} (P : T → Type 0) (tell : ℕ → T) (a : Incarnations) →
+    ((s : ℕ) → is_linked (state_in a s) ≡ true → P (tell s)) → (n : ℕ) → All P (linked_of tell a n)
+all_linked P tell a holds zero = All-nil P
+all_linked P tell a holds (suc n) = go (all_linked P tell a holds n) (is_linked (state_in a n)) refl
+  where
+    go : All P (linked_of tell a n) → (b : Bool) → is_linked (state_in a n) ≡ b →
+        All P (cond b (linked_of tell a n ++ tell n ∷ []) (linked_of tell a n))
+    go earlier false is = earlier
+    go earlier true is = All-push P (linked_of tell a n) (tell n) earlier (holds n is)
+
+-- what is told with their keys has these keys
+pub keys_linked : (tell : ℕ → ℕ × ℕ) (a : Incarnations) → ((s : ℕ) → (tell s).0 ≡ key_in_slot a s) → (n : ℕ) →
+    keys_listed (linked_of tell a n) ≡ linked_keys a n
+keys_linked tell a keyed zero = refl
+keys_linked tell a keyed (suc n) = go (is_linked (state_in a n)) (keys_linked tell a keyed n)
+  where
+    go : (b : Bool) → keys_listed (linked_of tell a n) ≡ linked_keys a n →
+        keys_listed (cond b (linked_of tell a n ++ tell n ∷ []) (linked_of tell a n))
+        ≡ cond b (linked_keys a n ++ key_in_slot a n ∷ []) (linked_keys a n)
+    go true e = map-append (λ (pair : ℕ × ℕ). pair.0) (linked_of tell a n) (tell n ∷ [])
+        ∙ (λ i. e i ++ keyed n i ∷ [])
+    go false e = e
+
 -- ---- linked nodes
 
 linked_from : (st : State) → is_linked st ≡ true → st ≡ Linked
 linked_from Linked e = refl
-linked_from Marked e = absurd (false≢true e)
-linked_from Unborn e = absurd (false≢true e)
-linked_from (InHand p) e = absurd (false≢true e)
-linked_from GivenUp e = absurd (false≢true e)
-linked_from (Unlinked p unlinked) e = absurd (false≢true e)
-linked_from (Stamped unlinked stamp) e = absurd (false≢true e)
+linked_from _ e = absurd (false≢true e)
 
 -- the last incarnation of the slot is this one, and it is linked
 pub record IsLinkedIn (a : Incarnations) (s c : ℕ) : Type 0 where
@@ -67,36 +91,28 @@ any_last : (a : Incarnations) (n key : ℕ) →
     ≡ (list_any (nat_eq key) (linked_keys a n) || (nat_eq key (key_in_slot a n) || false))
 any_last a n key = list_any-append (nat_eq key) (linked_keys a n) (key_in_slot a n ∷ [])
 
-or_no : (b : Bool) → (b || false) ≡ true → b ≡ true
-or_no true e = refl
-or_no false e = e
-
 has_from : (a : Incarnations) (n key : ℕ) → list_any (nat_eq key) (linked_keys a n) ≡ true → HasKeyBelow a n key
 has_from a zero key e = absurd (false≢true e)
-has_from a (suc n) key e = go (λ before. has_from a n key before) (cases_Bool (is_linked (state_in a n)))
+has_from a (suc n) key e = elim (cases_Bool (is_linked (state_in a n))) [
+  | inr not_linked ↦ more (has_from a n key (told not_linked))
+  | inl linked ↦ ⊎_elim
+      (λ before. more (has_from a n key before))
+      (λ here. record {
+        slot = n;
+        low = omega arith;
+        linked = linked;
+        is = sym (eqb-true key (key_in_slot a n) (sym (or-false _) ∙ here));
+      })
+      (or_cases _ _ (sym (any_last a n key) ∙ told linked))
+]
   where
+    told : {b : Bool} → is_linked (state_in a n) ≡ b →
+        list_any (nat_eq key) (cond b (linked_keys a n ++ key_in_slot a n ∷ []) (linked_keys a n)) ≡ true
+    told is = sym (ap (λ b. list_any (nat_eq key) (cond b (linked_keys a n ++ key_in_slot a n ∷ []) (linked_keys a n)))
+        is) ∙ e
+
     more : HasKeyBelow a n key → HasKeyBelow a (suc n) key
     more h = record { slot = h.slot; low = (let l = h.low in omega arith); linked = h.linked; is = h.is }
-
-    go : (list_any (nat_eq key) (linked_keys a n) ≡ true → HasKeyBelow a n key) →
-        (is_linked (state_in a n) ≡ true) ⊎ (is_linked (state_in a n) ≡ false) → HasKeyBelow a (suc n) key
-    go earlier (inr not_linked) =
-        more (earlier
-        (sym (ap (λ b. list_any (nat_eq key) (cond b (linked_keys a n ++ key_in_slot a n ∷ []) (linked_keys a n)))
-        not_linked) ∙ e))
-    go earlier (inl linked) =
-        ⊎_elim
-        (λ before. more (earlier before))
-        (λ here. record {
-          slot = n;
-          low = omega arith;
-          linked = linked;
-          is = sym (eqb-true key (key_in_slot a n) (or_no _ here));
-        })
-        (or_cases _ _
-        (sym (any_last a n key)
-        ∙ sym (ap (λ b. list_any (nat_eq key) (cond b (linked_keys a n ++ key_in_slot a n ∷ []) (linked_keys a n)))
-        linked) ∙ e))
 
 has_is : (a : Incarnations) (n key : ℕ) → HasKeyBelow a n key → list_any (nat_eq key) (linked_keys a n) ≡ true
 has_is a zero key h = absurd (let l = h.low in omega arith)
@@ -156,15 +172,10 @@ distinct {start} {a} sound (suc n) = go (distinct sound n) (is_linked (state_in 
 
 -- ---- the set
 
-same_tests : (b c : Bool) → (b ≡ true → c ≡ true) → (c ≡ true → b ≡ true) → b ≡ c
-same_tests true c f g = sym (f refl)
-same_tests false true f g = g refl
-same_tests false false f g = refl
-
 -- the linked nodes of the slots of the shape have just the keys of the set
 pub set_is : {start : Start} {a : Incarnations} → Sound start a → Fits start a → Tells start a → (key : ℕ) →
     list_any (nat_eq key) (linked_keys a start.shape.slots) ≡ set_after (opening_keys start) a.calls key
-set_is {start} {a} sound fits tells key = same_tests _ _ there only
+set_is {start} {a} sound fits tells key = both_ways _ _ there only
   where
     there : list_any (nat_eq key) (linked_keys a start.shape.slots) ≡ true →
         set_after (opening_keys start) a.calls key ≡ true

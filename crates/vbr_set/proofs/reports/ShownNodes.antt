@@ -12,7 +12,7 @@ use Rattle.vbr_words.proofs.Lemmas.{is_link, link_of-word_of, unpacked-packed}
 use Rattle.vbr_machine.specs.Accounts.{incarnations_after, notes_after}
 use Rattle.vbr_machine.specs.Agreement.{Agrees}
 use Rattle.vbr_machine.specs.Images.{slot_shown, link_in_state, link_shown, link_shown_at, value_shown}
-use Rattle.vbr_machine.specs.Incarnations.{State, Unborn, InHand, GivenUp, Linked, Marked, Unlinked, Stamped}
+use Rattle.vbr_machine.specs.Incarnations.{State, Linked, Marked}
 use Rattle.vbr_machine.specs.Incarnations.{Incarnations}
 use Rattle.vbr_machine.specs.Runs.{world_after}
 use Rattle.vbr_machine.specs.Safety.{IsSafe}
@@ -79,11 +79,7 @@ link_named : (a : Incarnations) (c : ℕ) (st : State) → IsListed st →
     ((link_in_state a c st).slot ≡ slot_shown a (a.next c)) × ((link_in_state a c st).mark ≡ is_marked st)
 link_named a c Linked l = (refl, refl)
 link_named a c Marked l = (refl, refl)
-link_named a c Unborn l = absurd l
-link_named a c (InHand p) l = absurd l
-link_named a c GivenUp l = absurd l
-link_named a c (Unlinked p unlinked) l = absurd l
-link_named a c (Stamped unlinked stamp) l = absurd l
+link_named a c _ l = absurd l
 
 pub next_of_node : {a : Incarnations} {s c : ℕ} → Stands a s c →
     (link_shown a (a.last s)).slot ≡ slot_shown a (a.next c)

@@ -1,8 +1,9 @@
 -- The slots noted along a bucket's list are those whose nodes stand before the one that is reached.
 use Rattle.std.proofs.Common.{◌≡◌, ◌≢◌, ℕ, zero, suc, ◌<◌, ◌≤◌, Bool, true, false, List, length, set, Option, Some}
 use Rattle.std.proofs.Common.{None, refl, sym, ap, ◌∙◌, subst, inl, inr, arith, get_or-set_other, get_or-set_same}
-use Rattle.std.specs.Prelude.{nat_lt, ◌&&◌, ◌||◌, ◌⊎◌, if◌then◌else◌}
+use Rattle.std.specs.Prelude.{nat_lt, ◌&&◌, ◌||◌, ◌⊎◌}
 use Rattle.std.proofs.lemmas.Bool.{and_from, and_left, cases_Bool, cases_eq, lt-ltb}
+use Rattle.std.proofs.Math.Bool.{and-true}
 use Rattle.vbr_words.specs.Dimensions.{Dimensions}
 use Rattle.vbr_machine.specs.Start.{Start}
 use Rattle.vbr_words.specs.declared.link.Link.{Link}
@@ -18,10 +19,11 @@ use Rattle.vbr_machine.specs.Sound.{IsOrderedBefore, IsApart, IsFrom, IsListed, 
 use Rattle.vbr_machine.specs.declared.event.Event.{Event}
 use Rattle.vbr_machine.proofs.Lemmas.{in_list_from, in_list_is, lower_is, lower_not, next_listed, next_of_followed}
 use Rattle.vbr_machine.proofs.Lemmas.{InList, Stands, one_fewer, slot_is_one, stands_key, stands_rank, stands_there}
-use Rattle.vbr_machine.specs.Nodes.{state_in, behind, count_below, is_behind, is_in_list, is_listed, is_lower}
+use Rattle.vbr_machine.specs.Nodes.{state_in, behind, is_behind, is_in_list, is_listed, is_lower}
 use Rattle.vbr_machine.specs.Nodes.{key_in_slot, rank_in_slot}
 use Rattle.vbr_set.specs.reports.Walking.{AreAfter, NotesList, NotesLists, is_noted, link_in}
 use Rattle.vbr_set.proofs.reports.ShownNodes.{agrees, link_read, next_of_node}
+use Rattle.vbr_set.proofs.progress.EnoughByShape.{counted_low}
 
 -- whether the node of a slot stands before the node that is reached, or there is none any more
 abbrev pub is_before : Incarnations → ℕ → Option ℕ → Bool
@@ -137,27 +139,20 @@ or_some : (b c : Bool) → c ≡ true → true ≡ (b || c)
 or_some true c e = refl
 or_some false c e = sym e
 
-and_true : (b : Bool) → (b && true) ≡ b
-and_true true = refl
-and_true false = refl
-
 -- ---- the walk
 
 -- the slots whose nodes stand before the first: none
 first_notes : {start : Start} {a : Incarnations} → Sound start a → Fits start a → (bucket s : ℕ) (first : Option ℕ) →
     a.first bucket ≡ first → (is_in_list start a bucket s && is_before a s (slot_shown a first)) ≡ false
-first_notes {start} {a} sound fits bucket s first is = go (cases_Bool (is_in_list start a bucket s))
-  where
-    go : (is_in_list start a bucket s ≡ true) ⊎ (is_in_list start a bucket s ≡ false) →
-        (is_in_list start a bucket s && is_before a s (slot_shown a first)) ≡ false
-    go (inr outside) = and_left _ _ outside
-    go (inl inside) =
-        let node = in_list_from start a bucket s inside in
-        let from = subst (λ (f : Option ℕ). IsFrom a.key a.rank f node.0) (ap a.first node.1.of_bucket ∙ is)
-        (sound.lists.behind_head node.0 node.1.stands.listed) in
-        ap (λ b. b && is_before a s (slot_shown a first)) inside
-        ∙ before_next sound fits s node.0 first node.1.stands (λ n q. (sound.lists.first_in bucket n (is ∙ q)).0)
-        ∙ none_before_first a node.0 first from
+first_notes {start} {a} sound fits bucket s first is = elim (cases_Bool (is_in_list start a bucket s)) [
+  | inr outside ↦ and_left _ _ outside
+  | inl inside ↦ let node = in_list_from start a bucket s inside in
+      let from = subst (λ (f : Option ℕ). IsFrom a.key a.rank f node.0) (ap a.first node.1.of_bucket ∙ is)
+      (sound.lists.behind_head node.0 node.1.stands.listed) in
+      ap (λ b. b && is_before a s (slot_shown a first)) inside
+      ∙ before_next sound fits s node.0 first node.1.stands (λ n q. (sound.lists.first_in bucket n (is ∙ q)).0)
+      ∙ none_before_first a node.0 first from
+]
 
 first_reached : {start : Start} {a : Incarnations} → Sound start a → Fits start a → (bucket : ℕ) (first : Option ℕ) →
     a.first bucket ≡ first → IsNextNode start a bucket (slot_shown a first)
@@ -198,40 +193,35 @@ module _ {start : Start} {a : Incarnations} (sound : Sound start a) (fits : Fits
   others_before : (s : ℕ) → s ≢ t →
       (is_in_list start a bucket s && is_before a s (Some t))
       ≡ (is_in_list start a bucket s && is_before a s (slot_shown a (a.next c)))
-  others_before s ne = go (cases_Bool (is_in_list start a bucket s))
-    where
-      go : (is_in_list start a bucket s ≡ true) ⊎ (is_in_list start a bucket s ≡ false) →
-          (is_in_list start a bucket s && is_before a s (Some t))
-          ≡ (is_in_list start a bucket s && is_before a s (slot_shown a (a.next c)))
-      go (inr outside) = and_left _ _ outside ∙ sym (and_left _ _ outside)
-      go (inl inside) =
-          let node = in_list_from start a bucket s inside in
-          let other : node.0 ≢ c =
-          λ e. ne (slot_is_one sound s t c (subst (λ (d : ℕ). Stands a s d) e node.1.stands) here.stands) in
-          ap (λ b. is_in_list start a bucket s && b)
-          ((λ i. is_lower (stands_key node.1.stands i) (stands_rank node.1.stands i) (stands_key here.stands i)
-          (stands_rank here.stands i))
-          ∙ apart_nodes a c node.0 (a.next c) other
-          (sound.lists.apart c node.0 here.stands.listed node.1.stands.listed (here.of_bucket ∙ sym node.1.of_bucket))
-          up
-          ∙ sym (before_next sound fits s node.0 (a.next c) node.1.stands follows))
+  others_before s ne = elim (cases_Bool (is_in_list start a bucket s)) [
+    | inr outside ↦ and_left _ _ outside ∙ sym (and_left _ _ outside)
+    | inl inside ↦ let node = in_list_from start a bucket s inside in
+        let other : node.0 ≢ c =
+        λ e. ne (slot_is_one sound s t c (subst (λ (d : ℕ). Stands a s d) e node.1.stands) here.stands) in
+        ap (λ b. is_in_list start a bucket s && b)
+        ((λ i. is_lower (stands_key node.1.stands i) (stands_rank node.1.stands i) (stands_key here.stands i)
+        (stands_rank here.stands i))
+        ∙ apart_nodes a c node.0 (a.next c) other
+        (sound.lists.apart c node.0 here.stands.listed node.1.stands.listed (here.of_bucket ∙ sym node.1.of_bucket))
+        up
+        ∙ sym (before_next sound fits s node.0 (a.next c) node.1.stands follows))
+  ]
 
   next_walked : (before now : List Bool) → length now ≡ start.shape.slots → Walked start a bucket before now (Some t) →
       Walked start a bucket before (set now t true) (slot_shown a (a.next c))
-  next_walked before now room walked =
-      record { reached = next_reached (a.next c) refl; notes = λ s low. go s low (cases_eq s t) }
-    where
-      go : (s : ℕ) → s < start.shape.slots → (s ≡ t) ⊎ (s ≡ t → ⊥) →
-          is_noted (set now t true) s
-          ≡ (is_noted before s || (is_in_list start a bucket s && is_before a s (slot_shown a (a.next c))))
-      go s low (inl e) =
+  next_walked before now room walked = record {
+    reached = next_reached (a.next c) refl;
+    notes = λ s low. elim (cases_eq s t) [
+      | inl e ↦
           let low_t : t < length now = (let r = walked.reached.0 in omega arith) in
           let both : (is_in_list start a bucket s && is_before a s (slot_shown a (a.next c))) ≡ true =
           and_from _ _ (ap (is_in_list start a bucket) e ∙ walked.reached.1)
           (ap (λ (i : ℕ). is_before a i (slot_shown a (a.next c))) e ∙ own_before) in
           ap (is_noted (set now t true)) e ∙ get_or-set_same now t true false low_t ∙ or_some (is_noted before s) _ both
-      go s low (inr ne) = get_or-set_other now t s true false ne ∙ walked.notes s low
+      | inr ne ↦ get_or-set_other now t s true false ne ∙ walked.notes s low
           ∙ ap (λ b. is_noted before s || b) (others_before s ne)
+    ];
+  }
 
 pub walk_next : {start : Start} {words : List ℕ} {run : List Event} → AreAfter start words run →
     (bucket : ℕ) (before now : List Bool) (t : ℕ) → length now ≡ start.shape.slots →
@@ -249,21 +239,13 @@ walk_next {start} {words} {run} x bucket before now t room walked =
 pub walk_ends : (start : Start) (a : Incarnations) (bucket : ℕ) (before now : List Bool) →
     Walked start a bucket before now None → NotesList start a bucket before now
 walk_ends start a bucket before now walked s low =
-    walked.notes s low ∙ ap (λ b. is_noted before s || b) (and_true (is_in_list start a bucket s))
+    walked.notes s low ∙ ap (λ b. is_noted before s || b) (and-true (is_in_list start a bucket s))
 
 -- ---- the walk ends
 
 no_turns : (shape : Dimensions) (words : List ℕ) (n : ℕ) → turns shape words n None ≡ 0
 no_turns shape words zero = refl
 no_turns shape words (suc n) = refl
-
-count_most : (test : ℕ → Bool) (n : ℕ) → count_below test n ≤ n
-count_most test zero = omega arith
-count_most test (suc n) = go (test n) (count_most test n)
-  where
-    go : (b : Bool) → count_below test n ≤ n → (if b then suc (count_below test n) else count_below test n) ≤ suc n
-    go true l = omega (arith, l)
-    go false l = omega (arith, l)
 
 module _ {start : Start} {words : List ℕ} {run : List Event} (x : AreAfter start words run) (bucket : ℕ) where
   abbrev after : Incarnations
@@ -324,7 +306,7 @@ module _ {start : Start} {words : List ℕ} {run : List Event} (x : AreAfter sta
       go (Some m) q =
           let there = next_there t c m here q in
           let fewer = next_fewer t c m here q in
-          let most = count_most (is_behind start after bucket (Slot t)) start.shape.slots in
+          let most = counted_low (is_behind start after bucket (Slot t)) start.shape.slots in
           let same = enough start.shape.slots (after.slot m) m there.0 there.1 (omega (arith, fewer, most)) in
           omega (arith, same)
 

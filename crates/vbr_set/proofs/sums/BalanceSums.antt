@@ -1,7 +1,7 @@
 -- The balances of all members of a set add up to how many keys it has.
 use Rattle.std.proofs.Common.{◌≡◌, ◌≢◌, ℕ, zero, suc, ◌+◌, ◌<◌, Bool, true, false, cond, List, [], ◌∷◌, ◌++◌, map}
 use Rattle.std.proofs.Common.{append_assoc, append-nil, length, refl, sym, ap, ◌∙◌, subst, arith, inl, inr}
-use Rattle.std.specs.Prelude.{◌==◌, ◌⊎◌, ℤ, pos, ◌+ℤ◌, count_by, FitsSigned}
+use Rattle.std.specs.Prelude.{◌==◌, ℤ, pos, ◌+ℤ◌, count_by, FitsSigned}
 use Rattle.std.specs.Int.{w64, int_wrap}
 use Rattle.std.proofs.lemmas.Bool.{cases_Bool, eq-eqb, eqb-true, false≢true}
 use Rattle.std.proofs.lemmas.List.Sums.{sum_by-cons}
@@ -63,39 +63,30 @@ module _ (f g : ℕ → ℤ) (p : ℕ) (change : ℤ) (here : f p ≡ g p +ℤ c
   -- where none of the members has that number
   sums_same : (ms : List MemberView) → times ms ≡ 0 → sum_of f ms ≡ sum_of g ms
   sums_same [] none = refl
-  sums_same (m ∷ ms) none = go (λ rest. sums_same ms rest) (cases_Bool (m.pass.trace.who == p))
-    where
-      go : (times ms ≡ 0 → sum_of f ms ≡ sum_of g ms) →
-          ((m.pass.trace.who == p) ≡ true) ⊎ ((m.pass.trace.who == p) ≡ false) → sum_of f (m ∷ ms) ≡ sum_of g (m ∷ ms)
-      go later (inl same) =
-          absurd (let found : 1 + times ms ≡ 0 = sym (times-cons m ms true same) ∙ none in omega (arith, found))
-      go later (inr differs) =
-          let found : 0 + times ms ≡ 0 = sym (times-cons m ms false differs) ∙ none in
-          let rest : times ms ≡ 0 = omega (arith, found) in
-          λ i. away m.pass.trace.who differs i +ℤ later rest i
+  sums_same (m ∷ ms) none = elim (cases_Bool (m.pass.trace.who == p)) [
+    | inl same ↦ absurd (let found : 1 + times ms ≡ 0 = sym (times-cons m ms true same) ∙ none in omega (arith, found))
+    | inr differs ↦ let found : 0 + times ms ≡ 0 = sym (times-cons m ms false differs) ∙ none in
+        let rest : times ms ≡ 0 = omega (arith, found) in
+        λ i. away m.pass.trace.who differs i +ℤ (sums_same ms rest) i
+  ]
 
   -- where one has it
   sums_differ : (ms : List MemberView) → times ms ≡ 1 → sum_of f ms ≡ sum_of g ms +ℤ change
   sums_differ [] one = absurd (omega (arith, one))
-  sums_differ (m ∷ ms) one = go (λ rest. sums_differ ms rest) (cases_Bool (m.pass.trace.who == p))
-    where
-      go : (times ms ≡ 1 → sum_of f ms ≡ sum_of g ms +ℤ change) →
-          ((m.pass.trace.who == p) ≡ true) ⊎ ((m.pass.trace.who == p) ≡ false) →
-          sum_of f (m ∷ ms) ≡ sum_of g (m ∷ ms) +ℤ change
-      go others (inl same) =
-          let found : 1 + times ms ≡ 1 = sym (times-cons m ms true same) ∙ one in
-          let none : times ms ≡ 0 = omega (arith, found) in
-          let is : m.pass.trace.who ≡ p = eqb-true m.pass.trace.who p same in
-          let own : f m.pass.trace.who ≡ g m.pass.trace.who +ℤ change =
-          subst (λ (who : ℕ). f who ≡ g who +ℤ change) (sym is) here in
-          let rest = sums_same ms none in
-          omega (arith, ints, own, rest)
-      go others (inr differs) =
-          let found : 0 + times ms ≡ 1 = sym (times-cons m ms false differs) ∙ one in
-          let later : times ms ≡ 1 = omega (arith, found) in
-          let own = away m.pass.trace.who differs in
-          let rest = others later in
-          omega (arith, ints, own, rest)
+  sums_differ (m ∷ ms) one = elim (cases_Bool (m.pass.trace.who == p)) [
+    | inl same ↦ let found : 1 + times ms ≡ 1 = sym (times-cons m ms true same) ∙ one in
+        let none : times ms ≡ 0 = omega (arith, found) in
+        let is : m.pass.trace.who ≡ p = eqb-true m.pass.trace.who p same in
+        let own : f m.pass.trace.who ≡ g m.pass.trace.who +ℤ change =
+        subst (λ (who : ℕ). f who ≡ g who +ℤ change) (sym is) here in
+        let rest = sums_same ms none in
+        omega (arith, ints, own, rest)
+    | inr differs ↦ let found : 0 + times ms ≡ 1 = sym (times-cons m ms false differs) ∙ one in
+        let later : times ms ≡ 1 = omega (arith, found) in
+        let own = away m.pass.trace.who differs in
+        let rest = sums_differ ms later in
+        omega (arith, ints, own, rest)
+  ]
 
 -- ---- calls
 

@@ -1,9 +1,9 @@
 -- The calls of a legal history change the number of keys by what they did.
 use Rattle.std.proofs.Common.{◌≡◌, ℕ, suc, Bool, true, false, cond, List, [], ◌∷◌, length, refl, sym, ap, ◌∙◌}
 use Rattle.std.proofs.Common.{arith, inl, inr}
-use Rattle.std.specs.Prelude.{◌⊎◌, ◌||◌, ℤ, pos, ◌+ℤ◌, nat_eq, not}
+use Rattle.std.specs.Prelude.{◌⊎◌, ◌||◌, ℤ, pos, ◌+ℤ◌, nat_eq}
 use Rattle.std.specs.List.{AllByRecursion, IsDistinct, list_any}
-use Rattle.std.proofs.lemmas.Bool.{cases_Bool, eqb-true, false≢true, true≢false}
+use Rattle.std.proofs.lemmas.Bool.{cases_Bool, eqb-true, false≢true, not-true, true≢false}
 use Rattle.std.proofs.lemmas.Int.{ints}
 use Rattle.std.proofs.lemmas.Map.Keys.{IsDistinct-cons, IsDistinct-head, IsDistinct-tail}
 use Rattle.std.proofs.lemmas.Cmp.{nat_eq_equiv}
@@ -12,7 +12,7 @@ use Rattle.vbr_machine.specs.History.{IsLegal, keys_after, reply_of, set_after}
 use Rattle.vbr_machine.specs.Keys.{Keys, keys_of}
 use Rattle.vbr_machine.specs.declared.history.Call.{Call}
 use Rattle.vbr_machine.specs.declared.history.Op.{Op}
-use Rattle.vbr_machine.specs.declared.history.Op.TheVariants.{Insert, Remove, Has, Get}
+use Rattle.vbr_machine.specs.declared.history.Op.TheVariants.{Insert, Remove}
 use Rattle.vbr_set.specs.members.Balances.{change_by, change_of}
 
 -- a list has each key of a set once
@@ -28,12 +28,10 @@ or_put false x y e = e
 
 none_is : (key : ℕ) (xs : List ℕ) → list_any (nat_eq key) xs ≡ false → AllByRecursion (λ y. nat_eq key y ≡ false) xs
 none_is key [] e = tt
-none_is key (x ∷ xs) e = go (λ rest. none_is key xs rest) (cases_Bool (nat_eq key x))
-  where
-    go : (list_any (nat_eq key) xs ≡ false → AllByRecursion (λ y. nat_eq key y ≡ false) xs) →
-        (nat_eq key x ≡ true) ⊎ (nat_eq key x ≡ false) → AllByRecursion (λ y. nat_eq key y ≡ false) (x ∷ xs)
-    go later (inl here) = absurd (true≢false (sym (ap (λ b. b || list_any (nat_eq key) xs) here) ∙ e))
-    go later (inr away) = (away, later (sym (ap (λ b. b || list_any (nat_eq key) xs) away) ∙ e))
+none_is key (x ∷ xs) e = elim (cases_Bool (nat_eq key x)) [
+  | inl here ↦ absurd (true≢false (sym (ap (λ b. b || list_any (nat_eq key) xs) here) ∙ e))
+  | inr away ↦ (away, (none_is key xs (sym (ap (λ b. b || list_any (nat_eq key) xs) away) ∙ e)))
+]
 
 any_none : (key : ℕ) (xs : List ℕ) → AllByRecursion (λ y. nat_eq key y ≡ false) xs → list_any (nat_eq key) xs ≡ false
 any_none key [] none = refl
@@ -73,15 +71,11 @@ distinct_left key (x ∷ xs) distinct = go (distinct_left key xs (IsDistinct-tai
 
 length_left : (key : ℕ) (xs : List ℕ) → list_any (nat_eq key) xs ≡ true → length xs ≡ suc (length (without key xs))
 length_left key [] e = absurd (false≢true e)
-length_left key (x ∷ xs) e = go (λ rest. length_left key xs rest) (cases_Bool (nat_eq key x))
-  where
-    go : (list_any (nat_eq key) xs ≡ true → length xs ≡ suc (length (without key xs))) →
-        (nat_eq key x ≡ true) ⊎ (nat_eq key x ≡ false) →
-        suc (length xs) ≡ suc (length (cond (nat_eq key x) xs (x ∷ without key xs)))
-    go later (inl here) = ap (λ (b : Bool). suc (length (cond b xs (x ∷ without key xs)))) (sym here)
-    go later (inr away) =
-        ap suc (later (sym (ap (λ (b : Bool). b || list_any (nat_eq key) xs) away) ∙ e))
-        ∙ ap (λ (b : Bool). suc (length (cond b xs (x ∷ without key xs)))) (sym away)
+length_left key (x ∷ xs) e = elim (cases_Bool (nat_eq key x)) [
+  | inl here ↦ ap (λ (b : Bool). suc (length (cond b xs (x ∷ without key xs)))) (sym here)
+  | inr away ↦ ap suc (length_left key xs (sym (ap (λ (b : Bool). b || list_any (nat_eq key) xs) away) ∙ e))
+      ∙ ap (λ (b : Bool). suc (length (cond b xs (x ∷ without key xs)))) (sym away)
+]
 
 -- the other keys are left
 abbrev OthersLeft : ℕ → ℕ → List ℕ → Type 0
@@ -140,25 +134,18 @@ record Leads (listed : List ℕ) (change : ℤ) (keys : Keys) : Type 0 where
 stays : (listed : List ℕ) (keys : Keys) → ListsOnce listed keys → Leads listed (pos 0) keys
 stays listed keys lists = record { after = listed; lists = lists; long = omega (arith, ints) }
 
-absent_from : (b : Bool) → true ≡ not b → b ≡ false
-absent_from true e = absurd (true≢false e)
-absent_from false e = refl
-
 one_call : (listed : List ℕ) (keys : Keys) (op : Op) (key : ℕ) (reply : Bool) → ListsOnce listed keys →
     reply ≡ reply_of keys op key → Leads listed (change_by op reply) (keys_after keys op key reply)
 one_call listed keys Insert key true lists legal =
     record {
       after = key ∷ listed;
-      lists = one_more listed keys key lists (absent_from (keys key) legal);
+      lists = one_more listed keys key lists (not-true (keys key) (sym legal));
       long = omega (arith, ints);
     }
 one_call listed keys Remove key true lists legal =
     let shorter = length_left key listed (lists.same key ∙ sym legal) in
     record { after = without key listed; lists = one_fewer listed keys key lists; long = omega (arith, ints, shorter) }
-one_call listed keys Insert key false lists legal = stays listed keys lists
-one_call listed keys Remove key false lists legal = stays listed keys lists
-one_call listed keys Has key reply lists legal = stays listed keys lists
-one_call listed keys Get key reply lists legal = stays listed keys lists
+one_call listed keys _ key _ lists legal = stays listed keys lists
 
 all_calls : (listed : List ℕ) (keys : Keys) (calls : List Call) → ListsOnce listed keys → IsLegal keys calls →
     Leads listed (change_of calls) (set_after keys calls)

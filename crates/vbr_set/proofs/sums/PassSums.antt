@@ -1,5 +1,5 @@
 -- Sums over all passes.
-use Rattle.std.proofs.Common.{◌≡◌, ℕ, zero, suc, ◌+◌, ◌*◌, ◌<◌, ◌≤◌, refl, arith, ◌⊎◌, inl, inr, subst}
+use Rattle.std.proofs.Common.{◌≡◌, ℕ, zero, suc, ◌+◌, ◌*◌, ◌<◌, ◌≤◌, refl, arith, inl, inr, subst}
 use Rattle.std.proofs.lemmas.Bool.{cases_order}
 use Rattle.std.proofs.Math.Nat.{mul-suc}
 use Rattle.vbr_machine.specs.Whereabouts.{sum_of}
@@ -30,9 +30,8 @@ sum_both (suc i) f g = let before = sum_both i f g in omega (arith, before)
 -- the number of one pass is no more than the sum
 pub one_in_sum : (passes who : ℕ) (f : ℕ → ℕ) → who < passes → f who ≤ sum_of passes f
 one_in_sum zero who f low = omega (arith, low)
-one_in_sum (suc i) who f low = go (cases_order i who) (λ l. one_in_sum i who f l)
-  where
-    go : (i ≡ who) ⊎ ((i < who) ⊎ (who < i)) → (who < i → f who ≤ sum_of i f) → f who ≤ sum_of i f + f i
-    go (inl e) on = subst (λ (k : ℕ). f k ≤ sum_of i f + f i) e (omega arith)
-    go (inr (inl l)) on = omega (arith, low, l)
-    go (inr (inr l)) on = let before = on l in omega (arith, before)
+one_in_sum (suc i) who f low = elim (cases_order i who) [
+  | inl e ↦ subst (λ (k : ℕ). f k ≤ sum_of i f + f i) e (omega arith)
+  | inr (inl l) ↦ omega (arith, low, l)
+  | inr (inr l) ↦ let before = one_in_sum i who f l in omega (arith, before)
+]

@@ -1,8 +1,8 @@
 -- Where a lone insert finds no slot, none is in the shared pool, and its own pass has none.
-use Rattle.std.proofs.Common.{◌≡◌, ◌≢◌, ℕ, ◌+◌, ◌<◌, ◌==◌, ◌&&◌, Bool, true, false, cond, List, [], ◌∷◌, ◌++◌, Option}
-use Rattle.std.proofs.Common.{Some, None, refl, arith, sym, subst, ap, ◌∙◌, append_assoc, eq-eqb, inl, inr}
+use Rattle.std.proofs.Common.{◌≡◌, ◌≢◌, ℕ, ◌+◌, ◌<◌, ◌==◌, ◌&&◌, Bool, true, cond, List, [], ◌∷◌, ◌++◌, Option}
+use Rattle.std.proofs.Common.{Some, None, arith, sym, subst, ap, ◌∙◌, append_assoc, eq-eqb, inl, inr}
 use Rattle.std.specs.Prelude.{Contains, count_by}
-use Rattle.std.proofs.lemmas.Bool.{false≢true}
+use Rattle.std.proofs.lemmas.Bool.{false_from_ne_true, false≢true}
 use Rattle.std.proofs.lemmas.List.{append_cancel_left}
 use Rattle.std.proofs.lemmas.List.Sums.{sum_by-append}
 use Rattle.vbr_machine.specs.Acceptance.{IsUnlinked, MayBear}
@@ -84,34 +84,27 @@ module _ {p q : Trace} (alone : IsAlone p q) (who : q.who ≡ p.who) (same : fla
 -- ---- what a pass has
 
 pub bears : (known : Option Holding) → may_bear known ≡ true → MayBear known
-bears None e = absurd (false≢true e)
 bears (Some (Free stamp)) e = tt
-bears (Some (Unlinked reread)) e = absurd (false≢true e)
 bears (Some (InHand known)) e = tt
+bears _ e = absurd (false≢true e)
 
 is_unlinked : (known : Option Holding) → is_unstamped known ≡ true → IsUnlinked known
-is_unlinked None e = absurd (false≢true e)
-is_unlinked (Some (Free stamp)) e = absurd (false≢true e)
 is_unlinked (Some (Unlinked reread)) e = tt
-is_unlinked (Some (InHand known)) e = absurd (false≢true e)
-
-not_true : (b : Bool) → (b ≡ true → ⊥) → b ≡ false
-not_true true n = absurd (n refl)
-not_true false n = refl
+is_unlinked _ e = absurd (false≢true e)
 
 -- a pass that has stamped each slot that it unlinked has none unstamped
 pub none_unstamped : (p : PassView) → ((slot : ℕ) → ¬ (IsUnlinked ((knows p.trace).own slot))) →
     number_at p.trace.start p.trace.seen (Unstamped p.trace.who) ≡ 0
 none_unstamped p stamped =
     count_none _ p.trace.start.shape.slots
-    (λ s low. not_true _ (λ e. stamped s (is_unlinked ((knows p.trace).own s) e)))
+    (λ s low. false_from_ne_true _ (λ e. stamped s (is_unlinked ((knows p.trace).own s) e)))
 
 -- and with an empty pool and an empty hand it has none at all
 pub none_had : (p : PassView) → HasAllSlots p → p.pool ≡ [] → p.hand ≡ None →
     number_had p.trace.start p.trace.seen p.trace.who ≡ 0
 none_had p all empty no_hand =
     let a = count_none (is_at p.trace.start p.trace.seen (WithPass p.trace.who)) p.trace.start.shape.slots
-    (λ s low. not_true _ (λ e. no_slot s (all.free s (bears ((knows p.trace).own s) e)))) in
+    (λ s low. false_from_ne_true _ (λ e. no_slot s (all.free s (bears ((knows p.trace).own s) e)))) in
     let b = none_unstamped p all.stamped in
     omega arith
   where

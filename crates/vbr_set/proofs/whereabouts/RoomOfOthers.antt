@@ -5,6 +5,7 @@ use Rattle.std.proofs.Common.{◌∷◌, length, Option, Some, None, refl, arith
 use Rattle.std.specs.Prelude.{◌⊎◌, Contains, if◌then◌else◌, not}
 use Rattle.std.proofs.lemmas.Bool.{and_parts, cases_Bool, cases_eq, cases_order, ne_eqb}
 use Rattle.std.proofs.Math.Nat.{mul-suc}
+use Rattle.std.proofs.Math.Bool.{and-true}
 use Rattle.vbr_machine.specs.Start.{Start}
 use Rattle.vbr_machine.specs.Nodes.{count_below}
 use Rattle.vbr_machine.specs.Runs.{know_after}
@@ -34,11 +35,10 @@ but_other who f i ne = ap (λ (b : Bool). if b then 0 else f i) (ne_eqb i who ne
 
 -- a pass that has nothing may be left out
 pub sum_but_none : (passes who : ℕ) (f : ℕ → ℕ) → f who ≡ 0 → sum_of passes f ≡ sum_of passes (but who f)
-sum_but_none passes who f none = sum_same passes f (but who f) (λ i. go i (cases_eq i who))
-  where
-    go : (i : ℕ) → (i ≡ who) ⊎ (i ≢ who) → f i ≡ but who f i
-    go i (inl e) = ap f e ∙ none ∙ sym (but_here who f i e)
-    go i (inr ne) = sym (but_other who f i ne)
+sum_but_none passes who f none = sum_same passes f (but who f) (λ i. elim (cases_eq i who) [
+  | inl e ↦ ap f e ∙ none ∙ sym (but_here who f i e)
+  | inr ne ↦ sym (but_other who f i ne)
+])
 
 pub sum_but_at_most : (passes who most : ℕ) (f : ℕ → ℕ) → who < passes → ((i : ℕ) → i < passes → i ≢ who → f i ≤ most) →
     sum_of passes (but who f) ≤ most * (passes - 1)
@@ -51,11 +51,10 @@ sum_but_at_most (suc m) who most f low h =
     same = omega arith
 
     each : (i : ℕ) → i < suc m → but who f i ≤ most
-    each i l = by (cases_eq i who)
-      where
-        by : (i ≡ who) ⊎ (i ≢ who) → but who f i ≤ most
-        by (inl e) = let x = but_here who f i e in omega arith
-        by (inr ne) = let x = but_other who f i ne in let y = h i l ne in omega arith
+    each i l = elim (cases_eq i who) [
+      | inl e ↦ let x = but_here who f i e in omega arith
+      | inr ne ↦ let x = but_other who f i ne in let y = h i l ne in omega arith
+    ]
 
     go : (m ≡ who) ⊎ ((m < who) ⊎ (who < m)) → (who < m → sum_of m (but who f) ≤ most * (m - 1)) →
         sum_of (suc m) (but who f) ≤ most * m
@@ -82,19 +81,18 @@ pub sum_but_within : (passes who most : ℕ) (f more : ℕ → ℕ) → who < pa
 sum_but_within passes who most f more low each =
     let flat : ℕ → ℕ = λ i. most in
     let parts = sum_no_more passes (but who f) (λ i. but who flat i + but who more i)
-    (λ i l. part i l (cases_eq i who)) in
+    (λ i l. elim (cases_eq i who) [
+      | inl e ↦ let none = but_here who f i e in omega (arith, none)
+      | inr ne ↦
+          let here = but_other who f i ne in
+          let all = but_other who flat i ne in
+          let rest = but_other who more i ne in
+          let few = each i l ne in
+          omega (arith, here, all, rest, few)
+    ]) in
     let both = sum_both passes (but who flat) (but who more) in
     let few = sum_but_at_most passes who most flat low (λ i l ne. omega arith) in
     omega (arith, parts, both, few)
-  where
-    part : (i : ℕ) → i < passes → (i ≡ who) ⊎ (i ≢ who) → but who f i ≤ but who (λ j. most) i + but who more i
-    part i l (inl e) = let none = but_here who f i e in omega (arith, none)
-    part i l (inr ne) =
-        let here = but_other who f i ne in
-        let all = but_other who (λ j. most) i ne in
-        let rest = but_other who more i ne in
-        let few = each i l ne in
-        omega (arith, here, all, rest, few)
 
 -- ---- what is in a list
 
@@ -102,12 +100,8 @@ sum_but_within passes who most f more low each =
 abbrev test_but : (ℕ → Bool) → ℕ → ℕ → Bool
 test_but test x s = test s && not (s == x)
 
-and_true : (b : Bool) → (b && true) ≡ b
-and_true true = refl
-and_true false = refl
-
 but_same : (test : ℕ → Bool) (x s : ℕ) → s ≢ x → test_but test x s ≡ test s
-but_same test x s ne = ap (λ (b : Bool). test s && not b) (ne_eqb s x ne) ∙ and_true (test s)
+but_same test x s ne = ap (λ (b : Bool). test s && not b) (ne_eqb s x ne) ∙ and-true (test s)
 
 same_below : (test : ℕ → Bool) (x n : ℕ) → n ≤ x → count_below test n ≡ count_below (test_but test x) n
 same_below test x zero l = refl
@@ -119,7 +113,15 @@ same_below test x (suc n) l =
 -- left out at one number, a test passes at one less at most
 count_but : (test : ℕ → Bool) (x n : ℕ) → count_below test n ≤ suc (count_below (test_but test x) n)
 count_but test x zero = omega arith
-count_but test x (suc n) = go (cases_eq n x) (count_but test x n)
+count_but test x (suc n) = elim (cases_eq n x) [
+  | inl e ↦ let below = same_below test x n (omega arith) in
+      let a = with_one (test n) (count_below test n) (count_below (test_but test x) n) (omega arith) in
+      let b = without_one (test_but test x n) (count_below (test_but test x) n) in
+      omega arith
+  | inr ne ↦
+      rw (but_same test x n ne)
+      (both (test n) (count_below test n) (count_below (test_but test x) n) (count_but test x n))
+]
   where
     with_one : (b : Bool) (m k : ℕ) → m ≤ k → (if b then suc m else m) ≤ suc k
     with_one true m k l = omega arith
@@ -133,25 +135,12 @@ count_but test x (suc n) = go (cases_eq n x) (count_but test x n)
     both true m k l = omega arith
     both false m k l = omega arith
 
-    go : (n ≡ x) ⊎ (n ≢ x) → count_below test n ≤ suc (count_below (test_but test x) n) →
-        (if test n then suc (count_below test n) else count_below test n)
-        ≤ suc (if test_but test x n then suc (count_below (test_but test x) n) else count_below (test_but test x) n)
-    go (inl e) before =
-        let below = same_below test x n (omega arith) in
-        let a = with_one (test n) (count_below test n) (count_below (test_but test x) n) (omega arith) in
-        let b = without_one (test_but test x n) (count_below (test_but test x) n) in
-        omega arith
-    go (inr ne) before =
-        rw (but_same test x n ne) (both (test n) (count_below test n) (count_below (test_but test x) n) before)
-
 none_in : (test : ℕ → Bool) (n : ℕ) → ((s : ℕ) → test s ≡ true → ⊥) → count_below test n ≡ 0
 none_in test zero h = refl
-none_in test (suc n) h = go (cases_Bool (test n)) (none_in test n h)
-  where
-    go : (test n ≡ true) ⊎ (test n ≡ false) → count_below test n ≡ 0 →
-        (if test n then suc (count_below test n) else count_below test n) ≡ 0
-    go (inl t) e = absurd (h n t)
-    go (inr f) e = rw f e
+none_in test (suc n) h = elim (cases_Bool (test n)) [
+  | inl t ↦ absurd (h n t)
+  | inr f ↦ rw f (none_in test n h)
+]
 
 -- what a list has that passes a test is no more than the list
 count_in_list : (xs : List ℕ) (test : ℕ → Bool) (n : ℕ) → ((s : ℕ) → test s ≡ true → Contains xs s) →

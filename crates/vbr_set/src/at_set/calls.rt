@@ -3,7 +3,7 @@ ghost use Rattle.vbr_machine.specs.declared.history.Op.TheVariants.{Insert, Remo
 ghost use Rattle.vbr_set.specs.calls.AtSets.{IsSameSet, member_after, member_at};
 ghost use Rattle.vbr_set.specs.calls.Members.{Called};
 
-use crate::at_set::AtSet;
+use crate::at_set::{AtSet, between_laws};
 use vbr_list::{Refusal, has, insert, remove};
 use vbr_words::Nodes;
 
@@ -42,11 +42,7 @@ impl AtSet<'_> {
         ensures told { Called Insert (member_at self.old) (member_after self.old self.new)
             key budget result }
     {
-        let set = self.set;
-        self.pass.law();
-        let answer = insert(&set.slots, self.pass, key, budget);
-        self.pass.law();
-        answer
+        between_laws!(self.set, self.pass, insert(key, budget))
     }
 
     /// Takes a key out, in at most `budget` steps, and returns whether it was there. The call takes
@@ -77,11 +73,7 @@ impl AtSet<'_> {
         ensures told { Called Remove (member_at self.old) (member_after self.old self.new)
             key budget result }
     {
-        let set = self.set;
-        self.pass.law();
-        let answer = remove(&set.slots, self.pass, key, budget);
-        self.pass.law();
-        answer
+        between_laws!(self.set, self.pass, remove(key, budget))
     }
 }
 
@@ -115,10 +107,6 @@ impl<N: Nodes> AtSet<'_, N> {
         ensures told { Called Has (member_at self.old) (member_after self.old self.new)
             key budget result }
     {
-        let set = self.set;
-        self.pass.law();
-        let answer = has(&set.slots, self.pass, key, budget);
-        self.pass.law();
-        answer
+        between_laws!(self.set, self.pass, has(key, budget))
     }
 }

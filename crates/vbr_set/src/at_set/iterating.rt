@@ -3,7 +3,7 @@ ghost use Rattle.std.specs.Prelude.{◌≡◌, ℕ, ◌++◌, List, [], ◌∷�
 ghost use Rattle.vbr_set.specs.calls.AtSets.{IsSameSet, caller_after, caller_at, member_after, member_at};
 ghost use Rattle.vbr_set.specs.calls.Iterating.{AreItemsOf, CallsNext, CallsNextEntry, CallsNextNamedEntry, CallsNextNamedKey, CallsNextWhere, CountsKeys, Gathers, IsCountOf, ListsEntries, ListsKeys};
 
-use crate::at_set::AtSet;
+use crate::at_set::{AtSet, between_laws};
 use crate::list_error::ListError;
 use std::alloc::Global;
 use vbr_list::{
@@ -103,11 +103,7 @@ impl<N: Nodes> AtSet<'_, N> {
         ensures told { CallsNext (member_at self.old) (member_after self.old self.new)
             cursor.old cursor.new budget result }
     {
-        let set = self.set;
-        self.pass.law();
-        let next = next_key_at(&set.slots, self.pass, cursor, budget);
-        self.pass.law();
-        next
+        between_laws!(self.set, self.pass, next_key_at(cursor, budget))
     }
 
     // Like `next_key`, with the value if nodes have values.
@@ -121,11 +117,7 @@ impl<N: Nodes> AtSet<'_, N> {
         ensures told { CallsNextWhere (caller_at self.old) (caller_after self.old self.new)
             cursor.old cursor.new budget result }
     {
-        let set = self.set;
-        self.pass.law();
-        let next = next_where_at(&set.slots, self.pass, cursor, budget);
-        self.pass.law();
-        next
+        between_laws!(self.set, self.pass, next_where_at(cursor, budget))
     }
 
     /// Lists all keys, by calls of at most `budget` steps each: each key that was there all the while,
@@ -212,11 +204,7 @@ impl AtSet<'_> {
         ensures told { CallsNextNamedKey (member_at self.old) (member_after self.old self.new)
             cursor.old cursor.new budget result }
     {
-        let set = self.set;
-        self.pass.law();
-        let next = next_named_key_at(&set.slots, self.pass, cursor, budget);
-        self.pass.law();
-        next
+        between_laws!(self.set, self.pass, next_named_key_at(cursor, budget))
     }
 }
 
@@ -233,11 +221,7 @@ impl AtSet<'_, Entries> {
         ensures told { CallsNextEntry (member_at self.old) (member_after self.old self.new)
             cursor.old cursor.new budget result }
     {
-        let set = self.set;
-        self.pass.law();
-        let next = next_entry_at(&set.slots, self.pass, cursor, budget);
-        self.pass.law();
-        next
+        between_laws!(self.set, self.pass, next_entry_at(cursor, budget))
     }
 
     /// The next key at a cursor, as [`AtSet::next_key`] gives it, with its entry: the entry was in the
@@ -252,11 +236,7 @@ impl AtSet<'_, Entries> {
         ensures told { CallsNextNamedEntry (member_at self.old) (member_after self.old self.new)
             cursor.old cursor.new budget result }
     {
-        let set = self.set;
-        self.pass.law();
-        let next = next_named_entry_at(&set.slots, self.pass, cursor, budget);
-        self.pass.law();
-        next
+        between_laws!(self.set, self.pass, next_named_entry_at(cursor, budget))
     }
 
     /// Lists all keys as [`AtSet::keys_now`] does, each with a value that it had at a moment when it

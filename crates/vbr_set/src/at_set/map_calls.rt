@@ -3,7 +3,7 @@ ghost use Rattle.vbr_list.specs.updates.Outcomes.{ChangedIfExpected, there_in};
 ghost use Rattle.vbr_set.specs.calls.AtSets.{IsSameSet, member_after, member_at};
 ghost use Rattle.vbr_set.specs.calls.MapCalls.{AddsEntry, ExchangesEntry, GetsEntry, GetsOrInsertsEntry, InsertsEntry, PutsEntry, RemovesEntry, RemovesIf, ReplacesEntry, StoresEntry};
 
-use crate::at_set::AtSet;
+use crate::at_set::{AtSet, between_laws};
 use vbr_list::{
     Outcome, Refusal, Wanted, compare_exchange, fetch_add, get, get_or_insert, insert_entry, put,
     remove_entry, remove_if, replace, store,
@@ -24,12 +24,8 @@ impl AtSet<'_, Entries> {
         ensures told { InsertsEntry (member_at self.old) (member_after self.old self.new)
             key value budget result }
     {
-        let set = self.set;
         a_run_is_a_map();
-        self.pass.law();
-        let answer = insert_entry(&set.slots, self.pass, key, value, budget);
-        self.pass.law();
-        answer
+        between_laws!(self.set, self.pass, insert_entry(key, value, budget))
     }
 
     /// Takes a key out, in at most `budget` steps, and returns the value that was stored with it, if it
@@ -45,12 +41,8 @@ impl AtSet<'_, Entries> {
         ensures told { RemovesEntry (member_at self.old) (member_after self.old self.new)
             key budget result }
     {
-        let set = self.set;
         a_run_is_a_map();
-        self.pass.law();
-        let answer = remove_entry(&set.slots, self.pass, key, budget);
-        self.pass.law();
-        answer
+        between_laws!(self.set, self.pass, remove_entry(key, budget))
     }
 
     /// Returns the value that is stored with a key, if the key is there, in at most `budget` steps. It
@@ -63,12 +55,8 @@ impl AtSet<'_, Entries> {
         ensures told { GetsEntry (member_at self.old) (member_after self.old self.new)
             key budget result }
     {
-        let set = self.set;
         a_run_is_a_map();
-        self.pass.law();
-        let answer = get(&set.slots, self.pass, key, budget);
-        self.pass.law();
-        answer
+        between_laws!(self.set, self.pass, get(key, budget))
     }
 
     /// Takes a key out if it has the expected value, in at most `budget` steps. Returns whether it did, and
@@ -84,12 +72,8 @@ impl AtSet<'_, Entries> {
             key expected budget (there_in result) }
         ensures changed { ChangedIfExpected expected result }
     {
-        let set = self.set;
         a_run_is_a_map();
-        self.pass.law();
-        let answer = remove_if(&set.slots, self.pass, key, expected, budget);
-        self.pass.law();
-        answer
+        between_laws!(self.set, self.pass, remove_if(key, expected, budget))
     }
 
     /// Conditional store: gives a key a value if the key's state matches `wanted`, in at most `budget`
@@ -133,12 +117,8 @@ impl AtSet<'_, Entries> {
         ensures told { StoresEntry (member_at self.old) (member_after self.old self.new)
             key value wanted budget result }
     {
-        let set = self.set;
         a_run_is_a_map();
-        self.pass.law();
-        let answer = store(&set.slots, self.pass, key, value, wanted, budget);
-        self.pass.law();
-        answer
+        between_laws!(self.set, self.pass, store(key, value, wanted, budget))
     }
 
     /// [`AtSet::store`] with [`Wanted::Present`], compiled for that case.
@@ -148,12 +128,8 @@ impl AtSet<'_, Entries> {
         ensures told { ReplacesEntry (member_at self.old) (member_after self.old self.new)
             key value budget result }
     {
-        let set = self.set;
         a_run_is_a_map();
-        self.pass.law();
-        let answer = replace(&set.slots, self.pass, key, value, budget);
-        self.pass.law();
-        answer
+        between_laws!(self.set, self.pass, replace(key, value, budget))
     }
 
     /// [`AtSet::store`] with [`Wanted::Anything`], compiled for that case.
@@ -163,12 +139,8 @@ impl AtSet<'_, Entries> {
         ensures told { PutsEntry (member_at self.old) (member_after self.old self.new)
             key value budget result }
     {
-        let set = self.set;
         a_run_is_a_map();
-        self.pass.law();
-        let answer = put(&set.slots, self.pass, key, value, budget);
-        self.pass.law();
-        answer
+        between_laws!(self.set, self.pass, put(key, value, budget))
     }
 
     /// Fetch-and-add: adds `delta` modulo 2^64 to the value of a key, or inserts the key with `delta` if
@@ -185,12 +157,8 @@ impl AtSet<'_, Entries> {
         ensures told { AddsEntry (member_at self.old) (member_after self.old self.new)
             key delta budget result }
     {
-        let set = self.set;
         a_run_is_a_map();
-        self.pass.law();
-        let answer = fetch_add(&set.slots, self.pass, key, delta, budget);
-        self.pass.law();
-        answer
+        between_laws!(self.set, self.pass, fetch_add(key, delta, budget))
     }
 
     /// [`AtSet::store`] with [`Wanted::Absent`], compiled for that case.
@@ -205,12 +173,8 @@ impl AtSet<'_, Entries> {
         ensures told { GetsOrInsertsEntry (member_at self.old) (member_after self.old self.new)
             key value budget result }
     {
-        let set = self.set;
         a_run_is_a_map();
-        self.pass.law();
-        let answer = get_or_insert(&set.slots, self.pass, key, value, budget);
-        self.pass.law();
-        answer
+        between_laws!(self.set, self.pass, get_or_insert(key, value, budget))
     }
 
     /// [`AtSet::store`] with [`Wanted::Value`], compiled for that case. Also returns whether it stored the
@@ -228,11 +192,11 @@ impl AtSet<'_, Entries> {
             key expected value budget (there_in result) }
         ensures changed { ChangedIfExpected expected result }
     {
-        let set = self.set;
         a_run_is_a_map();
-        self.pass.law();
-        let answer = compare_exchange(&set.slots, self.pass, key, expected, value, budget);
-        self.pass.law();
-        answer
+        between_laws!(
+            self.set,
+            self.pass,
+            compare_exchange(key, expected, value, budget)
+        )
     }
 }

@@ -3,7 +3,7 @@ ghost use Rattle.vbr_set.specs.calls.AtSets.{IsSameSet, member_after, member_at}
 ghost use Rattle.vbr_set.specs.calls.RecordCalls.{FindsEntry, FindsKey};
 ghost use Rattle.vbr_set.specs.calls.RemovingExactly.{TakesExactly, TakesKeyExactly};
 
-use crate::at_set::AtSet;
+use crate::at_set::{AtSet, between_laws};
 use vbr_list::{Entry, Refusal, get_entry, has_entry, remove_exactly, remove_key_exactly};
 use vbr_machine::laws::a_run_is_a_map;
 use vbr_words::Entries;
@@ -17,11 +17,7 @@ impl AtSet<'_> {
         ensures told { FindsKey (member_at self.old) (member_after self.old self.new)
             key budget result }
     {
-        let set = self.set;
-        self.pass.law();
-        let answer = has_entry(&set.slots, self.pass, key, budget);
-        self.pass.law();
-        answer
+        between_laws!(self.set, self.pass, has_entry(key, budget))
     }
 
     /// Takes a key out if its node has the slot and the birth of this entry, in at most `budget` steps,
@@ -35,11 +31,7 @@ impl AtSet<'_> {
         ensures told { TakesKeyExactly (member_at self.old) (member_after self.old self.new)
             key entry.now budget result }
     {
-        let set = self.set;
-        self.pass.law();
-        let answer = remove_key_exactly(&set.slots, self.pass, key, entry, budget);
-        self.pass.law();
-        answer
+        between_laws!(self.set, self.pass, remove_key_exactly(key, entry, budget))
     }
 }
 
@@ -52,12 +44,8 @@ impl AtSet<'_, Entries> {
         ensures told { FindsEntry (member_at self.old) (member_after self.old self.new)
             key budget result }
     {
-        let set = self.set;
         a_run_is_a_map();
-        self.pass.law();
-        let answer = get_entry(&set.slots, self.pass, key, budget);
-        self.pass.law();
-        answer
+        between_laws!(self.set, self.pass, get_entry(key, budget))
     }
 
     /// Takes a key out as `remove_exactly` of a set does, in at most `budget` steps, and returns the value
@@ -75,11 +63,7 @@ impl AtSet<'_, Entries> {
         ensures told { TakesExactly (member_at self.old) (member_after self.old self.new)
             key entry.now budget result }
     {
-        let set = self.set;
         a_run_is_a_map();
-        self.pass.law();
-        let answer = remove_exactly(&set.slots, self.pass, key, entry, budget);
-        self.pass.law();
-        answer
+        between_laws!(self.set, self.pass, remove_exactly(key, entry, budget))
     }
 }

@@ -236,6 +236,7 @@ fn end_gathered<N: Kind>(
 }
 
 // Reports what is in a set, with all its passes, which stay as they were.
+#[tactic(auto, using(vbr_slots::proofs::Lemmas::whole))]
 fn tell<N: Kind>(
     set: &VbrSet<N>,
     alloc: Global,

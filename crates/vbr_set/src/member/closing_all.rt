@@ -15,6 +15,35 @@ use std::sync::Arc;
 use vbr_slots::Pass;
 use vbr_words::Nodes;
 
+// What members report by a function of their parts: they are taken apart for it, and put together again.
+macro_rules! report_by_parts {
+    ($alloc:expr, $members:expr, $report_apart:ident) => {{
+        let members = $members;
+        if are_too_few(&members) {
+            return Err(CloseAllError::Missing(members));
+        }
+        let count = members.len();
+        let Ok(mut stakes) = Vec::with_capacity($alloc, count) else {
+            return Err(CloseAllError::Memory(members));
+        };
+        let Ok(mut passes) = Vec::with_capacity($alloc, count) else {
+            return Err(CloseAllError::Memory(members));
+        };
+        let Ok(back) = Vec::with_capacity($alloc, count) else {
+            return Err(CloseAllError::Memory(members));
+        };
+        take_apart(members, &mut stakes, &mut passes);
+        let told = $report_apart($alloc, &stakes, &mut passes);
+        let members = put_together(stakes, passes, back);
+        match told {
+            Ok(report) => Ok((report, members)),
+            Err(_) => Err(CloseAllError::Memory(members)),
+        }
+    }};
+}
+
+pub(crate) use report_by_parts;
+
 impl<N: Kind> Member<N> {
     /// Ends a set or a map by all its members at once, in any order, and reports what is in it: the
     /// keys, or the entries, that all their calls leave of what it opened with. These calls form one
@@ -67,26 +96,7 @@ impl<N: Kind> Member<N> {
         ensures missing { IfErr result (λ error. LacksMembers error ↔ AreTooFew members.items) }
         ensures enough { OnOk result (¬ (AreTooFew members.items)) }
     {
-        if are_too_few(&members) {
-            return Err(CloseAllError::Missing(members));
-        }
-        let count = members.len();
-        let Ok(mut stakes) = Vec::with_capacity(alloc, count) else {
-            return Err(CloseAllError::Memory(members));
-        };
-        let Ok(mut passes) = Vec::with_capacity(alloc, count) else {
-            return Err(CloseAllError::Memory(members));
-        };
-        let Ok(back) = Vec::with_capacity(alloc, count) else {
-            return Err(CloseAllError::Memory(members));
-        };
-        take_apart(members, &mut stakes, &mut passes);
-        let told = report_apart(alloc, &stakes, &mut passes);
-        let members = put_together(stakes, passes, back);
-        match told {
-            Ok(report) => Ok((report, members)),
-            Err(_) => Err(CloseAllError::Memory(members)),
-        }
+        report_by_parts!(alloc, members, report_apart)
     }
 }
 

@@ -20,6 +20,7 @@ impl<N: Nodes> Member<N> {
     /// ```
     ///
     /// [`VbrSet::give_slots_back`]: crate::VbrSet::give_slots_back
+    #[tactic(auto, using(vbr_at_table::proofs::Lemmas::kept_aside))]
     pub fn give_slots_back(&mut self) -> u32
         ensures set { self.new.set ≡ self.old.set }
         ensures gives { GivesSlotsBack self.old.pass self.new.pass result }

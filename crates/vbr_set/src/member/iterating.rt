@@ -1,4 +1,6 @@
 //! Going over the keys of a set, or the entries of a map, by a member.
+#![tactic(auto, using(vbr_at_table::proofs::Lemmas::kept_aside))]
+
 ghost use Rattle.std.specs.Prelude.{◌≡◌};
 ghost use Rattle.vbr_set.specs.calls.Iterating.{CallsNext, CallsNextEntry, CallsNextNamedEntry, CallsNextNamedKey, CountsKeys, ListsEntries, ListsKeys};
 

@@ -109,6 +109,7 @@ impl<N: Kind> Member<N> {
     /// ```
     ///
     /// [`MAX_MANY_PASSES`]: crate::MAX_MANY_PASSES
+    #[tactic(auto, using(crate::proofs::members::Seats::as_many, crate::proofs::members::Seats::count_of_all))]
     pub fn open_many(
         alloc: Global,
         shape: Shape,
@@ -218,6 +219,7 @@ pub(crate) fn hand_out<N: Nodes>(
 }
 
 // Makes a member, with a share of the set, with each of its passes.
+#[tactic(auto, using(crate::proofs::members::Seats::all_seated))]
 fn share_out<N: Nodes>(
     alloc: Global,
     set: VbrSet<N>,

@@ -77,6 +77,7 @@ impl<N: Nodes> Member<N> {
 
     /// [`VbrSet::is_still`] by its pass.
     #[inline]
+    #[tactic(auto, using(vbr_at_table::proofs::Lemmas::kept_aside))]
     pub fn is_still(&mut self, entry: &Entry) -> bool
         ensures asks { AsksStill self.old self.new entry.now result }
         ensures aside { self.new.aside ≡ self.old.aside }

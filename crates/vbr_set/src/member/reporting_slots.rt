@@ -7,7 +7,7 @@ ghost use Rattle.vbr_set.specs.reports.EntrySlots.{ClosesWithSlots};
 use crate::close_all_error::CloseAllError;
 use crate::kind::Kind;
 use crate::member::Member;
-use crate::member::closing_all::{are_too_few, put_together, take_apart};
+use crate::member::closing_all::{are_too_few, put_together, report_by_parts, take_apart};
 use crate::member::stake::Stake;
 use crate::report_with_slots::ReportWithSlots;
 use std::alloc::{AllocError, Global};
@@ -32,26 +32,7 @@ impl<N: Kind> Member<N> {
         ensures missing { IfErr result (λ error. LacksMembers error ↔ AreTooFew members.items) }
         ensures enough { OnOk result (¬ (AreTooFew members.items)) }
     {
-        if are_too_few(&members) {
-            return Err(CloseAllError::Missing(members));
-        }
-        let count = members.len();
-        let Ok(mut stakes) = Vec::with_capacity(alloc, count) else {
-            return Err(CloseAllError::Memory(members));
-        };
-        let Ok(mut passes) = Vec::with_capacity(alloc, count) else {
-            return Err(CloseAllError::Memory(members));
-        };
-        let Ok(back) = Vec::with_capacity(alloc, count) else {
-            return Err(CloseAllError::Memory(members));
-        };
-        take_apart(members, &mut stakes, &mut passes);
-        let told = report_apart_with_slots(alloc, &stakes, &mut passes);
-        let members = put_together(stakes, passes, back);
-        match told {
-            Ok(report) => Ok((report, members)),
-            Err(_) => Err(CloseAllError::Memory(members)),
-        }
+        report_by_parts!(alloc, members, report_apart_with_slots)
     }
 }
 

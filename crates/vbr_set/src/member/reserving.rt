@@ -1,4 +1,6 @@
 //! A reserve of slots for a member.
+#![tactic(auto, using(vbr_at_table::proofs::Lemmas::kept_aside))]
+
 ghost use Rattle.std.specs.Prelude.{◌≡◌, ℕ};
 ghost use Rattle.vbr_at_table.specs.pools.Reserving.{Reserves, TopsUp};
 

@@ -28,6 +28,7 @@ impl<N: Nodes> Member<N> {
 
     /// [`VbrSet::catch_up`] by its pass.
     #[inline]
+    #[tactic(auto, using(crate::proofs::members::MembersAside::caught_aside))]
     pub fn catch_up(&mut self, token: Seen)
         requires { token.table ≡ self.old.set.table }
         ensures set { self.new.set ≡ self.old.set }

@@ -15,7 +15,7 @@ ghost use Rattle.vbr_set.specs.calls.Members.{as_member};
 ghost use Rattle.vbr_set.specs.calls.RecordCalls.{AsksStill, FindsEntry, FindsKey, InsertsByHeld, insert_told, store_told};
 ghost use Rattle.vbr_set.specs.calls.RemovingExactly.{TakesExactly, TakesKeyExactly};
 
-use crate::at_set::AtSet;
+use crate::at_set::{AtSet, between_laws};
 use crate::set::VbrSet;
 use vbr_at_table::Hand;
 use vbr_list::{
@@ -132,10 +132,7 @@ impl VbrSet {
             key 0 budget hand result }
     {
         self.slots.kind();
-        pass.law();
-        let answer = insert_held(&self.slots, pass, key, hand, budget);
-        pass.law();
-        answer
+        between_laws!(self, pass, insert_held(key, hand, budget))
     }
 }
 
@@ -192,10 +189,7 @@ impl VbrSet<Entries> {
     {
         a_run_is_a_map();
         self.slots.kind();
-        pass.law();
-        let answer = insert_entry_held(&self.slots, pass, key, value, hand, budget);
-        pass.law();
-        answer
+        between_laws!(self, pass, insert_entry_held(key, value, hand, budget))
     }
 
     /// Gives a key a value by the slot in hand, whether the key is there or not, in at most `budget` steps.
@@ -221,10 +215,7 @@ impl VbrSet<Entries> {
         ensures { PutsByHeld pass.old pass.new key value budget hand result }
     {
         a_run_is_a_map();
-        pass.law();
-        let answer = put_held(&self.slots, pass, key, value, hand, budget);
-        pass.law();
-        answer
+        between_laws!(self, pass, put_held(key, value, hand, budget))
     }
 
     /// Puts the slot in hand, with a value, in the place of this entry's node, and of no other, in at most
@@ -254,9 +245,6 @@ impl VbrSet<Entries> {
         ensures { ReplacesByHeld pass.old pass.new key value budget hand entry.now result }
     {
         a_run_is_a_map();
-        pass.law();
-        let answer = replace_held(&self.slots, pass, key, entry, value, hand, budget);
-        pass.law();
-        answer
+        between_laws!(self, pass, replace_held(key, entry, value, hand, budget))
     }
 }

@@ -2,9 +2,8 @@ use Rattle.std.proofs.Common.{◌≡◌, ◌^◌, ◌<◌, [], Some, None, Ok, s
 use Rattle.vbr_list.specs.declared.cursor.Cursor.{Cursor}
 use Rattle.vbr_set.specs.calls.AtSets.{caller_at}
 use Rattle.vbr_set.proofs.many_keys.Listing.{GathersAs, answered_as, at_set, gone_over, goes_over, later_bucket}
-use Rattle.vbr_set.proofs.many_keys.Listing.{gathered_later}
-use Rattle.vbr_set.proofs.many_keys.Listing.{gathered_on, lists_none, nearer, nearer_later, stands_short, stood}
-use Rattle.vbr_set.proofs.many_keys.Listing.{stood_not}
+use Rattle.vbr_set.proofs.many_keys.Listing.{gathered_later, gathered_on, lists_none, nearer, nearer_later}
+use Rattle.vbr_set.proofs.many_keys.Listing.{stands_short, stood, stood_not}
 use Rattle.vbr_set.proofs.at_set.AtSet.go_over.Given as given
 use Rattle.vbr_set.proofs.at_set.AtSet.go_over.Goals as goal
 

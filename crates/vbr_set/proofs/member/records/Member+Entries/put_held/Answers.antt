@@ -1,12 +1,4 @@
-use Rattle.std.proofs.Common.{None, Ok, Err, ap, subst, sym}
-use Rattle.std.specs.Prelude.{Option, Result, ℕ}
-use Rattle.vbr_at_table.specs.hands.Aside.{HasAside}
-use Rattle.vbr_at_table.specs.hands.Hands.{HandView}
-use Rattle.vbr_set.specs.calls.HeldStores.{PutsAside, put_answer}
-use Rattle.vbr_set.specs.calls.Members.{MemberView}
-use Rattle.vbr_set.specs.calls.RecordCalls.{aside_left}
 use Rattle.vbr_set.specs.members.Sharing.{set_shared}
-use Rattle.vbr_set.specs.declared.record_refusals.HeldRefusal.TheVariants.{OutOfSteps}
 use Rattle.vbr_set.proofs.held_slots.HeldMembers.{part_kept, put_again}
 use Rattle.vbr_set.proofs.held_slots.HeldStores.{none_put, put_added, put_same, put_spent, puts_aside}
 use Rattle.vbr_set.proofs.member.records.«Member+Entries».put_held.Goals as goal
@@ -31,38 +23,21 @@ invariant_of-self-in-Err c =
       part = part_kept up by.answers.same c.of-still.new.pass ends c.self.invariant.part;
       counted = none_put up by (set_shared c.self.inside.share) c.of-still.new.pass ends c.in-Err.is
           c.self.invariant.counted;
-      put_aside = subst (HasAside c.of-still.new.pass) (sym c.in-Some.is)
-          (put_again c.take_up-hand.result c.in-Err.hand c.of-still.new.pass c.in-Some.aside c.of-still.result
+      put_aside = put_again c.take_up-hand.result c.in-Err.hand c.of-still.new.pass c.in-Some.is
           (put_same up by c.in-Err.is) c.take_up-hand.ensures.slot c.take_up-hand.ensures.birth
-          c.of-still.ensures.slot c.of-still.ensures.birth c.of-still.ensures.aside);
+          c.of-still.ensures.slot c.of-still.ensures.birth c.of-still.ensures.aside;
     }
 
 pub returns-in-Ok-clause-puts : goal.returns-in-Ok-clause-puts
 returns-in-Ok-clause-puts c =
     let up = c.take_up-hand.ensures.keeps in
     let by = c.put_held.ensures in
-    let n : MemberView = record { set = set_shared c.self.inside.share; pass = c.put_held.new.pass; aside = None } in
-    subst (λ (m : MemberView). PutsAside m n c.args.key c.args.value c.args.budget (Ok c.in-Ok.there)) c.self.view_is
-    (puts_aside up by (set_shared c.self.inside.share) c.put_held.new.pass c.self.inside.aside None c.in-Some.aside
-    (Ok c.in-Ok.there) (put_spent up by c.in-Ok.is) c.take_up-hand.ensures.hand c.in-Some.is
-    c.take_up-hand.ensures.slot c.take_up-hand.ensures.birth
-    (ap (λ (x : Result (Option ℕ) (HandView × ℕ)). aside_left x c.self.inside.aside) c.in-Ok.is)
-    (ap put_answer c.in-Ok.is))
+    puts_aside up by (set_shared c.self.inside.share) c.put_held.new.pass c.self.inside.aside c.in-Some.aside
+    c.self.view_is (put_spent up by c.in-Ok.is) c.take_up-hand.ensures.hand c.in-Some.is c.take_up-hand.ensures.slot
+    c.take_up-hand.ensures.birth c.in-Ok.is
 
 pub returns-in-Err-clause-puts : goal.returns-in-Err-clause-puts
 returns-in-Err-clause-puts c =
-    let up = c.take_up-hand.ensures.keeps in
-    let by = c.put_held.ensures in
-    let n : MemberView = record {
-      set = set_shared c.self.inside.share;
-      pass = c.of-still.new.pass;
-      aside = c.self.inside.aside;
-    } in
-    subst
-    (λ (m : MemberView). PutsAside m n c.args.key c.args.value c.args.budget (Err (OutOfSteps c.in-Err.used)))
-    c.self.view_is
-    (puts_aside up by (set_shared c.self.inside.share) c.of-still.new.pass c.self.inside.aside c.self.inside.aside
-    c.in-Some.aside (Err (OutOfSteps c.in-Err.used)) c.of-still.ensures.empties c.take_up-hand.ensures.hand
-    c.in-Some.is c.take_up-hand.ensures.slot c.take_up-hand.ensures.birth
-    (ap (λ (x : Result (Option ℕ) (HandView × ℕ)). aside_left x c.self.inside.aside) c.in-Err.is)
-    (ap put_answer c.in-Err.is))
+    puts_aside c.take_up-hand.ensures.keeps c.put_held.ensures (set_shared c.self.inside.share) c.of-still.new.pass
+    c.self.inside.aside c.in-Some.aside c.self.view_is c.of-still.ensures.empties c.take_up-hand.ensures.hand
+    c.in-Some.is c.take_up-hand.ensures.slot c.take_up-hand.ensures.birth c.in-Err.is

@@ -1,11 +1,3 @@
-use Rattle.std.proofs.Common.{None, Ok, ap, subst, sym, true}
-use Rattle.std.specs.Prelude.{Result}
-use Rattle.vbr_at_table.specs.hands.Aside.{HasAside}
-use Rattle.vbr_at_table.specs.hands.Hands.{HandView}
-use Rattle.vbr_list.specs.declared.holding.NotReplaced.{NotReplaced}
-use Rattle.vbr_set.specs.calls.HeldStores.{ReplacesAside, ReplacesHeldBy, replaced_answer}
-use Rattle.vbr_set.specs.calls.Members.{MemberView}
-use Rattle.vbr_set.specs.calls.RecordCalls.{aside_left}
 use Rattle.vbr_set.specs.members.Sharing.{set_shared}
 use Rattle.vbr_set.proofs.held_slots.HeldMembers.{part_kept, put_again}
 use Rattle.vbr_set.proofs.held_slots.HeldStores.{replaced_kept, replaced_same, replaced_spent, replaces_aside}
@@ -32,42 +24,22 @@ invariant_of-self-in-Err c =
     record {
       part = part_kept up by.answers.same c.of-still.new.pass ends c.self.invariant.part;
       counted = replaced_kept up by (set_shared c.self.inside.share) c.of-still.new.pass ends c.self.invariant.counted;
-      put_aside = subst (HasAside c.of-still.new.pass) (sym c.in-Some.is)
-          (put_again c.take_up-hand.result c.in-Err.hand c.of-still.new.pass c.in-Some.aside c.of-still.result
+      put_aside = put_again c.take_up-hand.result c.in-Err.hand c.of-still.new.pass c.in-Some.is
           (replaced_same up by c.in-Err.is) c.take_up-hand.ensures.slot c.take_up-hand.ensures.birth
-          c.of-still.ensures.slot c.of-still.ensures.birth c.of-still.ensures.aside);
+          c.of-still.ensures.slot c.of-still.ensures.birth c.of-still.ensures.aside;
     }
 
 pub returns-in-Ok-clause-replaces : goal.returns-in-Ok-clause-replaces
 returns-in-Ok-clause-replaces c =
     let up = c.take_up-hand.ensures.keeps in
     let by = c.replace_held.ensures in
-    let n : MemberView = record {
-      set = set_shared c.self.inside.share;
-      pass = c.replace_held.new.pass;
-      aside = None;
-    } in
-    subst (λ (m : MemberView). ReplacesAside m n c.args.key c.args.value c.args.budget c.args.entry.now (Ok true))
-    c.self.view_is
-    (replaces_aside up by (set_shared c.self.inside.share) c.replace_held.new.pass c.self.inside.aside None
-    c.in-Some.aside (Ok true) (replaced_spent up by c.in-Ok.is) c.take_up-hand.ensures.hand c.in-Some.is
-    c.take_up-hand.ensures.slot c.take_up-hand.ensures.birth
-    (ap (λ (x : Result (Unit {0}) (HandView × NotReplaced)). aside_left x c.self.inside.aside) c.in-Ok.is)
-    (ap replaced_answer c.in-Ok.is))
+    replaces_aside up by (set_shared c.self.inside.share) c.replace_held.new.pass c.self.inside.aside c.in-Some.aside
+    c.self.view_is (replaced_spent up by c.in-Ok.is) c.take_up-hand.ensures.hand c.in-Some.is
+    c.take_up-hand.ensures.slot c.take_up-hand.ensures.birth c.in-Ok.is
 
 pub returns-in-Err-clause-replaces : goal.returns-in-Err-clause-replaces
 returns-in-Err-clause-replaces c =
-    let up = c.take_up-hand.ensures.keeps in
-    let by = c.replace_held.ensures in
-    let n : MemberView = record {
-      set = set_shared c.self.inside.share;
-      pass = c.of-still.new.pass;
-      aside = c.self.inside.aside;
-    } in
-    subst
-    (λ (m : MemberView).
-    ReplacesHeldBy m n c.args.key c.args.value c.args.budget c.args.entry.now c.answer_unreplaced.result)
-    c.self.view_is
-    (tells_unreplaced up by (set_shared c.self.inside.share) c.of-still.new.pass c.self.inside.aside c.in-Some.aside
-    c.answer_unreplaced.result c.of-still.ensures.empties c.in-Err.is c.take_up-hand.ensures.hand c.in-Some.is
-    c.take_up-hand.ensures.slot c.take_up-hand.ensures.birth c.answer_unreplaced.ensures)
+    tells_unreplaced c.take_up-hand.ensures.keeps c.replace_held.ensures (set_shared c.self.inside.share)
+    c.of-still.new.pass c.self.inside.aside c.in-Some.aside c.answer_unreplaced.result c.self.view_is
+    c.of-still.ensures.empties c.in-Err.is c.take_up-hand.ensures.hand c.in-Some.is c.take_up-hand.ensures.slot
+    c.take_up-hand.ensures.birth c.answer_unreplaced.ensures

@@ -1,9 +1,5 @@
-use Rattle.std.proofs.Common.{refl, subst, sym}
-use Rattle.vbr_set.specs.histories.Answers.{AnswersAll}
-use Rattle.vbr_set.specs.calls.Members.{MemberView}
-use Rattle.vbr_set.specs.calls.RecordCalls.{InsertsHeldBy, insert_told}
+use Rattle.std.proofs.Common.{refl}
 use Rattle.vbr_set.specs.members.Sharing.{set_shared}
-use Rattle.vbr_at_table.specs.hands.Aside.{HasAside}
 use Rattle.vbr_set.proofs.members.Balances.{once_in_set}
 use Rattle.vbr_set.proofs.held_slots.HeldMembers.{ends_spent, none_added, one_added, part_held, still_put, tells_still}
 use Rattle.vbr_set.proofs.member.records.Member.insert_held.Goals as goal
@@ -28,24 +24,13 @@ invariant_of-self-in-Err c =
       part = part_held up inserts c.of-still.new.pass ends c.self.invariant.part;
       counted = none_added up inserts once_in_set (set_shared c.self.inside.share) c.self.invariant.counted
           c.of-still.new.pass ends c.in-Err.is refl;
-      put_aside = subst (HasAside c.of-still.new.pass) (sym c.in-Some.is)
-          (still_put up inserts c.of-still.new.pass c.in-Some.aside c.of-still.result c.in-Err.is
-          c.take_up-hand.ensures.slot c.take_up-hand.ensures.birth c.of-still.ensures.slot c.of-still.ensures.birth
-          c.of-still.ensures.aside);
+      put_aside = still_put up inserts c.of-still.new.pass c.in-Err.is c.in-Some.is c.take_up-hand.ensures.slot
+          c.take_up-hand.ensures.birth c.of-still.ensures.slot c.of-still.ensures.birth c.of-still.ensures.aside;
     }
 
 pub returns-in-Err-clause-inserts : goal.returns-in-Err-clause-inserts
 returns-in-Err-clause-inserts c =
-    let n : MemberView = record {
-      set = set_shared c.self.inside.share;
-      pass = c.of-still.new.pass;
-      aside = c.self.inside.aside;
-    } in
-    subst (λ (m : MemberView).
-    InsertsHeldBy AnswersAll (insert_told c.args.key)
-    m n c.args.key 0 c.args.budget c.answer_held.result)
-    c.self.view_is
-    (tells_still c.take_up-hand.ensures.keeps c.insert_held.ensures (set_shared c.self.inside.share)
-    c.of-still.new.pass c.self.inside.aside c.in-Some.aside c.answer_held.result c.of-still.ensures.empties c.in-Err.is
-    c.take_up-hand.ensures.hand c.in-Some.is c.take_up-hand.ensures.slot c.take_up-hand.ensures.birth
-    c.answer_held.ensures)
+    tells_still c.take_up-hand.ensures.keeps c.insert_held.ensures (set_shared c.self.inside.share)
+    c.of-still.new.pass c.self.inside.aside c.in-Some.aside c.answer_held.result c.self.view_is
+    c.of-still.ensures.empties c.in-Err.is c.take_up-hand.ensures.hand c.in-Some.is c.take_up-hand.ensures.slot
+    c.take_up-hand.ensures.birth c.answer_held.ensures
