@@ -28,6 +28,15 @@
 
 ghost use Rattle.std.specs.Prelude.{◌≡◌, ◌+◌, ◌*◌};
 
+// The numbers of a shape, from the parameters of an export.
+macro_rules! numbers {
+    ($($number:ident),*) => {
+        vbr_handles::ShapeNumbers { $($number),* }
+    };
+}
+
+pub(crate) use numbers;
+
 pub mod map;
 pub mod own_slots;
 pub mod records;

@@ -15,11 +15,10 @@ ghost use Rattle.vbr_handles.specs.Reports.{TellsMapCloseAll, TellsMapReport, Te
 ghost use Rattle.vbr_set.specs.members.AllMembers.{AreOfOneSet};
 ghost use Rattle.vbr_handles.specs.Shown.{IsSeedOf, balance_shown, buckets_of, epoch_of_handle, last_epoch_of, slots_of};
 
+use crate::numbers;
 use std::alloc::Global;
 use vbr_handles::coded_calls::{batches, entries, giving_slots_back, iterating};
-use vbr_handles::{
-    Entry, Found, HandleCursor, MapHandle, ReportNumbers, ShapeNumbers, accessors, coded_calls,
-};
+use vbr_handles::{Entry, Found, HandleCursor, MapHandle, ReportNumbers, accessors, coded_calls};
 use vbr_words::Entries;
 
 /// `vbr_map_open_seeded` of vbr.h.
@@ -38,12 +37,7 @@ pub extern "C" fn vbr_map_open_seeded(
         entries.now) result }
     ensures steps { KeepMapSteps handles.old handles.new }
 {
-    let numbers = ShapeNumbers {
-        slots,
-        buckets,
-        last_epoch,
-        seed,
-    };
+    let numbers = numbers!(slots, buckets, last_epoch, seed);
     coded_calls::open_with::<Entries, Entry, MapHandle>(alloc, handles, numbers, entries)
 }
 
@@ -64,12 +58,7 @@ pub extern "C" fn vbr_map_open_many_seeded(
         entries.now) result }
     ensures steps { KeepMapSteps handles.old handles.new }
 {
-    let numbers = ShapeNumbers {
-        slots,
-        buckets,
-        last_epoch,
-        seed,
-    };
+    let numbers = numbers!(slots, buckets, last_epoch, seed);
     coded_calls::open_many::<Entries, Entry, MapHandle>(alloc, handles, numbers, entries)
 }
 
@@ -428,12 +417,7 @@ pub extern "C" fn vbr_map_renew_all_seeded(
         (record { slots = slots; buckets = buckets; last_epoch = last_epoch; seed = seed }) result }
     ensures steps { KeepMapSteps handles.old handles.new }
 {
-    let numbers = ShapeNumbers {
-        slots,
-        buckets,
-        last_epoch,
-        seed,
-    };
+    let numbers = numbers!(slots, buckets, last_epoch, seed);
     coded_calls::renew_all::<Entries, Entry, MapHandle>(alloc, handles, numbers)
 }
 

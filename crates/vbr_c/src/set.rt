@@ -13,9 +13,10 @@ ghost use Rattle.vbr_handles.specs.Reports.{TellsCloseAll, TellsReport, TellsRep
 ghost use Rattle.vbr_set.specs.members.AllMembers.{AreOfOneSet};
 ghost use Rattle.vbr_handles.specs.Shown.{IsSeedOf, balance_shown, buckets_of, epoch_of_handle, last_epoch_of, slots_of};
 
+use crate::numbers;
 use std::alloc::Global;
 use vbr_handles::coded_calls::{batches, giving_slots_back, iterating};
-use vbr_handles::{Handle, HandleCursor, ReportNumbers, ShapeNumbers, accessors, coded_calls};
+use vbr_handles::{Handle, HandleCursor, ReportNumbers, accessors, coded_calls};
 use vbr_words::Keys;
 
 /// `vbr_open_seeded` of vbr.h.
@@ -34,12 +35,7 @@ pub extern "C" fn vbr_open_seeded(
         keys.now) result }
     ensures steps { KeepSteps handles.old handles.new }
 {
-    let numbers = ShapeNumbers {
-        slots,
-        buckets,
-        last_epoch,
-        seed,
-    };
+    let numbers = numbers!(slots, buckets, last_epoch, seed);
     coded_calls::open_with::<Keys, u64, Handle>(alloc, handles, numbers, keys)
 }
 
@@ -60,12 +56,7 @@ pub extern "C" fn vbr_open_many_seeded(
         keys.now) result }
     ensures steps { KeepSteps handles.old handles.new }
 {
-    let numbers = ShapeNumbers {
-        slots,
-        buckets,
-        last_epoch,
-        seed,
-    };
+    let numbers = numbers!(slots, buckets, last_epoch, seed);
     coded_calls::open_many::<Keys, u64, Handle>(alloc, handles, numbers, keys)
 }
 
@@ -269,12 +260,7 @@ pub extern "C" fn vbr_renew_all_seeded(
         (record { slots = slots; buckets = buckets; last_epoch = last_epoch; seed = seed }) result }
     ensures steps { KeepSteps handles.old handles.new }
 {
-    let numbers = ShapeNumbers {
-        slots,
-        buckets,
-        last_epoch,
-        seed,
-    };
+    let numbers = numbers!(slots, buckets, last_epoch, seed);
     coded_calls::renew_all::<Keys, u64, Handle>(alloc, handles, numbers)
 }
 

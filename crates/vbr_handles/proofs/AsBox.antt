@@ -1,14 +1,8 @@
 -- An owner and its parts own what a box of the same member owns.
-use Prim.Native.Nat.{ℕ}
-use mathlib.Core.List.{[]}
-use mir.Syntax.{impl, tnil, dnil}
-use denote.RattleType.{RattleType}
-use denote.Signature.{Slot, plain}
-use Rattle.core.proofs.mem.Param.{El, R}
+use Rattle.atomic_table.proofs.Names.{ℕ, [], dnil, RattleType, plain}
+use Rattle.vbr_handles.proofs.WalkNames.{Slot, El, R, ghosts, impl, tnil, Vacant, dict}
 use Rattle.std_alloc.proofs.BoxSteps.Form as box
-use Rattle.std_alloc.proofs.OfVacant.{Vacant}
 use Rattle.std_heap.specs.contracts.Global as Heap
-use Rattle.std_heap.specs.contracts.GlobalAllocator.TheImpl.{ghosts, dict}
 use Rattle.std_heap.proofs.Global.TheLaws as heap
 use Rattle.vbr_handles.specs.contracts.box_parts.Parts as Parts
 use Rattle.vbr_handles.specs.contracts.owner.Owner as Owner

@@ -1,80 +1,55 @@
 -- Members that were asked come back to their handles.
-use Rattle.std.proofs.Common.{◌≡◌, ℕ, zero, suc, ◌+◌, ◌<◌, ◌≤◌, ◌≢◌, false, List, [], ◌∷◌, ◌++◌, length, map, drop}
-use Rattle.std.proofs.Common.{refl, sym, ap, ◌∙◌, subst, arith}
-use Rattle.std.specs.Prelude.{Bool, Result, Ok, Err, IfOk, IfSome, IsSome, Option, None, Some}
-use Rattle.std.specs.Prelude.{slice_index_or, slice_set}
-use Rattle.std.specs.Prelude.{pos, ◌<ℤ◌}
-use Rattle.std.proofs.Common.{◌⊎◌, inl, inr}
-use Rattle.std.proofs.lemmas.Bool.{false≢true}
-use Rattle.std.proofs.lemmas.List.{length-map}
-use Rattle.std.proofs.lemmas.List.Elements.{All-head, All-rest, All-same, All-tail, length_all_zip}
+use Rattle.vbr_handles.proofs.Names.{◌≡◌, ℕ, ◌+◌, ◌<◌, ◌≤◌, ◌≢◌, false, List, [], ◌∷◌, ◌++◌, length, map, drop, refl}
+use Rattle.vbr_handles.proofs.Names.{sym, ap, ◌∙◌, subst, arith, Bool, Result, Ok, Err, IfOk, IfSome, IsSome, Option}
+use Rattle.vbr_handles.proofs.Names.{None, Some, slice_index_or, slice_set, pos, ◌<ℤ◌, ◌⊎◌, inl, inr, false≢true}
+use Rattle.vbr_handles.proofs.Names.{length-map, All-head, All-rest, All-same, All-tail, length_all_zip, PassView}
+use Rattle.vbr_handles.proofs.Names.{TableView, new_passes, as_member, new_members, added_balances, AreFull, joined}
+use Rattle.vbr_handles.proofs.Names.{members_by, HasTwice, Lack, StartWithReserves, StartsWithReserve, drop_more}
+use Rattle.vbr_handles.proofs.Names.{drop-set-lt, Member, AreEnoughOnce, ReportsAllOf, StaySo, AnswersQuestion}
+use Rattle.vbr_handles.proofs.Names.{AsksAllOf, RenewsWithReserves, Listing, with_slots}
 use Rattle.vbr_words.specs.Dimensions.{Dimensions, IsShape}
 use Rattle.vbr_machine.specs.Start.{start_with}
-use Rattle.vbr_slots.specs.views.Views.{PassView, TableView, new_passes}
 use Rattle.vbr_set.specs.reports.Kinds.{KindOf}
-use Rattle.vbr_set.specs.calls.Members.{MemberView as Member, as_member, new_members}
 use Rattle.vbr_set.specs.members.AllMembers.{AreTooFew, ReportsAllBy}
-use Rattle.vbr_set.specs.members.BalanceSums.{added_balances}
 use Rattle.vbr_set.specs.reports.EntrySlots.{ClosesWithSlots, HasEntry}
 use Rattle.vbr_set.specs.renewals.RenewingAll.{AreNotAll}
 use Rattle.vbr_set.specs.declared.report_with_slots.ReportWithSlots.{ReportWithSlots}
-use Rattle.vbr_handles.specs.AllHandles.{AreFull, ReportsAllOf, StaySo, joined, members_by}
-use Rattle.vbr_handles.specs.EachOnce.{HasTwice}
-use Rattle.vbr_handles.specs.AskingAll.{AnswersQuestion, AsksAllOf, Lack, RenewsWithReserves}
 use Rattle.vbr_handles.specs.declared.asking_all.Answer.{Answer}
-use Rattle.vbr_handles.specs.declared.asking_all.Answer.TheVariants as answering
 use Rattle.vbr_handles.specs.declared.asking_all.Question.{Question}
-use Rattle.vbr_handles.specs.declared.asking_all.Question.TheVariants as question
-use Rattle.vbr_handles.specs.Listings.{Listing, with_slots}
 use Rattle.vbr_handles.specs.Opening.{listed_start, spread_shape}
-use Rattle.vbr_handles.specs.OpeningReserves.{StartWithReserves, StartsWithReserve}
 use Rattle.vbr_handles.specs.RenewingAll.{RenewsTo}
 use Rattle.vbr_handles.specs.declared.closing_all.CloseAllRefusal.{CloseAllRefusal}
 use Rattle.vbr_handles.specs.declared.opening.ShapeNumbers.{ShapeNumbers}
 use Rattle.vbr_handles.proofs.AllHandles.{moved}
 use Rattle.vbr_handles.proofs.Opened.{new_count, still_opened}
+use Rattle.vbr_handles.specs.declared.asking_all.Answer.TheVariants as answering
+use Rattle.vbr_handles.specs.declared.asking_all.Question.TheVariants as question
 
 module _ {H : Type 0} (member : H → Option Member) where
-  -- a handle of those from a number on, and the others
-  pub from_here : (handles : List H) (i : ℕ) (d : H) → i < length handles →
-      drop i handles ≡ slice_index_or handles i d ∷ drop (suc i) handles
-  from_here [] i d within = absurd (omega (arith, within))
-  from_here (x ∷ hs) zero d within = refl
-  from_here (x ∷ hs) (suc i) d within = from_here hs i d (omega (arith, within))
-
-  -- what becomes of it leaves those after it
-  others_stay : (handles : List H) (i : ℕ) (h : H) → drop (suc i) (slice_set handles i h) ≡ drop (suc i) handles
-  others_stay [] i h = refl
-  others_stay (x ∷ hs) zero h = refl
-  others_stay (x ∷ hs) (suc i) h = others_stay hs i h
-
   -- one more member is taken out
   pub one_out : (ms ms' whole : List Member) (m : Member) (handles : List H) (i : ℕ) (d h : H) → i < length handles →
       member (slice_index_or handles i d) ≡ Some m → ms' ≡ ms ++ m ∷ [] →
       ms ++ members_by member (drop i handles) ≡ whole
       → ms' ++ members_by member (drop (i + 1) (slice_set handles i h)) ≡ whole
   one_out ms ms' whole m handles i d h within is more so_far =
-      let next : i + 1 ≡ suc i = omega arith in
-      ap (λ (n : ℕ). ms' ++ members_by member (drop n (slice_set handles i h))) next
-      ∙ ap (λ (hs : List H). ms' ++ members_by member hs) (others_stay handles i h)
-      ∙ moved member ms ms' m (slice_index_or handles i d) (drop (suc i) handles) (drop i handles) more
-      (from_here handles i d within) is
+      ap (λ (hs : List H). ms' ++ members_by member hs) (drop-set-lt (i + 1) handles i h (omega arith))
+      ∙ moved member ms ms' m (slice_index_or handles i d) (drop (i + 1) handles) (drop i handles) more
+      (drop_more handles i d within) is
       ∙ so_far
 
   -- and the others are still full
   pub still_full : (handles : List H) (i : ℕ) (d h : H) → i < length handles → AreFull member (drop i handles) →
       AreFull member (drop (i + 1) (slice_set handles i h))
   still_full handles i d h within full =
-      let next : i + 1 ≡ suc i = omega arith in
-      subst (AreFull member) (sym (ap (λ (n : ℕ). drop n (slice_set handles i h)) next ∙ others_stay handles i h))
-      (All-rest (λ (h : H). IsSome (member h)) (slice_index_or handles i d) (drop (suc i) handles) (drop i handles)
-      (from_here handles i d within) full)
+      subst (AreFull member) (sym (drop-set-lt (i + 1) handles i h (omega arith)))
+      (All-rest (λ (h : H). IsSome (member h)) (slice_index_or handles i d) (drop (i + 1) handles) (drop i handles)
+      (drop_more handles i d within) full)
 
   pub here_full : (handles : List H) (i : ℕ) (d : H) → i < length handles → AreFull member (drop i handles) →
       IsSome (member (slice_index_or handles i d))
   here_full handles i d within full =
-      All-head (λ (h : H). IsSome (member h)) (slice_index_or handles i d) (drop (suc i) handles)
-      (All-same (λ (h : H). IsSome (member h)) _ (drop i handles) (sym (from_here handles i d within)) full)
+      All-head (λ (h : H). IsSome (member h)) (slice_index_or handles i d) (drop (i + 1) handles)
+      (All-same (λ (h : H). IsSome (member h)) _ (drop i handles) (sym (drop_more handles i d within)) full)
 
 -- what lacks for a report, with slots or without
 module _ (asked : Question) (members : List Member) where
@@ -142,18 +117,6 @@ module _ (numbers : ShapeNumbers) (shape : Dimensions) (spread : shape ≡ sprea
   of_as_many_slots P is = subst P (ap (λ (d : Dimensions). d.slots) spread) is
 
 module _ {H : Type 0} (member : H → Option Member) where
-  -- one more handle is emptied
-  pub emptied : (handles : List H) (i : ℕ) (h : H) → i < length handles → member h ≡ None →
-      ((k : ℕ) (d : H) → k < i → member (slice_index_or handles k d) ≡ None) → (k : ℕ) (d : H) → k < suc i →
-      member (slice_index_or (slice_set handles i h) k d) ≡ None
-  emptied [] i h within none so_far k d low = absurd (omega (arith, within))
-  emptied (x ∷ hs) zero h within none so_far zero d low = none
-  emptied (x ∷ hs) zero h within none so_far (suc k) d low = absurd (omega (arith, low))
-  emptied (x ∷ hs) (suc i) h within none so_far zero d low = so_far 0 d (omega arith)
-  emptied (x ∷ hs) (suc i) h within none so_far (suc k) d low =
-      emptied hs i h (omega (arith, within)) none (λ j e l. so_far (suc j) e (omega (arith, l))) k d
-      (omega (arith, low))
-
   -- handles that are full have just their members
   all_members : (handles : List H) → AreFull member handles → map Some (members_by member handles) ≡ map member handles
   all_members [] full = refl
@@ -188,7 +151,7 @@ module _ {H : Type 0} (member : H → Option Member) where
       others = drop 1 handles
 
       split : handles ≡ first ∷ others
-      split = from_here member handles 0 d within
+      split = drop_more handles 0 d within
 
       many : length handles ≡ length (members_by member handles)
       many = sym (length-map handles member)
@@ -237,6 +200,14 @@ module _ {H : Type 0} (member : H → Option Member) where
   pub stays : (before after : List H) (came : List Member) → AreFull member before → came ≡ members_by member before →
       map member after ≡ map Some came → StaySo member before after
   stays before after came full same put = put ∙ ap (map Some) same ∙ all_members before full
+
+  -- and all of them are there, each once
+  pub told_by_all : (before after : List H) (came : List Member) → AreFull member before →
+      ¬ (AreTooFew (members_by member before)) → ¬ (HasTwice (members_by member before)) →
+      came ≡ members_by member before → map member after ≡ map Some came →
+      StaySo member before after × AreEnoughOnce member before
+  told_by_all before after came full enough once same put =
+      (stays before after came full same put, ((full, enough), once))
 
   -- so they were asked where their members came back for them; each test on the way left the handles as they were
   pub asked_all : {Item R : Type 0} (kind : KindOf Item R) (asked : Question)

@@ -1,22 +1,10 @@
 -- A walk by hand through a function with type parameters carries the tokens of their lifetimes and needs none.
 -- Assumes `Logic`.
-use Prim.Native.Nat.{ℕ}
-use mathlib.Core.List.{List, []}
-use seplogic.Ra.Ura.{Ura}
-use mir.Syntax.{Callee, Fn}
-use base.Logic.{ent}
-use prog.Model.{Model}
-use prog.Wp.{Calls, Closed, Loops, WpFn}
-use types.Logic.{Logic}
+use Rattle.atomic_table.proofs.Names.{ℕ, List, [], Ura, Fn, ent, Model, WpFn, Logic, Running, tables, Clauses, closing}
+use Rattle.atomic_table.proofs.Names.{Stays, walk_of}
+use Rattle.vbr_handles.proofs.WalkNames.{Callee, Calls, Closed, Loops, Slot, spared, Ended, Triple, run_framed}
+use Rattle.vbr_handles.proofs.WalkNames.{Signature, grown, AllGo, proved_at}
 use contract.Lifetimes.{Lfts}
-use contract.Running.{Running, tables}
-use denote.Signature.{Signature, Slot}
-use denote.Triple.Carry.{grown, spared}
-use denote.Triple.Clauses.{Clauses, Ended, closing}
-use denote.Triple.Statement.{Triple}
-use denote.Triple.Table.{run_framed}
-use denote.Triple.Walked.{AllGo, Stays, walk_of}
-use Rattle.atomic_table.proofs.Walks.{proved_at}
 
 -- what a function takes and gives that has no reference in it
 abbrev pub moving : List (Slot 0) → Slot 0 → Signature

@@ -1,12 +1,8 @@
 -- The keys of items at their places, and entries that are written one after another.
-use Rattle.std.proofs.Common.{◌≡◌, ℕ, zero, suc, ◌+◌, ◌<◌, List, [], ◌∷◌, map, length, slice_index, slice_index_or}
-use Rattle.std.proofs.Common.{refl, sym, ap, ◌∙◌, subst, arith}
+use Rattle.vbr_handles.proofs.Names.{◌≡◌, ℕ, zero, suc, ◌+◌, ◌<◌, List, [], ◌∷◌, map, length, slice_index_or, refl, sym}
+use Rattle.vbr_handles.proofs.Names.{ap, ◌∙◌, subst, arith, paste, slice_set, IsStrictlyIncreasing, length-map}
+use Rattle.vbr_handles.proofs.Names.{as_entry, slice_index, paste-suc}
 use lib.ListN.{get_or-map}
-use lib.Seq.{paste, paste-suc}
-use Rattle.std.specs.Prelude.{slice_set}
-use Rattle.std.specs.List.Sorted.{IsStrictlyIncreasing}
-use Rattle.std.proofs.lemmas.List.{length-map}
-use Rattle.vbr_handles.specs.Listings.{as_entry}
 use Rattle.vbr_handles.specs.declared.entry.Entry.{Entry}
 
 module _ {I : Type 0} (key : I → ℕ) where

@@ -1,16 +1,9 @@
 -- The balances of handles are added up from the last one on.
-use Rattle.std.proofs.Common.{◌≡◌, ℕ, zero, suc, ◌+◌, ◌-◌, ◌%◌, ◌^◌, ◌<◌, ◌≤◌, Fits, List, drop, length, arith}
-use Rattle.std.proofs.Common.{sym, ap, ◌∙◌, subst, to_z, of_z}
-use Rattle.std.specs.Prelude.{ℤ, IsSome, Option, None, Some, slice_index_or, slice_set}
-use Rattle.std.specs.Int.{w64}
-use Rattle.std.proofs.lemmas.Bool.{false≢true}
-use Rattle.std.proofs.lemmas.List.{set-get_or}
-use Rattle.vbr_set.specs.members.BalanceSums.{added_balances}
-use Rattle.vbr_set.specs.calls.Members.{MemberView as Member}
+use Rattle.vbr_handles.proofs.Names.{◌≡◌, ℕ, zero, suc, ◌+◌, ◌-◌, ◌%◌, ◌^◌, ◌<◌, ◌≤◌, List, drop, length, arith, sym}
+use Rattle.vbr_handles.proofs.Names.{ap, ◌∙◌, subst, ℤ, IsSome, Option, None, Some, slice_index_or, w64, false≢true}
+use Rattle.vbr_handles.proofs.Names.{added_balances, AreFull, joined, members_by, balance_shown, Fits, drop-cons, to_z}
+use Rattle.vbr_handles.proofs.Names.{of_z, Member}
 use Rattle.vbr_set.proofs.Lemmas.{one_added}
-use Rattle.vbr_handles.specs.AllHandles.{AreFull, joined, members_by}
-use Rattle.vbr_handles.specs.Shown.{balance_shown}
-use Rattle.vbr_handles.proofs.AskingAll.{from_here}
 
 -- the balance of the member of a handle is added to those of others
 balance_added : (shown : Option Member) (members : List Member) (bits : ℕ) (balance : ℤ) → bits < 2 ^ 64 →
@@ -27,10 +20,6 @@ module _ {H : Type 0} (member : H → Option Member) (handles now : List H) (ful
       subst (λ (hs : List H). IsSome (member (slice_index_or hs (i - 1) d))) (sym same)
       (full (i - 1) d (omega (arith, some, within)))
 
-  -- and comes back as it was
-  pub same_again : (i : ℕ) (d h : H) → h ≡ slice_index_or now i d → slice_set now i h ≡ handles
-  same_again i d h is = ap (slice_set now i) is ∙ set-get_or now i d ∙ same
-
   pub added_from : (i : ℕ) (d : H) (bits : ℕ) (balance : ℤ) → 0 < i → i ≤ length handles → Fits w64 bits →
       balance ≡ balance_shown (member (slice_index_or now (i - 1) d)) →
       to_z w64 bits ≡ added_balances (members_by member (drop i handles)) →
@@ -43,5 +32,5 @@ module _ {H : Type 0} (member : H → Option Member) (handles now : List H) (ful
       let read : slice_index_or now (suc k - 1) d ≡ here = λ i. slice_index_or (same i) (before i) d in
       balance_added (member here) (members_by member (drop (suc k) handles)) bits balance (omega arith)
       (full k d inside) (is ∙ ap (λ (h : H). balance_shown (member h)) read) so_far
-      ∙ ap (λ (hs : List H). added_balances (members_by member hs)) (sym (from_here member handles k d inside))
+      ∙ ap (λ (hs : List H). added_balances (members_by member hs)) (sym (drop-cons handles k d inside))
       ∙ ap (λ (n : ℕ). added_balances (members_by member (drop n handles))) (sym before)

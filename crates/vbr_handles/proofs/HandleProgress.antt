@@ -1,14 +1,11 @@
 -- What tops a reserve up after a call is made by the same pass, within the budget of the call.
-use Rattle.std.proofs.Common.{ℕ, Bool, true, false, Result, sym, subst, arith}
+use Rattle.vbr_handles.proofs.Names.{ℕ, Bool, true, false, Result, sym, subst, arith, Trace, Refusal, TopsUpWhere}
+use Rattle.vbr_handles.proofs.Names.{Member}
 use Rattle.vbr_machine.specs.Runs.{Begins}
 use Rattle.vbr_machine.proofs.Lemmas.{begins_refl}
 use Rattle.vbr_slots.specs.steps.Calls.{IsSame}
-use Rattle.vbr_slots.specs.views.Views.{Trace}
 use Rattle.vbr_slots.proofs.Lemmas.{same_refl}
-use Rattle.vbr_at_table.specs.declared.refusal.Refusal.{Refusal}
-use Rattle.vbr_set.specs.calls.Members.{MemberView as Member}
 use Rattle.vbr_handles.specs.HandleProgress.{HandlesCallAmply, IsAmplyMade}
-use Rattle.vbr_handles.specs.ToppingUp.{TopsUpWhere}
 
 -- the same pass, which has seen more
 record GoesOn (p q : Trace) : Type 0 where

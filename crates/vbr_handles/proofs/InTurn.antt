@@ -1,5 +1,5 @@
 -- What holds of owners in turn holds of their members.
-use Rattle.std.proofs.Common.{ℕ, List, [], ◌∷◌, ap}
+use Rattle.vbr_handles.proofs.Names.{ℕ, List, [], ◌∷◌, ap}
 use Rattle.vbr_set.specs.calls.Batches.{InTurn}
 
 module _ {M N A : Type 0} (of : M → N) (Calls : N → N → ℕ → A → Type 0) where

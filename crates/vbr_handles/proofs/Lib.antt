@@ -1,9 +1,10 @@
+mod Names
+mod WalkNames
 mod AsBox
 mod Bounds
 mod Owning
 mod Recast
 mod Opened
-mod FreshOpenings
 mod OpeningNumbers
 mod AllHandles
 mod AskingAll

@@ -1,7 +1,6 @@
 -- Members take their reserves one after the other.
-use Rattle.std.proofs.Common.{◌≡◌, ℕ, zero, suc, ◌+◌, ◌<◌, ◌≤◌, List, [], ◌∷◌, length, get_or}
-use Rattle.std.proofs.Common.{refl, sym, ap, subst, arith}
-use Rattle.std.specs.List.{AllZip}
+use Rattle.vbr_handles.proofs.Names.{◌≡◌, ℕ, zero, suc, ◌+◌, ◌<◌, ◌≤◌, List, [], ◌∷◌, length, refl, sym, ap, subst}
+use Rattle.vbr_handles.proofs.Names.{arith, get_or, AllZip}
 use Rattle.std.proofs.Math.ListN.{set}
 
 module _ {A : Type 0} (R : A → A → Type 0) where

@@ -1,35 +1,18 @@
 -- What an `Owner` owns, taken apart: nothing at null, and else a box.
 -- Assumes `Logic`.
-use mathlib.Core.Path.{◌≡◌, refl, subst}
-use Prim.Native.Nat.{ℕ}
-use mathlib.Core.List.{List, [], ◌∷◌, ◌++◌}
-use seplogic.Ra.Ura.{Ura}
-use mir.Raw.{raw as bare}
-use mir.Val.{Val, vnull, vstruct, vcons, vnil, of_list}
-use base.Fraction.{full_share}
-use base.Fml.{Fml}
-use base.Logic.{SProp, ent, via, snd∗, fst∗, never, guard, guard_i}
+use Rattle.atomic_table.proofs.Names.{◌≡◌, refl, subst, ℕ, List, [], ◌∷◌, ◌++◌, Ura, Val, vstruct, vcons, vnil, of_list}
+use Rattle.atomic_table.proofs.Names.{full_share, Fml, SProp, ent, via, snd∗, fst∗, guard_i, Logic, sem, ‵, given, ◌$◌}
+use Rattle.atomic_table.proofs.Names.{move, drop, use1, fsplit, fpick, feq_l, learn, fact_use, RattleType, Ptr}
+use Rattle.atomic_table.proofs.Names.{block_ptr, ptr_val}
+use Rattle.vbr_handles.proofs.WalkNames.{vnull, never, Item, lone, IsSend, null_ptr, in_a_block, handle_tells, Fits, El}
+use Rattle.vbr_handles.proofs.WalkNames.{R, el_x, word, box_owns, Option, None, Some, ghosts, bare, guard, Goal, Seq}
+use Rattle.vbr_handles.proofs.WalkNames.{lies_at, Testable, lies}
 use base.Shift.{Keyless}
-use types.Logic.{Logic, sem}
-use types.Kit.{Item, Goal, Seq, ‵, given, ◌$◌, move, drop, use1, fsplit, fpick, feq_l, learn}
-use contract.Monad.{fact_use}
-use denote.Memory.{lone}
-use denote.Param.Send.{IsSend}
-use denote.RattleType.{RattleType}
-use denote.RawPtr.{Ptr, block_ptr, null_ptr, ptr_val, lies_at, in_a_block, Testable}
-use Rattle.core.proofs.alloc.Calls.{handle_tells, Fits}
-use Rattle.core.proofs.mem.Param.{El, R, el_x}
-use Rattle.std.proofs.Crossing as heap
-use Rattle.std_alloc.proofs.SendSync.{lies}
-use Rattle.std_alloc.proofs.BoxSteps.Form.{word}
-use Rattle.std_alloc.specs.Box.Ownership.{box_owns}
 use Rattle.std.specs.Global.{Global}
-use Rattle.std.specs.declared.option.Option.{Option}
-use Rattle.std.specs.declared.option.Option.TheVariants.{None, Some}
-use Rattle.std_heap.specs.contracts.GlobalAllocator.TheImpl.{ghosts}
 use Rattle.std_heap.proofs.GlobalToken.{dealloc_token-Testable}
 use Rattle.vbr_handles.specs.Owners.{owner_owns}
 use Rattle.vbr_handles.proofs.AsBox.{E, OwnerRow}
+use Rattle.std.proofs.Crossing as heap
 
 abbrev pub nothing_word : Val → Val
 nothing_word hv = vstruct (vcons vnull (vcons hv vnil))

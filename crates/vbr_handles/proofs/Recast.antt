@@ -1,38 +1,21 @@
 -- A `&mut` is lent on as one to another type that owns the same in the same memory.
 -- Assumes `Logic`.
-use mathlib.Core.Path.{◌≡◌, refl, sym, subst}
-use Prim.Native.Nat.{ℕ}
-use mathlib.Core.List.{List, [], ◌∷◌}
-use seplogic.Ra.Ura.{Ura}
-use mir.Syntax.{Callee, Fn, Lifetime, named, erased, mut, ty_ref, ty_ptr, local, value_local, block, seq, assign, place}
-use mir.Syntax.{addr_of, deref, rv_opd, copy, return}
-use mir.Val.{Val, vptr}
-use base.Fraction.{full_share}
-use base.Logic.{SProp, ent, sep, ex, emp, id⊢}
-use base.Fml.{Lft, GName, Share, Fml, ftrue, flft, fex, fsep}
-use prog.Model.{Model}
-use prog.Wp.{Closed}
-use types.Logic.{Logic, sem}
-use types.Kit.{‵, ◌⊛◌, raw, some, at_ret, later, ◌$◌, ◌∵◌, !, qed, by, move, keep, use1, use2, split, join, fsplit}
-use types.Kit.{fsplit3, fjoin, suffices, frame, drop, group, updating, await, pick, now, show, done}
+use Rattle.atomic_table.proofs.Names.{◌≡◌, refl, sym, subst, ℕ, List, [], ◌∷◌, Ura, Fn, named, Val, vptr, full_share}
+use Rattle.atomic_table.proofs.Names.{SProp, ent, sep, emp, id⊢, Lft, Share, Fml, ftrue, flft, fsep, Model, Logic, sem}
+use Rattle.atomic_table.proofs.Names.{‵, ◌⊛◌, raw, some, at_ret, later, ◌$◌, ◌∵◌, !, qed, by, move, keep, use1, use2}
+use Rattle.atomic_table.proofs.Names.{split, join, fsplit, fsplit3, fjoin, suffices, drop, group, await, pick, done}
+use Rattle.atomic_table.proofs.Names.{stop, of_opd, first, blocks, exec, returns, enter, addr, alloc_all, pass_all}
+use Rattle.atomic_table.proofs.Names.{free_all, look_at, get, through, sets, env, sets_last, fact, Running, tables}
+use Rattle.atomic_table.proofs.Names.{RefMutOf, no, follows, mem, part_at, RattleType, owns, mut_vals, mut_Tells, plain}
+use Rattle.atomic_table.proofs.Names.{types_at, nothing, Clauses, closing, Meets, Stays, stay_dropped, walk_of, ends_at}
+use Rattle.atomic_table.proofs.Names.{Goes-spent_ref}
+use Rattle.vbr_handles.proofs.WalkNames.{Callee, seq, assign, place, rv_opd, copy, return, GName, Closed, frame, Part}
+use Rattle.vbr_handles.proofs.WalkNames.{lends_Part, lone, MutRef, mut_ref_to, Ended, says, after, proved, Lifetime}
+use Rattle.vbr_handles.proofs.WalkNames.{erased, mut, ty_ref, ty_ptr, local, value_local, block, addr_of, deref, ex}
+use Rattle.vbr_handles.proofs.WalkNames.{fex, updating, now, show, cell_raw, pointee, raw_all}
+use denote.Memory.{part_of}
 use types.Mut.{open_ref}
-use types.Run.{stop, of_opd, first, blocks, exec, returns, enter, addr}
-use types.ByLocal.{alloc_all, pass_all, free_all, look_at, get, through, sets, env, sets_last}
-use contract.Monad.{fact}
-use contract.Running.{Running, tables}
-use denote.Builtin.{One, RefMutOf}
-use denote.Exit.{no}
-use denote.Follow.{follows, Part, lends_Part}
-use denote.Memory.{mem, cell_raw, lone, part_at, part_of, pointee, raw_all}
-use denote.RattleType.{RattleType, owns}
-use denote.Ref.{MutRef, mut_vals, mut_Tells}
-use denote.Signature.{plain, mut_ref_to, types_at}
-use denote.Steps.{nothing}
-use denote.Triple.Clauses.{Clauses, Ended, closing}
-use denote.Triple.Spec.{Meets}
-use denote.Triple.Walked.{says, Stays, stay_dropped, walk_of, ends_at, Goes-spent_ref}
-use Rattle.core.proofs.alloc.Shapes.{after}
-use Rattle.atomic_table.proofs.Walks.{proved}
+use denote.Builtin.{One}
 
 module _ {M : Type 1} {𝓤 : Ura M} (𝓛 : Logic 𝓤) (ℓ : Lifetime) (κ : Lft) (q : Share) (b o : ℕ) (γ : GName)
     (S T : RattleType) (to : S.Denot → T.Denot) (of : T.Denot → S.Denot)

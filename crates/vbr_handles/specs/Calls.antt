@@ -7,6 +7,7 @@ use Rattle.vbr_at_table.specs.declared.refusal.Refusal.{Refusal}
 use Rattle.vbr_set.specs.calls.MapCalls.{InsertsEntry}
 use Rattle.vbr_set.specs.calls.Members.{Called}
 use Rattle.vbr_set.specs.calls.Members.{MemberView as Member}
+use Rattle.vbr_handles.specs.EmptyOrFull.{EmptyOrFull}
 use Rattle.vbr_handles.specs.Codes.{call_code, empty_code, held_code}
 use Rattle.vbr_handles.specs.ToppingUp.{CallsBySteps, has_added}
 
@@ -29,17 +30,11 @@ module _ (Calls : Member → Member → Result Bool Refusal → Type 0) where
 
   -- an empty handle stays so, and has a code of its own; a full one stays full, and its member made the call
   abbrev pub TellsBy : Option Member → Option Member → ℤ → Type 0
-  TellsBy None None code = code ≡ empty_code
-  TellsBy None (Some n) code = ⊥
-  TellsBy (Some m) None code = ⊥
-  TellsBy (Some m) (Some n) code = TellsAnswer m n code
+  TellsBy m n code = EmptyOrFull (code ≡ empty_code) (λ m n. TellsAnswer m n code) m n
 
   -- the same for a call that would take a slot, unless the member holds one
   abbrev pub TellsUnlessHeld : Option Member → Option Member → ℤ → Type 0
-  TellsUnlessHeld None None code = code ≡ empty_code
-  TellsUnlessHeld None (Some n) code = ⊥
-  TellsUnlessHeld (Some m) None code = ⊥
-  TellsUnlessHeld (Some m) (Some n) code = UnlessHeld m.aside (RefusesHeld m n code) (TellsAnswer m n code)
+  TellsUnlessHeld m n code = EmptyOrFull (code ≡ empty_code) (λ m n. UnlessHeld m.aside (RefusesHeld m n code) (TellsAnswer m n code)) m n
 
 -- the same for a remove of a set, and for a look-up of either
 abbrev pub TellsCall : Op → Option Member → Option Member → ℕ → ℕ → ℤ → Type 0

@@ -1,9 +1,10 @@
 -- What a handle answers that gives the slots of its pass back, and one that is closed.
-use Rattle.std.specs.Prelude.{◌≡◌, ℕ, ℤ, List, Option, None, Some}
+use Rattle.std.specs.Prelude.{◌≡◌, ℕ, ℤ, List, Option}
 use Rattle.vbr_slots.specs.views.Views.{PassView, TableView}
 use Rattle.vbr_at_table.specs.pools.GivingSlotsBack.{GivesSlotsBack}
 use Rattle.vbr_set.specs.reports.Closing.{Closes, MapCloses}
 use Rattle.vbr_set.specs.calls.Members.{MemberView as Member}
+use Rattle.vbr_handles.specs.EmptyOrFull.{EmptyOrFull}
 use Rattle.vbr_handles.specs.HeldSlots.{TellsLetGo}
 use Rattle.vbr_handles.specs.Listings.{Listing, as_entries, as_keys}
 use Rattle.vbr_handles.specs.Reports.{TellsCloseBy}
@@ -12,10 +13,7 @@ use Rattle.vbr_handles.specs.declared.report_numbers.ReportNumbers.{ReportNumber
 
 -- so many slots were given back: none by an empty handle, which stays so, and by a full one those of its pass
 abbrev pub TellsGivenBack : Option Member → Option Member → ℕ → Type 0
-TellsGivenBack None None count = count ≡ 0
-TellsGivenBack None (Some n) count = ⊥
-TellsGivenBack (Some m) None count = ⊥
-TellsGivenBack (Some m) (Some n) count = (n.set ≡ m.set) × (n.aside ≡ m.aside) × GivesSlotsBack m.pass n.pass count
+TellsGivenBack m n count = EmptyOrFull (count ≡ 0) (λ m n. (n.set ≡ m.set) × (n.aside ≡ m.aside) × GivesSlotsBack m.pass n.pass count) m n
 
 module _ {R I : Type 0} (L : Listing R I) (tells : TableView → List PassView → R → Type 0) where
   -- the member let go of the slot that it held, its pass gave its slots back, and then the handle was closed

@@ -13,6 +13,7 @@ use Rattle.vbr_set.specs.calls.Members.{MemberView as Member}
 use Rattle.vbr_set.specs.calls.RecordCalls.{TakesAside, InsertsHeldBy, insert_told, store_told}
 use Rattle.vbr_set.specs.declared.record_refusals.HeldRefusal.{HeldRefusal}
 use Rattle.vbr_set.specs.declared.record_refusals.HoldRefusal.{HoldRefusal}
+use Rattle.vbr_handles.specs.EmptyOrFull.{EmptyOrFull}
 use Rattle.vbr_handles.specs.AmpleBudgets.{budget_of}
 use Rattle.vbr_handles.specs.Codes.{empty_code, hold_code, held_call_code, let_go_code}
 use Rattle.vbr_handles.specs.ToppingUp.{TopsUpWhere, lacks_slots}
@@ -35,10 +36,7 @@ pub record HoldsAndWrites (m n : Member) (budget old new : ℕ) (code : ℤ) : T
 
 -- the same for a full handle; an empty one stays so, has a code of its own, and nothing is written
 abbrev pub TellsHold : Option Member → Option Member → ℕ → ℕ → ℕ → ℤ → Type 0
-TellsHold None None steps old new code = (code ≡ empty_code) × (new ≡ old)
-TellsHold None (Some n) steps old new code = ⊥
-TellsHold (Some m) None steps old new code = ⊥
-TellsHold (Some m) (Some n) steps old new code = HoldsAndWrites m n (budget_of m steps) old new code
+TellsHold m n steps old new code = EmptyOrFull ((code ≡ empty_code) × (new ≡ old)) (λ m n. HoldsAndWrites m n (budget_of m steps) old new code) m n
 
 -- ---- letting go
 
@@ -51,10 +49,7 @@ pub record LetsSlotGo (m n : Member) (code : ℤ) : Type 0 where
 
 -- the same for a full handle; an empty one stays so, and has a code of its own
 abbrev pub TellsLetGo : Option Member → Option Member → ℤ → Type 0
-TellsLetGo None None code = code ≡ empty_code
-TellsLetGo None (Some n) code = ⊥
-TellsLetGo (Some m) None code = ⊥
-TellsLetGo (Some m) (Some n) code = LetsSlotGo m n code
+TellsLetGo m n code = EmptyOrFull (code ≡ empty_code) (λ m n. LetsSlotGo m n code) m n
 
 -- ---- calls by a slot that is held
 
@@ -99,10 +94,7 @@ module _ (Does : Member → Member → Result Bool HeldRefusal → Type 0) where
 
   -- the same for a full handle; an empty one stays so, and has a code of its own
   abbrev pub TellsHeldBy : Option Member → Option Member → ℤ → Type 0
-  TellsHeldBy None None code = code ≡ empty_code
-  TellsHeldBy None (Some n) code = ⊥
-  TellsHeldBy (Some m) None code = ⊥
-  TellsHeldBy (Some m) (Some n) code = TellsHeldAnswer m n code
+  TellsHeldBy m n code = EmptyOrFull (code ≡ empty_code) (λ m n. TellsHeldAnswer m n code) m n
 
 -- for an insert of a key
 abbrev pub TellsInsertHeld : Option Member → Option Member → ℕ → ℕ → ℤ → Type 0
@@ -127,7 +119,4 @@ pub record PutsAndWrites (m n : Member) (key value budget old new : ℕ) (code :
 
 -- the same for a full handle; an empty one stays so, has a code of its own, and nothing is written
 abbrev pub TellsPutHeld : Option Member → Option Member → ℕ → ℕ → ℕ → ℕ → ℕ → ℤ → Type 0
-TellsPutHeld None None key value budget old new code = (code ≡ empty_code) × (new ≡ old)
-TellsPutHeld None (Some n) key value budget old new code = ⊥
-TellsPutHeld (Some m) None key value budget old new code = ⊥
-TellsPutHeld (Some m) (Some n) key value budget old new code = PutsAndWrites m n key value budget old new code
+TellsPutHeld m n key value budget old new code = EmptyOrFull ((code ≡ empty_code) × (new ≡ old)) (λ m n. PutsAndWrites m n key value budget old new code) m n

@@ -1,11 +1,12 @@
 -- What a call that names an entry by where it stands answers through a handle.
-use Rattle.std.specs.Prelude.{◌≡◌, ℕ, ℤ, Bool, Option, None, Some, Result, Ok}
+use Rattle.std.specs.Prelude.{◌≡◌, ℕ, ℤ, Bool, Option, Result, Ok}
 use Rattle.vbr_at_table.specs.declared.refusal.Refusal.{Refusal}
 use Rattle.vbr_list.specs.calls.Told.{is_yes}
 use Rattle.vbr_list.specs.declared.entries.Entry.{Entry}
 use Rattle.vbr_set.specs.calls.Members.{MemberView as Member}
 use Rattle.vbr_set.specs.calls.RecordCalls.{AsksStill, FindsEntry, FindsKey}
 use Rattle.vbr_set.specs.calls.RemovingExactly.{TakesExactly, TakesKeyExactly}
+use Rattle.vbr_handles.specs.EmptyOrFull.{EmptyOrFull}
 use Rattle.vbr_handles.specs.Calls.{TellsBy}
 use Rattle.vbr_handles.specs.Codes.{call_code, empty_code}
 use Rattle.vbr_handles.specs.ValueCalls.{GivesBy}
@@ -36,10 +37,7 @@ pub record TakesNamed (m n : Member) (key : ℕ) (entry : Entry) (budget : ℕ) 
 
 -- the same for a full handle; an empty one stays so, and has a code of its own
 abbrev pub TellsRemoveNamed : Option Member → Option Member → ℕ → Entry → ℕ → ℤ → Type 0
-TellsRemoveNamed None None key entry budget code = code ≡ empty_code
-TellsRemoveNamed None (Some n) key entry budget code = ⊥
-TellsRemoveNamed (Some m) None key entry budget code = ⊥
-TellsRemoveNamed (Some m) (Some n) key entry budget code = TakesNamed m n key entry budget code
+TellsRemoveNamed m n key entry budget code = EmptyOrFull (code ≡ empty_code) (λ m n. TakesNamed m n key entry budget code) m n
 
 -- the member asked whether the slot of an entry still shows its birth, and a slot that it holds it still holds
 pub record TellsWhetherStill (m n : Member) (entry : Entry) (code : ℤ) : Type 0 where
@@ -50,7 +48,4 @@ pub record TellsWhetherStill (m n : Member) (entry : Entry) (code : ℤ) : Type 
 
 -- the same for a full handle; an empty one stays so, and has a code of its own
 abbrev pub TellsIfStill : Option Member → Option Member → Entry → ℤ → Type 0
-TellsIfStill None None entry code = code ≡ empty_code
-TellsIfStill None (Some n) entry code = ⊥
-TellsIfStill (Some m) None entry code = ⊥
-TellsIfStill (Some m) (Some n) entry code = TellsWhetherStill m n entry code
+TellsIfStill m n entry code = EmptyOrFull (code ≡ empty_code) (λ m n. TellsWhetherStill m n entry code) m n

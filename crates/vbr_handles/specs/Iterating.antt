@@ -1,11 +1,12 @@
 -- What a call of an iteration answers through a handle.
-use Rattle.std.specs.Prelude.{◌≡◌, ◌==◌, ◌&&◌, not, ℕ, ℤ, Bool, true, false, Option, None, Some, Result}
+use Rattle.std.specs.Prelude.{◌≡◌, ◌==◌, ◌&&◌, not, ℕ, ℤ, Bool, true, false, Option, Result}
 use Rattle.vbr_list.specs.calls.Told.{is_yes}
 use Rattle.vbr_list.specs.declared.cursor.Cursor.{Cursor}
 use Rattle.vbr_list.specs.declared.entries.Entry.{Entry}
 use Rattle.vbr_at_table.specs.declared.refusal.Refusal.{Refusal}
 use Rattle.vbr_set.specs.calls.Iterating.{CallsNext, CallsNextEntry, CallsNextNamedEntry, CallsNextNamedKey}
 use Rattle.vbr_set.specs.calls.Members.{MemberView as Member}
+use Rattle.vbr_handles.specs.EmptyOrFull.{EmptyOrFull}
 use Rattle.vbr_handles.specs.Codes.{call_code, empty_code, reshaped_code}
 use Rattle.vbr_handles.specs.ValueCalls.{GivesAnswer}
 use Rattle.vbr_handles.specs.declared.cursor.HandleCursor.{HandleCursor}
@@ -38,10 +39,7 @@ module _ {A : Type 0} (Calls : Member → Member → Cursor → Cursor → Resul
 
   -- an empty handle stays so, has a code of its own, and leaves the cursor where it was; a full one refuses a walk that began on another opening, and else its member made the call
   abbrev pub TellsNextBy : Option Member → Option Member → HandleCursor → HandleCursor → A → A → ℤ → Type 0
-  TellsNextBy None None c d old new code = (code ≡ empty_code) × (new ≡ old) × (d ≡ c)
-  TellsNextBy None (Some n) c d old new code = ⊥
-  TellsNextBy (Some m) None c d old new code = ⊥
-  TellsNextBy (Some m) (Some n) c d old new code = IfElsewhere (began_elsewhere opening c) (RefusesReshaped m n c d old new code) (GoesOnHere m n c d old new code)
+  TellsNextBy m n c d old new code = EmptyOrFull ((code ≡ empty_code) × (new ≡ old) × (d ≡ c)) (λ m n. IfElsewhere (began_elsewhere opening c) (RefusesReshaped m n c d old new code) (GoesOnHere m n c d old new code)) m n
 
 -- the same for keys
 abbrev pub TellsNext : Option Member → Option Member → ℕ → HandleCursor → HandleCursor → ℕ → ℕ → ℕ → ℤ → Type 0

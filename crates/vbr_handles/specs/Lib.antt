@@ -2,6 +2,7 @@ pub mod MemberRows
 pub mod Owners
 pub mod Lent
 pub mod Passes
+pub mod EmptyOrFull
 pub mod Handles
 pub mod Listings
 pub mod ListedKeys

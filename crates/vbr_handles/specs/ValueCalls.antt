@@ -4,6 +4,7 @@ use Rattle.vbr_list.specs.calls.Told.{is_yes}
 use Rattle.vbr_at_table.specs.declared.refusal.Refusal.{Refusal}
 use Rattle.vbr_set.specs.calls.MapCalls.{AddsEntry, ExchangesEntry, GetsEntry, GetsOrInsertsEntry, PutsEntry, RemovesEntry, RemovesIf, ReplacesEntry}
 use Rattle.vbr_set.specs.calls.Members.{MemberView as Member}
+use Rattle.vbr_handles.specs.EmptyOrFull.{EmptyOrFull}
 use Rattle.vbr_handles.specs.AmpleBudgets.{budget_of}
 use Rattle.vbr_handles.specs.Codes.{call_code, empty_code, exchange_code}
 use Rattle.vbr_handles.specs.Calls.{RefusesHeld, UnlessHeld}
@@ -26,17 +27,11 @@ module _ {A : Type 0} (Calls : Member → Member → Result (Option A) Refusal �
 
   -- an empty handle stays so, has a code of its own, and nothing is written; a full one stays full, and its member made the call
   abbrev pub GivesAs : Option Member → Option Member → A → A → ℤ → Type 0
-  GivesAs None None old new code = (code ≡ empty_code) × (new ≡ old)
-  GivesAs None (Some n) old new code = ⊥
-  GivesAs (Some m) None old new code = ⊥
-  GivesAs (Some m) (Some n) old new code = GivesAnswer m n old new code
+  GivesAs m n old new code = EmptyOrFull ((code ≡ empty_code) × (new ≡ old)) (λ m n. GivesAnswer m n old new code) m n
 
   -- the same for a call that would take a slot, unless the member holds one; then nothing is written either
   abbrev pub GivesUnlessHeld : Option Member → Option Member → A → A → ℤ → Type 0
-  GivesUnlessHeld None None old new code = (code ≡ empty_code) × (new ≡ old)
-  GivesUnlessHeld None (Some n) old new code = ⊥
-  GivesUnlessHeld (Some m) None old new code = ⊥
-  GivesUnlessHeld (Some m) (Some n) old new code = UnlessHeld m.aside (RefusesHeld m n code × (new ≡ old)) (GivesAnswer m n old new code)
+  GivesUnlessHeld m n old new code = EmptyOrFull ((code ≡ empty_code) × (new ≡ old)) (λ m n. UnlessHeld m.aside (RefusesHeld m n code × (new ≡ old)) (GivesAnswer m n old new code)) m n
 
 -- the same if the code says whether something is given
 abbrev pub GivesBy : {A : Type 0} → (Member → Member → Result (Option A) Refusal → Type 0) → Option Member → Option Member → A → A → ℤ → Type 0

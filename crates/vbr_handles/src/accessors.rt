@@ -3,6 +3,7 @@
 ghost use Rattle.std.specs.Prelude.{◌≡◌};
 ghost use Rattle.vbr_handles.specs.Shown.{IsSeedOf, balance_shown, buckets_of, epoch_of_handle, last_epoch_of, slots_of};
 
+use crate::lent_member::return_if_empty;
 use crate::owner::Owner;
 use vbr_set::member::Member;
 use vbr_words::Nodes;
@@ -12,9 +13,7 @@ pub fn epoch<N: Nodes>(owner: &mut Owner<Member<N>>) -> u64
     ensures same { owner.new.member ≡ owner.old.member }
     ensures epoch { result ≡ epoch_of_handle owner.old.member }
 {
-    if owner.is_empty() {
-        return 0;
-    }
+    return_if_empty!(owner, 0);
     owner.member_mut().pass().epoch()
 }
 
@@ -23,9 +22,7 @@ pub fn last_epoch<N: Nodes>(owner: &mut Owner<Member<N>>) -> u64
     ensures same { owner.new.member ≡ owner.old.member }
     ensures last { result ≡ last_epoch_of owner.old.member }
 {
-    if owner.is_empty() {
-        return 0;
-    }
+    return_if_empty!(owner, 0);
     owner.member_mut().shape().last_epoch()
 }
 
@@ -34,9 +31,7 @@ pub fn slots<N: Nodes>(owner: &mut Owner<Member<N>>) -> u32
     ensures same { owner.new.member ≡ owner.old.member }
     ensures slots { result ≡ slots_of owner.old.member }
 {
-    if owner.is_empty() {
-        return 0;
-    }
+    return_if_empty!(owner, 0);
     owner.member_mut().shape().slots()
 }
 
@@ -45,9 +40,7 @@ pub fn buckets<N: Nodes>(owner: &mut Owner<Member<N>>) -> u32
     ensures same { owner.new.member ≡ owner.old.member }
     ensures buckets { result ≡ buckets_of owner.old.member }
 {
-    if owner.is_empty() {
-        return 0;
-    }
+    return_if_empty!(owner, 0);
     owner.member_mut().shape().buckets()
 }
 
@@ -56,9 +49,7 @@ pub fn seed<N: Nodes>(owner: &mut Owner<Member<N>>) -> u64
     ensures same { owner.new.member ≡ owner.old.member }
     ensures seed { IsSeedOf owner.old.member result }
 {
-    if owner.is_empty() {
-        return 0;
-    }
+    return_if_empty!(owner, 0);
     owner.member_mut().shape().seed().unwrap_or(0)
 }
 
@@ -67,8 +58,6 @@ pub fn balance<N: Nodes>(owner: &mut Owner<Member<N>>) -> i64
     ensures same { owner.new.member ≡ owner.old.member }
     ensures balance { result ≡ balance_shown owner.old.member }
 {
-    if owner.is_empty() {
-        return 0;
-    }
+    return_if_empty!(owner, 0);
     owner.member_mut().balance()
 }

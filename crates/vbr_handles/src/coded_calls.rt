@@ -24,12 +24,12 @@ pub mod records;
 pub mod reserving;
 pub mod topping_up;
 
-use crate::ample::budget_of;
 use crate::closing::CloseRefusal;
 use crate::closing_all::CloseAllRefusal;
-use crate::coded_calls::topping_up::{has_added, top_up_after};
+use crate::coded_calls::topping_up::{adding, has_added};
 use crate::handle_of::HandleOf;
 use crate::items::Listed;
+use crate::lent_member::return_if_empty;
 use crate::opening::{OpenRefusal, ShapeNumbers};
 use crate::owner::Owner;
 use crate::renewing_all::RenewAllRefusal;
@@ -108,17 +108,7 @@ pub fn open_many<N: Kind, I: Listed<N>, H: HandleOf<N>>(
 pub fn insert(owner: &mut Owner<Member<Keys>>, key: u64, steps: u32) -> i32
     ensures { TellsInsert owner.old.member owner.new.member key steps result }
 {
-    if owner.is_empty() {
-        return EMPTY;
-    }
-    let member = owner.member_mut();
-    if holds_slot(member) {
-        return HELD;
-    }
-    let budget = budget_of(member, steps);
-    let before = member.pass().steps();
-    let answer = member.insert(key, budget);
-    top_up_after(member, has_added(&answer), budget, before);
+    adding!(owner, steps, has_added; answer = insert(key));
     call_code(answer)
 }
 
@@ -126,9 +116,7 @@ pub fn insert(owner: &mut Owner<Member<Keys>>, key: u64, steps: u32) -> i32
 pub fn remove(owner: &mut Owner<Member<Keys>>, key: u64, budget: u32) -> i32
     ensures { TellsCall Remove owner.old.member owner.new.member key budget result }
 {
-    if owner.is_empty() {
-        return EMPTY;
-    }
+    return_if_empty!(owner, EMPTY);
     call_code(owner.member_mut().remove(key, budget))
 }
 
@@ -136,9 +124,7 @@ pub fn remove(owner: &mut Owner<Member<Keys>>, key: u64, budget: u32) -> i32
 pub fn has<N: Nodes>(owner: &mut Owner<Member<N>>, key: u64, budget: u32) -> i32
     ensures { TellsCall Has owner.old.member owner.new.member key budget result }
 {
-    if owner.is_empty() {
-        return EMPTY;
-    }
+    return_if_empty!(owner, EMPTY);
     call_code(owner.member_mut().has(key, budget))
 }
 

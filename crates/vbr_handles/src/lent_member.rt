@@ -10,6 +10,17 @@ use crate::owner::Owner;
 use vbr_set::member::Member;
 use vbr_words::Nodes;
 
+/// Lets the function in which it stands return this, if the owner owns no member.
+macro_rules! return_if_empty {
+    ($owner:expr, $none:expr) => {
+        if $owner.is_empty() {
+            return $none;
+        }
+    };
+}
+
+pub(crate) use return_if_empty;
+
 impl<M> Owner<M> {
     /// Whether it owns no member.
     pub fn is_empty(&mut self) -> bool

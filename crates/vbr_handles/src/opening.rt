@@ -144,6 +144,7 @@ fn are_empty<N: Nodes, H: HandleOf<N>>(handles: &mut [H]) -> bool
 }
 
 // An owner for each member.
+#[tactic(auto, using(crate::proofs::Opened::one_more_owned))]
 fn box_all<N: Nodes>(
     alloc: Global,
     members: Vec<Member<N>>,

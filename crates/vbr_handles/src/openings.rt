@@ -23,6 +23,7 @@ pub(crate) fn begin_anew<N: Nodes, H: HandleOf<N>>(handles: &mut [H])
 /// A law: a handle that was opened or renewed has another number, until that was done 2^32 - 1 times.
 /// So a call of a walk that isn't refused goes on in the set on which the walk began, if fewer openings
 /// and renewals than that lie between. It does nothing.
+#[tactic(auto, using(crate::proofs::OpeningNumbers::openings_differ))]
 pub fn openings_differ()
     ensures { OpeningsDiffer }
 {}

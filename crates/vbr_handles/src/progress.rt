@@ -5,6 +5,7 @@ ghost use Rattle.vbr_handles.specs.HandleProgress.{HandlesCallAmply};
 /// and the top-up of the handle's reserve after it are one such call, within the budget. So the law by
 /// which somebody is answered (`steps_are_answered` of `vbr_set`) also holds for calls in C, C++ and
 /// Rust.
+#[tactic(auto, using(crate::proofs::HandleProgress::call_amply))]
 pub fn handles_call_amply()
     ensures { HandlesCallAmply }
 {}

@@ -21,6 +21,7 @@ pub(crate) fn with_reserves<N: Nodes>(members: Vec<Member<N>>) -> Vec<Member<N>>
 }
 
 // Lets each member take its reserve.
+#[tactic(auto, using(crate::proofs::OpeningReserves::one_more_so, crate::proofs::OpeningReserves::all_so))]
 fn take_reserves<N: Nodes>(members: &mut [Member<N>])
     ensures { StartWithReserves members.old members.new }
 {

@@ -3,6 +3,7 @@
 ghost use Rattle.std.specs.Prelude.{◌≡◌, ◌≤◌};
 ghost use Rattle.vbr_handles.specs.Shown.{slots_of};
 
+use crate::lent_member::return_if_empty;
 use crate::owner::Owner;
 use vbr_set::member::Member;
 use vbr_words::Nodes;
@@ -11,9 +12,7 @@ use vbr_words::Nodes;
 pub fn restarts<N: Nodes>(owner: &mut Owner<Member<N>>) -> u64
     ensures same { owner.new.member ≡ owner.old.member }
 {
-    if owner.is_empty() {
-        return 0;
-    }
+    return_if_empty!(owner, 0);
     owner.member_mut().pass().tally().restarts
 }
 
@@ -21,9 +20,7 @@ pub fn restarts<N: Nodes>(owner: &mut Owner<Member<N>>) -> u64
 pub fn helps<N: Nodes>(owner: &mut Owner<Member<N>>) -> u64
     ensures same { owner.new.member ≡ owner.old.member }
 {
-    if owner.is_empty() {
-        return 0;
-    }
+    return_if_empty!(owner, 0);
     owner.member_mut().pass().tally().helps
 }
 
@@ -31,9 +28,7 @@ pub fn helps<N: Nodes>(owner: &mut Owner<Member<N>>) -> u64
 pub fn advances<N: Nodes>(owner: &mut Owner<Member<N>>) -> u64
     ensures same { owner.new.member ≡ owner.old.member }
 {
-    if owner.is_empty() {
-        return 0;
-    }
+    return_if_empty!(owner, 0);
     owner.member_mut().pass().tally().advances
 }
 
@@ -42,8 +37,6 @@ pub fn free_about<N: Nodes>(owner: &mut Owner<Member<N>>) -> u32
     ensures same { owner.new.member ≡ owner.old.member }
     ensures most { result ≤ slots_of owner.old.member }
 {
-    if owner.is_empty() {
-        return 0;
-    }
+    return_if_empty!(owner, 0);
     owner.member_mut().free_about()
 }

@@ -8,8 +8,9 @@ ghost use Rattle.vbr_handles.specs.Codes.{call_code, exchange_code};
 ghost use Rattle.vbr_handles.specs.ValueCalls.{TellsExchange, TellsFetchAdd, TellsGetEntry, TellsGetOrInsert, TellsPut, TellsRemoveEntry, TellsRemoveIf, TellsReplace, WritesGiven};
 
 use crate::ample::budget_of;
-use crate::coded_calls::topping_up::{has_added, has_stored_new, top_up_after};
+use crate::coded_calls::topping_up::{adding, has_added, has_stored_new};
 use crate::coded_calls::{EMPTY, HELD, NO, OTHER, YES, call_code, holds_slot};
+use crate::lent_member::return_if_empty;
 use crate::owner::Owner;
 use vbr_set::{MapMember, Outcome, Refusal};
 
@@ -17,17 +18,7 @@ use vbr_set::{MapMember, Outcome, Refusal};
 pub fn insert(owner: &mut Owner<MapMember>, key: u64, value: u64, steps: u32) -> i32
     ensures { TellsInsertEntry owner.old.member owner.new.member key value steps result }
 {
-    if owner.is_empty() {
-        return EMPTY;
-    }
-    let member = owner.member_mut();
-    if holds_slot(member) {
-        return HELD;
-    }
-    let budget = budget_of(member, steps);
-    let before = member.pass().steps();
-    let answer = member.insert(key, value, budget);
-    top_up_after(member, has_added(&answer), budget, before);
+    adding!(owner, steps, has_added; answer = insert(key, value));
     call_code(answer)
 }
 
@@ -36,9 +27,7 @@ pub fn remove(owner: &mut Owner<MapMember>, key: u64, value: &mut u64, budget: u
     ensures { TellsRemoveEntry owner.old.member owner.new.member key budget value.old value.new
         result }
 {
-    if owner.is_empty() {
-        return EMPTY;
-    }
+    return_if_empty!(owner, EMPTY);
     give(owner.member_mut().remove(key, budget), value)
 }
 
@@ -47,9 +36,7 @@ pub fn get(owner: &mut Owner<MapMember>, key: u64, value: &mut u64, budget: u32)
     ensures { TellsGetEntry owner.old.member owner.new.member key budget value.old value.new
         result }
 {
-    if owner.is_empty() {
-        return EMPTY;
-    }
+    return_if_empty!(owner, EMPTY);
     give(owner.member_mut().get(key, budget), value)
 }
 
@@ -65,9 +52,7 @@ pub fn replace(
     ensures { TellsReplace owner.old.member owner.new.member key value steps there.old there.new
         result }
 {
-    if owner.is_empty() {
-        return EMPTY;
-    }
+    return_if_empty!(owner, EMPTY);
     let member = owner.member_mut();
     if holds_slot(member) {
         return HELD;
@@ -82,17 +67,7 @@ pub fn put(owner: &mut Owner<MapMember>, key: u64, value: u64, there: &mut u64, 
     ensures { TellsPut owner.old.member owner.new.member key value steps there.old there.new
         result }
 {
-    if owner.is_empty() {
-        return EMPTY;
-    }
-    let member = owner.member_mut();
-    if holds_slot(member) {
-        return HELD;
-    }
-    let budget = budget_of(member, steps);
-    let before = member.pass().steps();
-    let answer = member.put(key, value, budget);
-    top_up_after(member, has_stored_new(&answer), budget, before);
+    adding!(owner, steps, has_stored_new; answer = put(key, value));
     give(answer, there)
 }
 
@@ -109,17 +84,7 @@ pub fn fetch_add(
     ensures { TellsFetchAdd owner.old.member owner.new.member key delta steps there.old there.new
         result }
 {
-    if owner.is_empty() {
-        return EMPTY;
-    }
-    let member = owner.member_mut();
-    if holds_slot(member) {
-        return HELD;
-    }
-    let budget = budget_of(member, steps);
-    let before = member.pass().steps();
-    let answer = member.fetch_add(key, delta, budget);
-    top_up_after(member, has_stored_new(&answer), budget, before);
+    adding!(owner, steps, has_stored_new; answer = fetch_add(key, delta));
     give(answer, there)
 }
 
@@ -135,17 +100,7 @@ pub fn get_or_insert(
     ensures { TellsGetOrInsert owner.old.member owner.new.member key value steps
         there.old there.new result }
 {
-    if owner.is_empty() {
-        return EMPTY;
-    }
-    let member = owner.member_mut();
-    if holds_slot(member) {
-        return HELD;
-    }
-    let budget = budget_of(member, steps);
-    let before = member.pass().steps();
-    let answer = member.get_or_insert(key, value, budget);
-    top_up_after(member, has_stored_new(&answer), budget, before);
+    adding!(owner, steps, has_stored_new; answer = get_or_insert(key, value));
     give(answer, there)
 }
 
@@ -162,9 +117,7 @@ pub fn compare_exchange(
     ensures { TellsExchange owner.old.member owner.new.member key expected value steps
         there.old there.new result }
 {
-    if owner.is_empty() {
-        return EMPTY;
-    }
+    return_if_empty!(owner, EMPTY);
     let member = owner.member_mut();
     if holds_slot(member) {
         return HELD;
@@ -188,9 +141,7 @@ pub fn remove_if(
     ensures { TellsRemoveIf owner.old.member owner.new.member key expected budget
         there.old there.new result }
 {
-    if owner.is_empty() {
-        return EMPTY;
-    }
+    return_if_empty!(owner, EMPTY);
     give_outcome(
         owner.member_mut().remove_if(key, expected, budget),
         expected,

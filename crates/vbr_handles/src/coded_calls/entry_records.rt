@@ -9,13 +9,15 @@ ghost use Rattle.vbr_handles.specs.Incarnations.{TellsGetNamed, TellsRemoveNamed
 ghost use Rattle.vbr_handles.specs.Iterating.{TellsNextNamed};
 ghost use Rattle.vbr_handles.specs.ValueCalls.{WritesGiven};
 
+use crate::coded_calls::iterating::next_here;
 use crate::coded_calls::records::{
     give_incarnation, give_named, has_added_held, held_call_code, make_room,
 };
 use crate::coded_calls::topping_up::top_up_after;
-use crate::coded_calls::{EMPTY, NO, RESHAPED, YES, call_code};
+use crate::coded_calls::{EMPTY, NO, YES, call_code};
 use crate::cursor::HandleCursor;
 use crate::incarnation::Incarnation;
+use crate::lent_member::return_if_empty;
 use crate::owner::Owner;
 use vbr_set::{HeldRefusal, MapMember, Refusal};
 
@@ -25,9 +27,7 @@ use vbr_set::{HeldRefusal, MapMember, Refusal};
 pub fn insert_held(owner: &mut Owner<MapMember>, key: u64, value: u64, budget: u32) -> i32
     ensures { TellsInsertEntryHeld owner.old.member owner.new.member key value budget result }
 {
-    if owner.is_empty() {
-        return EMPTY;
-    }
+    return_if_empty!(owner, EMPTY);
     let member = owner.member_mut();
     make_room(member);
     let before = member.pass().steps();
@@ -49,9 +49,7 @@ pub fn put_held(
     ensures { TellsPutHeld owner.old.member owner.new.member key value budget
         there.old there.new result }
 {
-    if owner.is_empty() {
-        return EMPTY;
-    }
+    return_if_empty!(owner, EMPTY);
     let member = owner.member_mut();
     make_room(member);
     let before = member.pass().steps();
@@ -72,9 +70,7 @@ pub fn replace_held(
     ensures { TellsReplaceHeld owner.old.member owner.new.member key (entry_named at.now) value
         budget result }
 {
-    if owner.is_empty() {
-        return EMPTY;
-    }
+    return_if_empty!(owner, EMPTY);
     let member = owner.member_mut();
     make_room(member);
     held_call_code(member.replace_held(key, &at.entry(), value, budget))
@@ -86,9 +82,7 @@ pub fn get_entry(owner: &mut Owner<MapMember>, key: u64, at: &mut Incarnation, b
     ensures { TellsGetNamed owner.old.member owner.new.member key budget
         (entry_named at.old) (entry_named at.new) result }
 {
-    if owner.is_empty() {
-        return EMPTY;
-    }
+    return_if_empty!(owner, EMPTY);
     give_incarnation(owner.member_mut().get_entry(key, budget), at)
 }
 
@@ -98,9 +92,7 @@ pub fn remove_entry(owner: &mut Owner<MapMember>, key: u64, at: &Incarnation, bu
     ensures { TellsRemoveNamed owner.old.member owner.new.member key (entry_named at.now) budget
         result }
 {
-    if owner.is_empty() {
-        return EMPTY;
-    }
+    return_if_empty!(owner, EMPTY);
     taken_code(owner.member_mut().remove_exactly(key, &at.entry(), budget))
 }
 
@@ -118,15 +110,7 @@ pub fn next_at(
         cursor.old cursor.new budget
         (key.old, entry_named at.old) (key.new, entry_named at.new) result }
 {
-    if owner.is_empty() {
-        return EMPTY;
-    }
-    if cursor.began_elsewhere(opening) {
-        return RESHAPED;
-    }
-    let mut place = cursor.place();
-    let answer = owner.member_mut().next_named(&mut place, budget);
-    cursor.come_to(place, opening);
+    next_here!(owner, opening, cursor, budget, answer = next_named);
     give_named(answer, key, at)
 }
 

@@ -4,6 +4,7 @@ ghost use Rattle.vbr_handles.specs.GivingSlotsBack.{ClosesWithoutSlots, TellsGiv
 
 use crate::coded_calls::records::let_go;
 use crate::items::Listed;
+use crate::lent_member::return_if_empty;
 use crate::owner::Owner;
 use crate::report_numbers::ReportNumbers;
 use std::alloc::Global;
@@ -16,9 +17,7 @@ use vbr_words::Nodes;
 pub fn give_slots_back<N: Nodes>(owner: &mut Owner<Member<N>>) -> u32
     ensures { TellsGivenBack owner.old.member owner.new.member result }
 {
-    if owner.is_empty() {
-        return 0;
-    }
+    return_if_empty!(owner, 0);
     owner.member_mut().give_slots_back()
 }
 

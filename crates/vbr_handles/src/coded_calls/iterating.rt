@@ -7,13 +7,29 @@ ghost use Rattle.vbr_handles.specs.Iterating.{TellsNext, TellsNextEntry};
 ghost use Rattle.vbr_handles.specs.ValueCalls.{WritesGiven};
 
 use crate::coded_calls::entries::give;
-use crate::coded_calls::{EMPTY, NO, RESHAPED, YES, call_code};
+use crate::coded_calls::{NO, YES, call_code};
 use crate::cursor::HandleCursor;
 use crate::entry::Entry;
 use crate::owner::Owner;
 use vbr_set::member::Member;
 use vbr_set::{MapMember, Refusal};
 use vbr_words::Nodes;
+
+/// Goes on with a walk at a cursor by the member of an owner of this opening. If there is none, or the walk began on
+/// another opening, the function returns the number that says so.
+macro_rules! next_here {
+    ($owner:expr, $opening:expr, $cursor:expr, $budget:expr, $answer:ident = $next:ident) => {
+        $crate::lent_member::return_if_empty!($owner, $crate::coded_calls::EMPTY);
+        if $cursor.began_elsewhere($opening) {
+            return $crate::coded_calls::RESHAPED;
+        }
+        let mut place = $cursor.place();
+        let $answer = $owner.member_mut().$next(&mut place, $budget);
+        $cursor.come_to(place, $opening);
+    };
+}
+
+pub(crate) use next_here;
 
 /// Finds the next key at a cursor by the member of a handle of this opening, and writes it.
 pub fn next_key<N: Nodes>(
@@ -27,15 +43,7 @@ pub fn next_key<N: Nodes>(
         cursor.old cursor.new budget
         key.old key.new result }
 {
-    if owner.is_empty() {
-        return EMPTY;
-    }
-    if cursor.began_elsewhere(opening) {
-        return RESHAPED;
-    }
-    let mut place = cursor.place();
-    let answer = owner.member_mut().next_key(&mut place, budget);
-    cursor.come_to(place, opening);
+    next_here!(owner, opening, cursor, budget, answer = next_key);
     give(answer, key)
 }
 
@@ -52,15 +60,7 @@ pub fn next_entry(
         cursor.old cursor.new budget
         (entry.old.key, entry.old.value) (entry.new.key, entry.new.value) result }
 {
-    if owner.is_empty() {
-        return EMPTY;
-    }
-    if cursor.began_elsewhere(opening) {
-        return RESHAPED;
-    }
-    let mut place = cursor.place();
-    let answer = owner.member_mut().next_entry(&mut place, budget);
-    cursor.come_to(place, opening);
+    next_here!(owner, opening, cursor, budget, answer = next_entry);
     give_entry(answer, entry)
 }
 

@@ -10,10 +10,12 @@ ghost use Rattle.vbr_handles.specs.Iterating.{TellsNextNamedKey};
 ghost use Rattle.vbr_handles.specs.ValueCalls.{WritesGiven};
 
 use crate::ample::budget_of;
+use crate::coded_calls::iterating::next_here;
 use crate::coded_calls::topping_up::top_up_after;
-use crate::coded_calls::{EMPTY, HELD, NO, OUT_OF_STEPS, RESHAPED, YES, call_code};
+use crate::coded_calls::{EMPTY, HELD, NO, OUT_OF_STEPS, YES, call_code};
 use crate::cursor::HandleCursor;
 use crate::incarnation::Incarnation;
+use crate::lent_member::return_if_empty;
 use crate::owner::Owner;
 use vbr_list::Entry;
 use vbr_set::member::Member;
@@ -25,9 +27,7 @@ use vbr_words::{Keys, Nodes};
 pub fn hold<N: Nodes>(owner: &mut Owner<Member<N>>, slot: &mut u32, steps: u32) -> i32
     ensures { TellsHold owner.old.member owner.new.member steps slot.old slot.new result }
 {
-    if owner.is_empty() {
-        return EMPTY;
-    }
+    return_if_empty!(owner, EMPTY);
     let member = owner.member_mut();
     let budget = budget_of(member, steps);
     give_slot(member.hold(budget), slot)
@@ -37,9 +37,7 @@ pub fn hold<N: Nodes>(owner: &mut Owner<Member<N>>, slot: &mut u32, steps: u32) 
 pub fn let_go<N: Nodes>(owner: &mut Owner<Member<N>>) -> i32
     ensures { TellsLetGo owner.old.member owner.new.member result }
 {
-    if owner.is_empty() {
-        return EMPTY;
-    }
+    return_if_empty!(owner, EMPTY);
     let_go_code(owner.member_mut().let_go())
 }
 
@@ -51,9 +49,7 @@ pub fn let_go<N: Nodes>(owner: &mut Owner<Member<N>>) -> i32
 pub fn insert_held(owner: &mut Owner<Member<Keys>>, key: u64, budget: u32) -> i32
     ensures { TellsInsertHeld owner.old.member owner.new.member key budget result }
 {
-    if owner.is_empty() {
-        return EMPTY;
-    }
+    return_if_empty!(owner, EMPTY);
     let member = owner.member_mut();
     make_room(member);
     let before = member.pass().steps();
@@ -72,9 +68,7 @@ pub fn get_entry(
     ensures { TellsHasNamed owner.old.member owner.new.member key budget
         (entry_named at.old) (entry_named at.new) result }
 {
-    if owner.is_empty() {
-        return EMPTY;
-    }
+    return_if_empty!(owner, EMPTY);
     give_incarnation(owner.member_mut().get_entry(key, budget), at)
 }
 
@@ -84,9 +78,7 @@ pub fn remove_entry(owner: &mut Owner<Member<Keys>>, key: u64, at: &Incarnation,
     ensures { TellsRemoveKeyNamed owner.old.member owner.new.member key (entry_named at.now) budget
         result }
 {
-    if owner.is_empty() {
-        return EMPTY;
-    }
+    return_if_empty!(owner, EMPTY);
     call_code(owner.member_mut().remove_exactly(key, &at.entry(), budget))
 }
 
@@ -104,15 +96,7 @@ pub fn next_at(
         cursor.old cursor.new budget
         (key.old, entry_named at.old) (key.new, entry_named at.new) result }
 {
-    if owner.is_empty() {
-        return EMPTY;
-    }
-    if cursor.began_elsewhere(opening) {
-        return RESHAPED;
-    }
-    let mut place = cursor.place();
-    let answer = owner.member_mut().next_named(&mut place, budget);
-    cursor.come_to(place, opening);
+    next_here!(owner, opening, cursor, budget, answer = next_named);
     give_named(answer, key, at)
 }
 
@@ -121,9 +105,7 @@ pub fn next_at(
 pub fn is_still<N: Nodes>(owner: &mut Owner<Member<N>>, at: &Incarnation) -> i32
     ensures { TellsIfStill owner.old.member owner.new.member (entry_named at.now) result }
 {
-    if owner.is_empty() {
-        return EMPTY;
-    }
+    return_if_empty!(owner, EMPTY);
     call_code(Ok(owner.member_mut().is_still(&at.entry())))
 }
 

@@ -1,6 +1,7 @@
 //! Taking slots in reserve for a handle's pass.
 ghost use Rattle.vbr_handles.specs.Reserving.{TellsReserve};
 
+use crate::lent_member::return_if_empty;
 use crate::owner::Owner;
 use vbr_set::member::Member;
 use vbr_words::Nodes;
@@ -10,8 +11,6 @@ use vbr_words::Nodes;
 pub fn reserve<N: Nodes>(owner: &mut Owner<Member<N>>, wanted: u32) -> u32
     ensures { TellsReserve owner.old.member owner.new.member wanted result }
 {
-    if owner.is_empty() {
-        return 0;
-    }
+    return_if_empty!(owner, 0);
     owner.member_mut().reserve(wanted)
 }

@@ -15,6 +15,24 @@ pub const MOST: u32 = 32;
 /// this part of it is lacking, it isn't topped up.
 pub const PARTS: u32 = 8;
 
+/// Makes a call, by the member of an owner, that may add a key, and then tops the reserve of the handle up. If there is no
+/// member, or it holds a slot, the function returns the number that says so.
+macro_rules! adding {
+    ($owner:expr, $steps:expr, $has_added:ident; $answer:ident = $call:ident($($given:expr),*)) => {
+        $crate::lent_member::return_if_empty!($owner, $crate::coded_calls::EMPTY);
+        let member = $owner.member_mut();
+        if $crate::coded_calls::holds_slot(member) {
+            return $crate::coded_calls::HELD;
+        }
+        let budget = $crate::ample::budget_of(member, $steps);
+        let before = member.pass().steps();
+        let $answer = member.$call($($given,)* budget);
+        $crate::coded_calls::topping_up::top_up_after(member, $has_added(&$answer), budget, before);
+    };
+}
+
+pub(crate) use adding;
+
 /// Tops the reserve of a member up after a call that added a key, if more than an eighth of it is
 /// lacking. It makes as many tries as slots are then lacking at the least, or as many as the call left
 /// steps of its budget, if these are fewer. The pass had counted `before` steps when the call began.

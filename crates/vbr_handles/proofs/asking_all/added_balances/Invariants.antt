@@ -1,6 +1,4 @@
-use Rattle.std.proofs.Common.{◌≡◌, drop}
-use Rattle.vbr_set.specs.members.BalanceSums.{added_balances}
-use Rattle.vbr_handles.specs.AllHandles.{members_by}
+use Rattle.vbr_handles.proofs.Names.{◌≡◌, drop, added_balances, members_by}
 use Rattle.vbr_handles.proofs.asking_all.added_balances.Given as goal
 
 -- the handles are as they were, and the balances of those from here on are added up

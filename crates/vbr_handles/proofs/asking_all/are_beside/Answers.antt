@@ -1,6 +1,4 @@
-use Rattle.std.proofs.Common.{◌∷◌, slice_index_or, sym, subst}
-use Rattle.std.specs.Prelude.{IsSome}
-use Rattle.std.proofs.lemmas.List.Elements.{All-head, All-rest, All-same}
+use Rattle.vbr_handles.proofs.Names.{◌∷◌, slice_index_or, sym, subst, IsSome, All-head, All-rest, All-same}
 use Rattle.vbr_handles.proofs.asking_all.are_beside.Goals as goal
 
 pub is_beside-requires-clause-one : goal.is_beside-requires-clause-one

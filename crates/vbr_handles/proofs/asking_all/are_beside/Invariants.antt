@@ -1,4 +1,4 @@
-use Rattle.std.proofs.Common.{◌≡◌}
+use Rattle.vbr_handles.proofs.Names.{◌≡◌}
 use Rattle.vbr_handles.proofs.asking_all.are_beside.Given as goal
 
 -- the handles are as they were

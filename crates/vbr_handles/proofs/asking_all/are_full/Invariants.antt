@@ -1,5 +1,4 @@
-use Rattle.std.proofs.Common.{◌≡◌, ℕ, ◌<◌, slice_index_or}
-use Rattle.std.specs.Prelude.{IsSome}
+use Rattle.vbr_handles.proofs.Names.{◌≡◌, ℕ, ◌<◌, slice_index_or, IsSome}
 use Rattle.vbr_handles.proofs.asking_all.are_full.Given as goal
 
 -- the handles are as they were, and those so far are full

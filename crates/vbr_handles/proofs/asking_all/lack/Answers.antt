@@ -1,7 +1,5 @@
-use Rattle.std.proofs.Common.{rules, sym, subst}
-use Rattle.std.proofs.lemmas.Bool.{eqb-false, eqb-true, ltb-false, ltb-true, not-false, not-true}
-use Rattle.vbr_handles.specs.AllHandles.{members_by}
-use Rattle.vbr_handles.specs.AskingAll.{Lack}
+use Rattle.vbr_handles.proofs.Names.{rules, sym, subst, eqb-true, ltb-false, ltb-true, members_by, Lack, eqb-false}
+use Rattle.vbr_handles.proofs.Names.{not-false, not-true}
 use Rattle.vbr_handles.proofs.AskingAll.{counted, enough, few_lack, just_all, lacks_few, not_all, too_few}
 use Rattle.vbr_handles.proofs.asking_all.lack.Goals as goal
 

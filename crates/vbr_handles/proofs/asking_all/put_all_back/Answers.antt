@@ -1,7 +1,4 @@
-use Rattle.std.proofs.Common.{ap, length, ◌∙◌, arith}
-use Rattle.std.specs.Prelude.{Some}
-use Rattle.std.proofs.lemmas.List.{length-set}
-use Rattle.std.proofs.Math.Seq.{map-set_same}
+use Rattle.vbr_handles.proofs.Names.{ap, length, ◌∙◌, arith, Some, length-set, map-set_same}
 use Rattle.vbr_handles.proofs.AllHandles.{one_more}
 use Rattle.vbr_handles.proofs.asking_all.put_all_back.Goals as goal
 

@@ -1,6 +1,4 @@
-use Rattle.std.proofs.Common.{◌≡◌, ◌+◌, ◌++◌, map, take, length}
-use Rattle.std.specs.Prelude.{Some}
-use Rattle.std.specs.Vec.Iter.{into_iter_items}
+use Rattle.vbr_handles.proofs.Names.{◌≡◌, ◌+◌, ◌++◌, map, take, length, Some, into_iter_items}
 use Rattle.vbr_handles.proofs.asking_all.put_all_back.Given as goal
 
 -- the handles so far have the members so far, there is a member and a block for each that is left, and all have

@@ -1,7 +1,5 @@
-use Rattle.std.proofs.Common.{◌∷◌, [], length, ap, ◌∙◌, arith}
-use Rattle.std.proofs.lemmas.Bool.{false≢true}
-use Rattle.std.proofs.lemmas.List.{length-append, length-set}
-use Rattle.std.proofs.Math.Seq.{map-set_same}
+use Rattle.vbr_handles.proofs.Names.{◌∷◌, [], length, ap, ◌∙◌, arith, false≢true, length-set, map-set_same}
+use Rattle.vbr_handles.proofs.Names.{length-append}
 use Rattle.vbr_handles.proofs.AskingAll.{here_full, one_out, still_full}
 use Rattle.vbr_handles.proofs.asking_all.take_all_out.Goals as goal
 

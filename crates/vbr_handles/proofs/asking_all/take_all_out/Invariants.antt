@@ -1,6 +1,5 @@
-use Rattle.std.proofs.Common.{◌≡◌, ◌≤◌, ◌++◌, map, drop, length}
+use Rattle.vbr_handles.proofs.Names.{◌≡◌, ◌≤◌, ◌++◌, map, drop, length, AreFull, members_by}
 use Rattle.std.specs.Vec.{vec_capacity}
-use Rattle.vbr_handles.specs.AllHandles.{AreFull, members_by}
 use Rattle.vbr_handles.proofs.asking_all.take_all_out.Given as goal
 
 -- those so far have given their members, the others have theirs, and all have their budgets

@@ -1,6 +1,4 @@
-use Rattle.std.proofs.Common.{pos, ◌<ℤ◌, rules}
-use Rattle.vbr_set.specs.members.BalanceSums.{added_balances}
-use Rattle.vbr_handles.specs.AllHandles.{members_by}
+use Rattle.vbr_handles.proofs.Names.{pos, ◌<ℤ◌, rules, added_balances, members_by}
 use Rattle.vbr_handles.proofs.AskingAll.{tells_no_room}
 use Rattle.vbr_handles.proofs.asking_all.without_memory.Goals as goal
 

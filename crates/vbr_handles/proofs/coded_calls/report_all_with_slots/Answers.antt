@@ -1,4 +1,4 @@
-use Rattle.std.proofs.Common.{rules}
+use Rattle.vbr_handles.proofs.Names.{rules}
 use Rattle.vbr_handles.proofs.AskingAll.{slots_fit}
 use Rattle.vbr_handles.proofs.coded_calls.report_all_with_slots.Goals as goal
 

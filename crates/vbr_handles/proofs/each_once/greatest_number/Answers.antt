@@ -1,24 +1,19 @@
-use Rattle.std.proofs.Common.{◌<◌, length, sym, ap, ◌∙◌, subst, arith}
-use Rattle.std.proofs.lemmas.List.{take_all}
-use Rattle.vbr_handles.specs.EachOnce.{borne}
-use Rattle.vbr_handles.proofs.EachOnce.{number_there, same_again, still_none}
-use Rattle.vbr_handles.proofs.each_once.greatest_number.Goals as goal
+use Rattle.vbr_handles.proofs.Names.{length, sym, ap, ◌∙◌, arith, borne, take_all}
+use Rattle.vbr_handles.proofs.EachOnce.{same_again, still_none}
 use Rattle.vbr_handles.proofs.each_once.greatest_number.Goals.{then-number-greatest, else-number-greatest}
+use Rattle.vbr_handles.proofs.each_once.greatest_number.Goals as goal
 
 pub loop-i-preserved : goal.loop-i-preserved
 loop-i-preserved g c =
     let member = g.H.HandleOf.member in
     let handles = c.args.handles.now in
     let i = c.loop-i.invariant in
-    let within : c.loop-i.i < length handles =
-    subst (λ hs. c.loop-i.i < length hs) i.same (omega arith) in
-    let there = number_there member handles c.loop-i.handles c.loop-i.i c.index-handles-i.result c.number-number.result
-    i.same c.number-number.ensures.0 in
     record {
       same = same_again member handles c.loop-i.handles c.loop-i.i c.index-handles-i.result c.number-number.new.self
           i.same c.number-number.ensures.1;
       none = λ who above.
-          still_none member handles c.loop-i.i c.index-handles-i.result c.number-number.result within there who
+          still_none member handles c.loop-i.handles i.same c.loop-i.i c.index-handles-i.result c.number-number.result
+          (omega arith) c.number-number.ensures.0 who
           (elim c.if-number-greatest.branch [
             | then-number-greatest w ↦ omega arith
             | else-number-greatest w ↦ omega arith

@@ -1,5 +1,4 @@
-use Rattle.std.proofs.Common.{◌≡◌, ℕ, ◌<◌, take}
-use Rattle.vbr_handles.specs.EachOnce.{borne}
+use Rattle.vbr_handles.proofs.Names.{◌≡◌, ℕ, ◌<◌, take, borne}
 use Rattle.vbr_handles.proofs.each_once.greatest_number.Given as goal
 
 -- the handles are as they were, and no number above the greatest is that of one so far

@@ -1,5 +1,4 @@
-use Rattle.std.proofs.Common.{◌≤◌, subst, arith}
-use Rattle.vbr_handles.specs.EachOnce.{borne}
+use Rattle.vbr_handles.proofs.Names.{◌≤◌, subst, arith, borne}
 use Rattle.vbr_handles.proofs.EachOnce.{none_twice}
 use Rattle.vbr_handles.proofs.each_once.has_twice.Goals as goal
 

@@ -1,5 +1,4 @@
-use Rattle.std.proofs.Common.{◌≡◌, ℕ, ◌/◌, ◌<◌, ◌≤◌}
-use Rattle.vbr_handles.specs.EachOnce.{borne}
+use Rattle.vbr_handles.proofs.Names.{◌≡◌, ℕ, ◌/◌, ◌<◌, ◌≤◌, borne}
 use Rattle.vbr_handles.proofs.each_once.has_twice.Given as goal
 
 -- the handles are as they were, and no pass of the parts so far comes twice

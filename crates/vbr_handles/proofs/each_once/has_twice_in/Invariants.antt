@@ -1,4 +1,4 @@
-use Rattle.std.proofs.Common.{◌≡◌, length}
+use Rattle.vbr_handles.proofs.Names.{◌≡◌, length}
 use Rattle.vbr_handles.proofs.EachOnce.{Marks}
 use Rattle.vbr_handles.proofs.each_once.has_twice_in.Given as goal
 

@@ -1,6 +1,5 @@
-use Rattle.std.proofs.Common.{rules, List, ℕ, ◌≡◌, ◌+◌, ◌-◌, ◌<◌, slice_index_or, sym, subst, ◌∙◌, arith}
-use Rattle.std.proofs.lemmas.List.{get_or_default}
-use Rattle.std.specs.List.Sorted.{IsStrictlyIncreasing}
+use Rattle.vbr_handles.proofs.Names.{rules, List, ℕ, ◌≡◌, ◌+◌, ◌-◌, ◌<◌, slice_index_or, sym, subst, ◌∙◌, arith}
+use Rattle.vbr_handles.proofs.Names.{IsStrictlyIncreasing, get_or_default}
 use Rattle.vbr_handles.proofs.EntryKeys.{ascending, below_next}
 use Rattle.vbr_handles.proofs.items.ascend.Goals as goal
 

@@ -1,4 +1,4 @@
-use Rattle.std.proofs.Common.{ℕ, ◌+◌, ◌<◌, slice_index_or}
+use Rattle.vbr_handles.proofs.Names.{ℕ, ◌+◌, ◌<◌, slice_index_or}
 use Rattle.vbr_handles.proofs.items.ascend.Given as goal
 
 -- the keys so far ascend

@@ -1,4 +1,4 @@
-use Rattle.std.proofs.Common.{◌≡◌, ℕ, ◌<◌, slice_index_or, None}
+use Rattle.vbr_handles.proofs.Names.{◌≡◌, ℕ, ◌<◌, slice_index_or, None}
 use Rattle.vbr_handles.proofs.opening.are_empty.Given as goal
 
 -- the handles are as they were, and those so far are empty

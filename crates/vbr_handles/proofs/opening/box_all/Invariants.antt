@@ -1,5 +1,4 @@
-use Rattle.std.proofs.Common.{◌≡◌, ◌++◌, map, Some}
-use Rattle.std.specs.Vec.Iter.{into_iter_items}
+use Rattle.vbr_handles.proofs.Names.{◌≡◌, ◌++◌, map, Some, into_iter_items}
 use Rattle.vbr_handles.proofs.opening.box_all.Given as goal
 
 -- the owners so far have the members so far

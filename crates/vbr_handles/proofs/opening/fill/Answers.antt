@@ -1,6 +1,4 @@
-use Rattle.std.proofs.Common.{ap, length, ◌∙◌, arith}
-use Rattle.std.proofs.lemmas.List.{length-set}
-use Rattle.std.proofs.Math.Seq.{map-set_same}
+use Rattle.vbr_handles.proofs.Names.{ap, length, ◌∙◌, arith, length-set, map-set_same}
 use Rattle.vbr_handles.proofs.AllHandles.{one_more}
 use Rattle.vbr_handles.proofs.opening.fill.Goals as goal
 

@@ -1,5 +1,4 @@
-use Rattle.std.proofs.Common.{◌≡◌, ◌+◌, ◌++◌, map, take, length}
-use Rattle.std.specs.Vec.Iter.{into_iter_items}
+use Rattle.vbr_handles.proofs.Names.{◌≡◌, ◌+◌, ◌++◌, map, take, length, into_iter_items}
 use Rattle.vbr_handles.proofs.opening.fill.Given as goal
 
 -- the handles so far have the members of the owners so far, there is an owner for each that is left, and all have

@@ -1,4 +1,4 @@
-use Rattle.std.proofs.Common.{rules}
+use Rattle.vbr_handles.proofs.Names.{rules}
 use Rattle.vbr_handles.proofs.Opened.{as_many, opened_by, still_opened}
 use Rattle.vbr_handles.proofs.opening.open_up_to.Goals as goal
 

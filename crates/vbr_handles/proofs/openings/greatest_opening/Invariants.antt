@@ -1,4 +1,4 @@
-use Rattle.std.proofs.Common.{◌≡◌, drop, map}
+use Rattle.vbr_handles.proofs.Names.{◌≡◌, drop, map}
 use Rattle.vbr_handles.specs.Openings.{greatest_of}
 use Rattle.vbr_handles.proofs.openings.greatest_opening.Given as goal
 

@@ -1,5 +1,5 @@
+use Rattle.vbr_handles.proofs.Names.{members_by}
 use Rattle.vbr_set.specs.renewals.RenewingAll.{HasNoRoom, HasRoom}
-use Rattle.vbr_handles.specs.AllHandles.{members_by}
 use Rattle.vbr_handles.proofs.AskingAll.{is_of_shape, of_as_many_slots, renewed, stays, still_renewed}
 use Rattle.vbr_handles.proofs.renewing_all.renew_all.Goals as goal
 

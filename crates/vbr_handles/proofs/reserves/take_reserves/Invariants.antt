@@ -1,4 +1,4 @@
-use Rattle.vbr_handles.specs.OpeningReserves.{StartsWithReserve}
+use Rattle.vbr_handles.proofs.Names.{StartsWithReserve}
 use Rattle.vbr_handles.proofs.OpeningReserves.{SoFar}
 use Rattle.vbr_handles.proofs.reserves.take_reserves.Given as goal
 

@@ -1,47 +1,23 @@
 -- `into_box` hands what the parts own to `from_raw`.
-use mathlib.Core.Path.{◌≡◌, refl, sym, subst, ap}
-use mathlib.Core.List.{List, [], ◌∷◌, ◌++◌}
-use lib.Dec.{T}
-use seplogic.Ra.Ura.{Ura}
-use mir.Syntax.{Fn, Body, place, copy, assign, rv_opd, seq, return}
-use mir.MapTy.{inst_fn}
-use mir.Val.{Val, vptr, has_ty, WT}
-use base.Logic.{SProp, ent, id⊢}
-use base.Fml.{ftrue, fsep, flft}
-use contract.BorrowLft.{◌⊑◌}
-use prog.Memory.{Memory}
-use prog.Routine.{Routine}
-use prog.Wp.{WpFn, Tables}
-use types.Logic.{Logic}
-use contract.Monad.{Fun, fact}
-use contract.Running.{tables, tables_of}
-use sound.WpLaws.{fm_of, WpFn-mono}
-use types.Kit.{Item, at_ret, ‵, raw, ◌⊛◌, some, later, ◌$◌, ◌∵◌, !, qed, by, move, drop, use1, join, split, split3}
-use types.Kit.{pick, rewrite, fsplit, fjoin, feq_i, suffices, await, done}
-use types.Part.{whole, sub}
-use types.Run.{stop, fld, no_more, and_then, of_opd, returns, enter, first, blocks, exec}
-use types.ByLocal.{alloc_all, pass_all, free_all, look_at, get, get_in, sets, lands_last, env}
-use denote.RattleType.{RattleType}
-use denote.Exit.{no}
-use denote.RawPtr.{block_ptr}
-use denote.Signature.{plain}
-use denote.Steps.{heard, nothing, only}
-use denote.Triple.Call.{calls_at_last}
-use denote.Triple.Clauses.{Ended, Clauses}
-use denote.Triple.Spec.{triple_of}
-use denote.Triple.Statement.{Triple, Contract}
-use denote.Triple.Table.{entered}
-use denote.Triple.Walked.{says, Stays, stay_dropped, walk_of, ends_at, walk_Meets}
-use Rattle.core.proofs.alloc.Calls.{token, Goes-blank}
-use Rattle.std_alloc.specs.Box.Ownership.{box_owns}
-use Rattle.std_alloc.proofs.BoxSteps.Form.{Bx, D, R, P, B, args, box_ty, word, box_typed}
-use Rattle.std_alloc.proofs.BoxSteps.Steps.{box_out, box_in}
+use Rattle.atomic_table.proofs.Names.{◌≡◌, refl, sym, subst, ap, List, [], ◌∷◌, ◌++◌, Ura, Fn, inst_fn, Val, vptr, WT}
+use Rattle.atomic_table.proofs.Names.{SProp, ent, id⊢, ftrue, fsep, flft, ◌⊑◌, WpFn, Logic, fact, tables, WpFn-mono}
+use Rattle.atomic_table.proofs.Names.{at_ret, ‵, raw, ◌⊛◌, some, later, ◌$◌, ◌∵◌, !, qed, by, move, drop, use1, join}
+use Rattle.atomic_table.proofs.Names.{split, split3, pick, rewrite, fsplit, fjoin, feq_i, suffices, await, done, whole}
+use Rattle.atomic_table.proofs.Names.{sub, stop, fld, no_more, and_then, of_opd, returns, enter, first, blocks, exec}
+use Rattle.atomic_table.proofs.Names.{alloc_all, pass_all, free_all, look_at, get, get_in, sets, lands_last, env}
+use Rattle.atomic_table.proofs.Names.{RattleType, no, block_ptr, plain, heard, nothing, only, calls_at_last, Clauses}
+use Rattle.atomic_table.proofs.Names.{triple_of, entered, Stays, stay_dropped, walk_of, ends_at, walk_Meets}
+use Rattle.vbr_handles.proofs.WalkNames.{T, place, copy, assign, rv_opd, seq, return, has_ty, Memory, Routine, Tables}
+use Rattle.vbr_handles.proofs.WalkNames.{Fun, fm_of, Item, Ended, Triple, Contract, says, token, Goes-blank, box_owns}
+use Rattle.vbr_handles.proofs.WalkNames.{Bx, D, P, B, word, box_typed, box_out, box_in, Body, box_ty}
+use contract.Running.{tables_of}
+use Rattle.std_alloc.proofs.BoxSteps.Form.{R, args}
+use Rattle.vbr_handles.specs.contracts.box_parts.Parts.into_box.Key.{name as #self}
 use Rattle.vbr_handles.specs.contracts.box_parts.Parts as parts
 use Rattle.std_alloc.specs.contracts.boxed.Box.from_raw as Fr
 use Rattle.std_alloc.proofs.boxed.Box.from_raw.Symbol as raw_sym
 use Rattle.std_alloc.proofs.boxed.Box.from_raw.Met as raw_met
 use Rattle.vbr_handles.specs.contracts.box_parts.Parts.into_box as F
-use Rattle.vbr_handles.specs.contracts.box_parts.Parts.into_box.Key.{name as #self}
 use Rattle.vbr_handles.proofs.box_parts.Parts.into_box.Statement as stated
 use Rattle.vbr_handles.proofs.box_parts.Parts.into_box.Code as code
 

@@ -1,49 +1,24 @@
 -- `of` takes the box apart, and the parts own what it owned.
-use mathlib.Core.Path.{◌≡◌, refl, sym, subst, ap, ◌∙◌}
-use mathlib.Core.List.{List, [], ◌∷◌, ◌++◌}
-use seplogic.Ra.Ura.{Ura}
-use mir.Syntax.{Fn, Args, Dict, a_type, dcons, dnil}
-use mir.MapTy.{inst_fn}
-use mir.Raw.{raw as bare}
-use mir.Val.{Val, vstruct, of_list}
-use base.Logic.{SProp, ent, id⊢, never, fst∗}
-use base.Fml.{ftrue, fsep, flft}
-use contract.BorrowLft.{◌⊑◌}
-use prog.Memory.{Memory}
-use prog.Routine.{Routine}
-use prog.Wp.{WpFn, Tables}
-use types.Logic.{Logic, sem}
-use contract.Monad.{Fun, fact}
-use contract.Running.{tables, tables_of}
-use sound.WpLaws.{fm_of, WpFn-mono}
-use types.Kit.{Item, ‵, raw, ◌⊛◌, some, later, ◌$◌, ◌∵◌, !, qed, by, move, drop, use1, join, split, split3, pick}
-use types.Kit.{rewrite, fsplit, fjoin, fpick, feq_l, suffices, await, done}
-use types.Part.{whole, sub, agg}
-use types.Run.{stop, fld, no_more, and_then, of_opd, returns, enter}
-use types.ByLocal.{alloc_all, pass_all, free_all, look_at, get, get_in, sets, lands_as}
-use denote.RattleType.{RattleType}
-use denote.Exit.{no}
-use denote.Param.{bounded}
-use denote.RawPtr.{Ptr, RawPtr, block_ptr, null_ptr, ptr_val, in_a_block}
-use denote.Signature.{plain}
-use denote.Steps.{heard, nothing, only}
-use denote.Struct.Tuple.{Tuple}
-use denote.Triple.Call.{calls_at}
-use denote.Triple.Clauses.{Ended, Clauses}
-use denote.Triple.Spec.{triple_of}
-use denote.Triple.Statement.{Triple, Contract}
-use denote.Triple.Table.{entered}
-use denote.Triple.Walked.{says, Stays, stay_dropped, walk_of, ends_at, walk_Meets}
-use Rattle.core.proofs.alloc.Calls.{token, handle_tells, Goes-blank}
-use Rattle.std_alloc.specs.Box.Ownership.{box_owns}
-use Rattle.std_alloc.proofs.BoxSteps.Form.{Bx, D, τ, R, P, B, word, box_typed}
-use Rattle.std_alloc.proofs.BoxSteps.Steps.{box_out, box_in}
+use Rattle.atomic_table.proofs.Names.{◌≡◌, refl, sym, subst, ap, ◌∙◌, List, [], ◌∷◌, ◌++◌, Ura, Fn, Dict, a_type, dcons}
+use Rattle.atomic_table.proofs.Names.{dnil, inst_fn, Val, vstruct, of_list, SProp, ent, id⊢, fst∗, ftrue, fsep, flft}
+use Rattle.atomic_table.proofs.Names.{◌⊑◌, WpFn, Logic, sem, fact, tables, WpFn-mono, ‵, raw, ◌⊛◌, some, later, ◌$◌}
+use Rattle.atomic_table.proofs.Names.{◌∵◌, !, qed, by, move, drop, use1, join, split, split3, pick, rewrite, fsplit}
+use Rattle.atomic_table.proofs.Names.{fjoin, fpick, feq_l, suffices, await, done, whole, sub, agg, stop, fld, no_more}
+use Rattle.atomic_table.proofs.Names.{and_then, of_opd, returns, enter, alloc_all, pass_all, free_all, look_at, get}
+use Rattle.atomic_table.proofs.Names.{get_in, sets, lands_as, RattleType, no, bounded, Ptr, RawPtr, block_ptr, ptr_val}
+use Rattle.atomic_table.proofs.Names.{plain, heard, nothing, only, Tuple, calls_at, Clauses, triple_of, entered, Stays}
+use Rattle.atomic_table.proofs.Names.{stay_dropped, walk_of, ends_at, walk_Meets}
+use Rattle.vbr_handles.proofs.WalkNames.{never, Memory, Routine, Tables, Fun, fm_of, Item, null_ptr, in_a_block, Ended}
+use Rattle.vbr_handles.proofs.WalkNames.{Triple, Contract, says, token, handle_tells, Goes-blank, box_owns, Bx, D, τ, P}
+use Rattle.vbr_handles.proofs.WalkNames.{B, word, box_typed, box_out, box_in, Args, bare}
+use contract.Running.{tables_of}
+use Rattle.std_alloc.proofs.BoxSteps.Form.{R}
+use Rattle.vbr_handles.specs.contracts.box_parts.Parts.of.Key.{name as #self}
 use Rattle.vbr_handles.specs.contracts.box_parts.Parts as parts
 use Rattle.std_alloc.specs.contracts.boxed.Box.into_raw_with_allocator as Ra
 use Rattle.std_alloc.proofs.boxed.Box.into_raw_with_allocator.Symbol as raw_sym
 use Rattle.std_alloc.proofs.boxed.Box.into_raw_with_allocator.Met as raw_met
 use Rattle.vbr_handles.specs.contracts.box_parts.Parts.of as F
-use Rattle.vbr_handles.specs.contracts.box_parts.Parts.of.Key.{name as #self}
 use Rattle.vbr_handles.proofs.box_parts.Parts.of.Statement as stated
 use Rattle.vbr_handles.proofs.box_parts.Parts.of.Code as code
 

@@ -1,40 +1,20 @@
 -- `take_value` moves the value out and leaves the room, at any element type: the walk of the kit's `Box`. Assumes
 -- `Logic`.
-use mathlib.Core.Path.{◌≡◌, refl, sym, subst}
-use Prim.Native.Nat.{ℕ}
-use mathlib.Core.List.{List, [], ◌∷◌, ◌++◌}
-use seplogic.Ra.Ura.{Ura}
-use base.Fraction.{full_share}
-use mir.Syntax.{Fn}
-use mir.MapTy.{inst_fn}
-use mir.Val.{Val}
-use mir.Raw.{raw as bare}
-use base.Logic.{SProp, ent, sep, emp, via, fst∗}
-use prog.Wp.{Env, Calls, Loops, WpFn}
-use types.Logic.{Logic, sem}
-use contract.Monad.{fact}
-use denote.Exit.{no}
-use denote.RattleType.{owns}
-use denote.Memory.{part_at}
-use denote.RawPtr.{block_ptr}
-use denote.Signature.{plain}
-use denote.Steps.{nothing}
-use denote.Triple.Clauses.{Clauses, Ended}
-use denote.Triple.Entry.{on_entry}
-use base.Fml.{ftrue, fat, froom}
-use types.Kit.{‵, ◌⊛◌, some, given, at_ret, ◌$◌, ◌∵◌, !, qed, by, move, keep, use1, use2, drop, pick, learn, split}
-use types.Kit.{join, fsplit, fjoin, suffices, done}
-use types.Part.{whole, sub, agg}
-use types.Run.{look, load, stop, fld, of_opd, and_then, no_more, first, blocks, exec, returns, enter}
-use types.ByLocal.{alloc_all, pass_all, free_all, look_at, get, get_in, through, sets, sets_last, env}
-use denote.Struct.Tuple.{Tuple}
-use denote.Triple.Walked.{says, Stays, stay_dropped, walk_of, ends_at}
-use Rattle.core.proofs.alloc.Calls.{token, Fits, Goes-blank}
+use Rattle.atomic_table.proofs.Names.{◌≡◌, refl, sym, subst, ℕ, List, [], ◌∷◌, ◌++◌, Ura, full_share, Fn, inst_fn, Val}
+use Rattle.atomic_table.proofs.Names.{SProp, ent, sep, emp, via, fst∗, Env, WpFn, Logic, sem, fact, no, owns, part_at}
+use Rattle.atomic_table.proofs.Names.{block_ptr, plain, nothing, Clauses, on_entry, ftrue, ‵, ◌⊛◌, some, given, at_ret}
+use Rattle.atomic_table.proofs.Names.{◌$◌, ◌∵◌, !, qed, by, move, keep, use1, use2, drop, pick, learn, split, join}
+use Rattle.atomic_table.proofs.Names.{fsplit, fjoin, suffices, done, whole, sub, agg, load, stop, fld, of_opd, and_then}
+use Rattle.atomic_table.proofs.Names.{no_more, first, blocks, exec, returns, enter, alloc_all, pass_all, free_all}
+use Rattle.atomic_table.proofs.Names.{look_at, get, get_in, through, sets, sets_last, env, Tuple, Stays, stay_dropped}
+use Rattle.atomic_table.proofs.Names.{walk_of, ends_at}
+use Rattle.vbr_handles.proofs.WalkNames.{Calls, Loops, Ended, froom, says, token, Fits, Goes-blank, vacant_val}
+use Rattle.vbr_handles.proofs.WalkNames.{vacant_typed, Bx, τ, own, Good, word, handle, box_typed, box_out, bare, fat}
+use Rattle.vbr_handles.proofs.WalkNames.{vacant_ty, Vacant-made, el_out}
+use types.Run.{look}
 use Rattle.std_alloc.proofs.Pairs.{pair_val, pair_Typed, pair_of}
 use Rattle.std_alloc.proofs.RawLayout.{as_raw}
-use Rattle.std_alloc.proofs.OfVacant.{vacant_ty, vacant_val, vacant_typed, Vacant-made}
-use Rattle.std_alloc.proofs.BoxSteps.Form.{Bx, args, τ, own, Good, R, word, handle, box_typed}
-use Rattle.std_alloc.proofs.BoxSteps.Steps.{el_out, box_out}
+use Rattle.std_alloc.proofs.BoxSteps.Form.{args, R}
 use Rattle.std_alloc.proofs.VecSteps.Shapes.{after}
 use Rattle.vbr_handles.proofs.AsBox.{BlockOf as V, PartsOf as From}
 use Rattle.vbr_handles.proofs.Bounds.{moving, spares}

@@ -1,37 +1,17 @@
 -- `write_into` writes the value into the room, at any element type: the walk of the kit's `Box`. Assumes `Logic`.
-use mathlib.Core.Path.{◌≡◌, refl, sym, subst}
-use Prim.Native.Nat.{ℕ}
-use mathlib.Core.List.{List, [], ◌∷◌, ◌++◌}
-use seplogic.Ra.Ura.{Ura}
-use base.Fraction.{full_share}
-use mir.Syntax.{Fn}
-use mir.MapTy.{inst_fn}
-use mir.Val.{Val}
-use mir.Raw.{raw as bare}
-use base.Logic.{SProp, ent, sep, emp, via, fst∗, id⊢}
-use prog.Wp.{Env, Calls, Loops, WpFn}
-use types.Logic.{Logic, sem}
-use contract.Monad.{fact}
-use denote.Exit.{no}
-use denote.RattleType.{owns}
-use denote.Memory.{part_at}
-use denote.RawPtr.{block_ptr}
-use denote.Signature.{plain}
-use denote.Steps.{nothing}
-use denote.Triple.Clauses.{Clauses, Ended}
-use denote.Triple.Entry.{on_entry}
-use base.Fml.{ftrue, froom}
-use types.Kit.{‵, ◌⊛◌, at_ret, ◌$◌, ◌∵◌, !, qed, by, move, keep, use1, use2, drop, split, join, fsplit, fjoin, suffices}
-use types.Kit.{done}
-use types.Part.{whole, sub, agg}
-use types.Run.{init, stop, fld, of_opd, and_then, no_more, assigns_last, first, blocks, exec, returns, enter}
-use types.ByLocal.{alloc_all, pass_all, free_all, look_at, get, get_in, through, sets, env}
-use denote.Triple.Walked.{says, Stays, stay_dropped, walk_of, ends_at, Goes-dropped}
-use Rattle.core.proofs.alloc.Calls.{token, Fits, Goes-blank}
+use Rattle.atomic_table.proofs.Names.{◌≡◌, refl, sym, subst, ℕ, List, [], ◌∷◌, ◌++◌, Ura, full_share, Fn, inst_fn, Val}
+use Rattle.atomic_table.proofs.Names.{SProp, ent, sep, emp, via, fst∗, id⊢, Env, WpFn, Logic, sem, fact, no, owns}
+use Rattle.atomic_table.proofs.Names.{part_at, block_ptr, plain, nothing, Clauses, on_entry, ftrue, ‵, ◌⊛◌, at_ret, ◌$◌}
+use Rattle.atomic_table.proofs.Names.{◌∵◌, !, qed, by, move, keep, use1, use2, drop, split, join, fsplit, fjoin}
+use Rattle.atomic_table.proofs.Names.{suffices, done, whole, sub, agg, stop, fld, of_opd, and_then, no_more, first}
+use Rattle.atomic_table.proofs.Names.{blocks, exec, returns, enter, alloc_all, pass_all, free_all, look_at, get, get_in}
+use Rattle.atomic_table.proofs.Names.{through, sets, env, Stays, stay_dropped, walk_of, ends_at, Goes-dropped}
+use Rattle.vbr_handles.proofs.WalkNames.{Calls, Loops, Ended, froom, says, token, Fits, Goes-blank, vacant_val}
+use Rattle.vbr_handles.proofs.WalkNames.{vacant_typed, Bx, D, τ, own, Good, word, handle, box_typed, box_in, bare}
+use Rattle.vbr_handles.proofs.WalkNames.{Vacant-had, X, el_in, el_tells}
+use types.Run.{init, assigns_last}
 use Rattle.std_alloc.proofs.RawLayout.{as_written}
-use Rattle.std_alloc.proofs.OfVacant.{vacant_val, vacant_typed, Vacant-had}
-use Rattle.std_alloc.proofs.BoxSteps.Form.{Bx, args, X, D, τ, own, Good, R, word, handle, box_typed}
-use Rattle.std_alloc.proofs.BoxSteps.Steps.{el_in, el_tells, box_in}
+use Rattle.std_alloc.proofs.BoxSteps.Form.{args, R}
 use Rattle.std_alloc.proofs.VecSteps.Shapes.{after}
 use Rattle.vbr_handles.proofs.AsBox.{BlockOf as V, PartsOf as To}
 use Rattle.vbr_handles.proofs.Bounds.{moving, spares}

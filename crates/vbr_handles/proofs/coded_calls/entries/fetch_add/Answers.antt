@@ -1,18 +1,15 @@
--- The call, and the top-up after it.
-use Rattle.std.proofs.Common.{◌∙◌, rules, sym, w32}
-use Rattle.std.proofs.lemmas.Int.{to_z-of_z}
+use Rattle.vbr_handles.proofs.Names.{◌∙◌, rules, sym, w32, to_z-of_z, has_stored_new}
 use Rattle.vbr_set.specs.calls.MapCalls.{AddsEntry}
-use Rattle.vbr_handles.specs.ToppingUp.{has_stored_new}
-use Rattle.vbr_handles.proofs.ToppingUp.{gives_topped_up}
+use Rattle.vbr_handles.proofs.ToppingUp.{gives_call, topped_up}
 use Rattle.vbr_handles.proofs.coded_calls.entries.fetch_add.Goals as goal
 
 pub returns : goal.returns
 returns c =
     let made = c.fetch_add-answer.ensures in
-    gives_topped_up (λ budget m n answer. AddsEntry m n c.args.key c.args.delta budget answer) has_stored_new
-    c.args.steps
-    _ _ c.fetch_add-answer.new.self c.top_up_after.new.member c.fetch_add-answer.result
-    c.has_stored_new.result c.budget_of-budget.ensures c.is_empty.ensures.2 c.member_mut-member.ensures.value
+    gives_call _ _ _ _ c.is_empty.ensures.2 c.member_mut-member.ensures.value
     (sym c.holds_slot.ensures ∙ c.if-holds_slot.false)
-    (to_z-of_z w32 c.give.result (search rules) ∙ c.give.ensures.code) made.told made.aside made.told.steps
-    c.has_stored_new.ensures c.pass.ensures.pass c.steps-before.ensures c.top_up_after.ensures c.give.ensures.writes
+    (to_z-of_z w32 c.give.result (search rules) ∙ c.give.ensures.code)
+    (topped_up (λ budget m n answer. AddsEntry m n c.args.key c.args.delta budget answer) has_stored_new c.args.steps
+    c.fetch_add-answer.new.self c.top_up_after.new.member c.fetch_add-answer.result c.has_stored_new.result
+    c.budget_of-budget.ensures made.told made.aside made.told.steps c.has_stored_new.ensures c.pass.ensures.pass
+    c.steps-before.ensures c.top_up_after.ensures) c.give.ensures.writes

@@ -1,8 +1,6 @@
 -- The tries are as many as lack and are left; the wanted slots are the reserve.
-use Rattle.std.proofs.Common.{◌≡◌, ◌∙◌, Bool, true, ap, arith, subst, sym}
-use Rattle.vbr_slots.specs.steps.PassLaw.{PassLaw}
-use Rattle.vbr_slots.specs.views.Views.{PassView, counted_steps, steps_of}
-use Rattle.vbr_handles.specs.ToppingUp.{TopsUpWhere, lacks_slots, left_of}
+use Rattle.vbr_handles.proofs.Names.{◌≡◌, ◌∙◌, Bool, true, ap, arith, subst, sym, PassLaw, PassView, counted_steps}
+use Rattle.vbr_handles.proofs.Names.{steps_of, TopsUpWhere, lacks_slots, left_of}
 use Rattle.vbr_handles.proofs.ToppingUp.{topped}
 use Rattle.vbr_handles.proofs.coded_calls.topping_up.top_up_where_lacking.Goals as goal
 

@@ -1,7 +1,5 @@
-use Rattle.std.proofs.Common.{rules, ◌<◌, length, arith}
-use Rattle.std.proofs.lemmas.List.{length-map}
+use Rattle.vbr_handles.proofs.Names.{rules, ◌<◌, length, arith, length-map, as_entry}
 use Rattle.vbr_handles.proofs.EntryKeys.{one_more_written}
-use Rattle.vbr_handles.specs.Listings.{as_entry}
 use Rattle.vbr_handles.proofs.entries.EntryListedEntries.write.Goals as goal
 
 pub loop-i-preserved : goal.loop-i-preserved

@@ -1,6 +1,4 @@
-use Rattle.std.proofs.Common.{◌≡◌, map}
-use lib.Seq.{paste}
-use Rattle.vbr_handles.specs.Listings.{as_entry}
+use Rattle.vbr_handles.proofs.Names.{◌≡◌, map, paste, as_entry}
 use Rattle.vbr_handles.proofs.entries.EntryListedEntries.write.Given as goal
 
 -- the entries so far are written

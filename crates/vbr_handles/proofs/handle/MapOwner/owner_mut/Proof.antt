@@ -1,12 +1,11 @@
 -- `owner_mut` lends the owner of a map as one of any type, which owns the same.
-use mathlib.Core.Path.{refl}
+use Rattle.vbr_handles.proofs.Names.{refl, map_owner, owner_of_map}
 use Rattle.vbr_handles.proofs.Recast.{recasts}
-use Rattle.vbr_handles.specs.Handles.{map_owner, owner_of_map}
 use Rattle.vbr_handles.specs.MemberRows.{map_row}
 use Rattle.vbr_handles.specs.contracts.handle.MapOwner.{the_row}
 use Rattle.vbr_handles.specs.contracts.handle.MapOwner.owner_mut.Key.{name}
-use Rattle.vbr_handles.specs.contracts.owner.Owner as Owner
 use Rattle.vbr_handles.proofs.handle.MapOwner.owner_mut.Statement.{statement}
+use Rattle.vbr_handles.specs.contracts.owner.Owner as Owner
 use Rattle.vbr_handles.proofs.handle.MapOwner.owner_mut.Code as code
 
 pub owner_mut_spec : {M : Type 1} → statement M

@@ -1,14 +1,12 @@
-use denote.Struct.Struct.{exits_of}
-use denote.Struct.Owning.{shape, fields, to}
-use denote.Param.Send.{IsSend, AllSend, owning_send, struct_send, sendable}
-use Rattle.std_alloc.proofs.SendSync.{quiet}
-use Rattle.std_heap.proofs.Global.TheSendSync as heap
-use Rattle.vbr_words.specs.contracts.nodes.Keys as Keys
-use Rattle.vbr_words.specs.contracts.nodes.KeysNodes.TheImpl as kind
+use Rattle.vbr_handles.proofs.WalkNames.{exits_of, shape, fields, to, IsSend, AllSend, owning_send, struct_send}
+use Rattle.vbr_handles.proofs.WalkNames.{sendable, quiet}
 use Rattle.vbr_set.proofs.member.Member.TheSendSync.{the_send as member}
 use Rattle.vbr_handles.specs.MemberRows.{set_row}
 use Rattle.vbr_handles.proofs.Owning.{owns_keyless}
 use Rattle.vbr_handles.specs.contracts.handle.SetOwner.{the_row, the_type}
+use Rattle.std_heap.proofs.Global.TheSendSync as heap
+use Rattle.vbr_words.specs.contracts.nodes.Keys as Keys
+use Rattle.vbr_words.specs.contracts.nodes.KeysNodes.TheImpl as kind
 
 pub send : IsSend the_row
 send =

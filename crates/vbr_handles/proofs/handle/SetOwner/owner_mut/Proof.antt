@@ -1,12 +1,11 @@
 -- `owner_mut` lends the owner as one of any type, which owns the same.
-use mathlib.Core.Path.{refl}
+use Rattle.vbr_handles.proofs.Names.{refl, set_owner, owner_of_set}
 use Rattle.vbr_handles.proofs.Recast.{recasts}
-use Rattle.vbr_handles.specs.Handles.{owner_of_set, set_owner}
 use Rattle.vbr_handles.specs.MemberRows.{set_row}
 use Rattle.vbr_handles.specs.contracts.handle.SetOwner.{the_row}
 use Rattle.vbr_handles.specs.contracts.handle.SetOwner.owner_mut.Key.{name}
-use Rattle.vbr_handles.specs.contracts.owner.Owner as Owner
 use Rattle.vbr_handles.proofs.handle.SetOwner.owner_mut.Statement.{statement}
+use Rattle.vbr_handles.specs.contracts.owner.Owner as Owner
 use Rattle.vbr_handles.proofs.handle.SetOwner.owner_mut.Code as code
 
 pub owner_mut_spec : {M : Type 1} → statement M

@@ -1,5 +1,4 @@
-use Rattle.std.proofs.Common.{ap, ◌∙◌}
-use Rattle.vbr_handles.specs.Handles.{set_owner}
+use Rattle.vbr_handles.proofs.Names.{ap, ◌∙◌, set_owner}
 use Rattle.vbr_handles.proofs.handle_of.HandleHandleOfKeys.is_beside.Goals as goal
 
 pub returns : goal.returns

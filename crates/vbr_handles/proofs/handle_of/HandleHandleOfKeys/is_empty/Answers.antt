@@ -1,4 +1,4 @@
-use Rattle.vbr_handles.specs.Handles.{set_owner}
+use Rattle.vbr_handles.proofs.Names.{set_owner}
 use Rattle.vbr_handles.proofs.AllHandles.{told_empty}
 use Rattle.vbr_handles.proofs.handle_of.HandleHandleOfKeys.is_empty.Goals as goal
 

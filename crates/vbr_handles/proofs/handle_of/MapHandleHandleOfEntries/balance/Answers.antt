@@ -1,17 +1,11 @@
-use Rattle.std.proofs.Common.{ap, ◌∙◌, w64, arith, FitsSigned}
-use Rattle.std.proofs.lemmas.Int.{ints, to_z-of_z}
-use Rattle.vbr_set.specs.calls.Members.{MemberView}
-use Rattle.vbr_handles.specs.Handles.{map_owner}
-use Rattle.vbr_handles.specs.Shown.{balance_shown}
-use Rattle.vbr_handles.specs.declared.owner.Owner.{Owner}
+use Rattle.vbr_handles.proofs.Names.{◌≡◌, ◌∙◌, w64, arith, FitsSigned, ints, to_z-of_z, map_owner, balance_shown}
+use Rattle.vbr_handles.proofs.AllHandles.{told}
 use Rattle.vbr_handles.proofs.handle_of.MapHandleHandleOfEntries.balance.Goals as goal
 
 pub returns : goal.returns
 returns c =
     let low = c.balance.type_inv in
-    let fits : FitsSigned w64 c.balance.result = omega (arith, ints, low) in (
-      to_z-of_z w64 c.balance.result fits ∙ c.balance.ensures.0
-          ∙ ap (λ (o : Owner MemberView). balance_shown o.member) c.owner_mut.ensures.value,
-      ap (λ o. record c.args.self.now { owned = map_owner o })
-          (c.balance.ensures.1 ∙ c.owner_mut.ensures.value),
-    )
+    let fits : FitsSigned w64 c.balance.result = omega (arith, ints, low) in
+    let all = told (λ o. record c.args.self.now { owned = map_owner o }) (λ o. c.balance.result ≡ balance_shown o.member)
+    c.owner_mut.ensures.value c.balance.ensures in
+    (to_z-of_z w64 c.balance.result fits ∙ all.0, all.1)

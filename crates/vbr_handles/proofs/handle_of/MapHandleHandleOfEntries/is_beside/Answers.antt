@@ -1,5 +1,4 @@
-use Rattle.std.proofs.Common.{ap, ◌∙◌}
-use Rattle.vbr_handles.specs.Handles.{map_owner}
+use Rattle.vbr_handles.proofs.Names.{ap, ◌∙◌, map_owner}
 use Rattle.vbr_handles.proofs.handle_of.MapHandleHandleOfEntries.is_beside.Goals as goal
 
 pub returns : goal.returns

@@ -1,4 +1,4 @@
-use Rattle.vbr_handles.specs.Handles.{map_owner}
+use Rattle.vbr_handles.proofs.Names.{map_owner}
 use Rattle.vbr_handles.proofs.AllHandles.{told_empty}
 use Rattle.vbr_handles.proofs.handle_of.MapHandleHandleOfEntries.is_empty.Goals as goal
 

@@ -1,6 +1,4 @@
-use Rattle.std.proofs.Common.{ap, sym, ◌∙◌, w64, arith, FitsSigned}
-use Rattle.std.proofs.lemmas.Int.{ints, to_z-of_z}
-use Rattle.vbr_handles.specs.Shown.{balance_shown}
+use Rattle.vbr_handles.proofs.Names.{ap, sym, ◌∙◌, w64, arith, FitsSigned, ints, to_z-of_z, balance_shown}
 use Rattle.vbr_handles.proofs.AllHandles.{lent_back}
 use Rattle.vbr_handles.proofs.lent_member.«Owner+Member+N».balance.Goals as goal
 

@@ -1,6 +1,4 @@
-use Rattle.std.proofs.Common.{ap, sym, ◌∙◌}
-use Rattle.vbr_slots.specs.views.Views.{PassView}
-use Rattle.vbr_handles.specs.EachOnce.{number_shown}
+use Rattle.vbr_handles.proofs.Names.{ap, sym, ◌∙◌, PassView, number_shown}
 use Rattle.vbr_handles.proofs.AllHandles.{lent_back}
 use Rattle.vbr_handles.proofs.lent_member.«Owner+Member+N».number.Goals as goal
 

@@ -1,4 +1,4 @@
-use Rattle.std.proofs.Common.{◌≡◌, IfSome, sym, subst}
+use Rattle.vbr_handles.proofs.Names.{◌≡◌, IfSome, sym, subst}
 use Rattle.vbr_handles.proofs.AllHandles.{lent_back}
 use Rattle.vbr_handles.proofs.lent_member.«Owner+Member+N».passes.Goals as goal
 

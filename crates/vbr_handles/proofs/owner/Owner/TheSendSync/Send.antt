@@ -1,11 +1,9 @@
-use denote.RattleType.{RattleType}
-use denote.Struct.Struct.{exits_of}
-use denote.Struct.Owning.{shape, fields, to}
-use denote.Param.Send.{IsSend, AllSend, owning_send, struct_send, sendable}
-use Rattle.std_alloc.proofs.SendSync.{quiet}
+use Rattle.atomic_table.proofs.Names.{RattleType}
+use Rattle.vbr_handles.proofs.WalkNames.{exits_of, shape, fields, to, IsSend, AllSend, owning_send, struct_send}
+use Rattle.vbr_handles.proofs.WalkNames.{sendable, quiet}
 use Rattle.vbr_handles.proofs.Owning.{owns_keyless}
-use Rattle.std_heap.proofs.Global.TheSendSync as handle
 use Rattle.vbr_handles.specs.contracts.owner.Owner.{the_row, the_type}
+use Rattle.std_heap.proofs.Global.TheSendSync as handle
 
 pub send : (M : RattleType) → IsSend M → IsSend (the_row M)
 send M s =

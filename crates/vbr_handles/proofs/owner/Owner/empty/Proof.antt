@@ -1,41 +1,18 @@
 -- `empty` makes an owner of nothing.
-use mathlib.Core.Path.{◌≡◌, refl, sym, subst}
-use mathlib.Core.List.{List, [], ◌∷◌, ◌++◌}
-use lib.Dec.{T, lit<}
-use seplogic.Ra.Ura.{Ura}
-use mir.Syntax.{Fn}
-use mir.MapTy.{inst_fn}
-use mir.Val.{Val, vnull, has_ty, WT}
-use base.Logic.{ent, emp, id⊢}
-use base.Fml.{ftrue, fsep}
-use prog.Wp.{WpFn}
-use contract.Monad.{fact}
-use types.Kit.{Item, ‵, raw, ◌⊛◌, ◌$◌, ◌∵◌, !, qed, by, move, keep, drop, use1, join, split, fsplit, fjoin, fpack}
-use types.Kit.{feq_i, suffices, done}
-use types.Part.{agg}
-use types.Run.{lit, no_more, and_then, returns, enter}
-use types.ByLocal.{alloc_all, pass_all, free_all, look_at, get, sets}
-use denote.Exit.{yes}
-use denote.Builtin.{RawPtr}
-use denote.Param.{layout}
-use denote.RattleType.{Valss}
-use denote.RawPtr.{null_ptr, ptr_val}
-use denote.Signature.{Slot, plain}
-use denote.Steps.{nothing}
-use denote.Struct.Struct.{within}
-use denote.Struct.Owning.{shape, to}
-use denote.Triple.Clauses.{Clauses, Ended}
-use denote.Triple.Walked.{says, Stays, stay_dropped, walk_of, ends_at, Goes-dropped}
-use Rattle.core.proofs.alloc.Calls.{handle_tells}
-use Rattle.core.proofs.mem.Param.{El, R, args}
-use Rattle.std.specs.declared.option.Option.TheVariants.{None}
-use Rattle.std_alloc.proofs.ResultValues.{and_tt}
-use Rattle.std_heap.specs.contracts.Global as Heap
+use Rattle.atomic_table.proofs.Names.{◌≡◌, refl, sym, subst, List, [], ◌∷◌, ◌++◌, lit<, Ura, Fn, inst_fn, Val, WT, ent}
+use Rattle.atomic_table.proofs.Names.{emp, id⊢, ftrue, fsep, WpFn, fact, ‵, raw, ◌⊛◌, ◌$◌, ◌∵◌, !, qed, by, move, keep}
+use Rattle.atomic_table.proofs.Names.{drop, use1, join, split, fsplit, fjoin, fpack, feq_i, suffices, done, agg, lit}
+use Rattle.atomic_table.proofs.Names.{no_more, and_then, returns, enter, alloc_all, pass_all, free_all, look_at, get}
+use Rattle.atomic_table.proofs.Names.{sets, yes, RawPtr, Valss, ptr_val, plain, nothing, Clauses, Stays, stay_dropped}
+use Rattle.atomic_table.proofs.Names.{walk_of, ends_at, Goes-dropped}
+use Rattle.vbr_handles.proofs.WalkNames.{T, vnull, has_ty, Item, layout, null_ptr, Slot, within, shape, to, Ended, says}
+use Rattle.vbr_handles.proofs.WalkNames.{handle_tells, El, R, args, None, and_tt}
 use Rattle.vbr_handles.proofs.Bounds.{moving, spares}
 use Rattle.vbr_handles.proofs.AsBox.{E, OwnerRow, FromOwner as To}
 use Rattle.vbr_handles.proofs.Owning.{nothing_word}
 use Rattle.vbr_handles.specs.contracts.owner.Owner.{the_type}
 use Rattle.vbr_handles.specs.contracts.owner.Owner.empty.Key.{name as #self}
+use Rattle.std_heap.specs.contracts.Global as Heap
 use Rattle.vbr_handles.proofs.owner.Owner.empty.Statement as stated
 use Rattle.vbr_handles.proofs.owner.Owner.empty.Code as code
 

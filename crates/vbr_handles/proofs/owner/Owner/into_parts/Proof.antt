@@ -1,45 +1,22 @@
 -- `into_parts` tests the pointer, and what it owns goes with it.
-use mathlib.Core.Path.{◌≡◌, refl, sym, subst}
-use mathlib.Core.List.{List, [], ◌∷◌, ◌++◌}
-use lib.Dec.{T, lit<}
-use seplogic.Ra.Ura.{Ura}
-use mir.Syntax.{Fn}
-use mir.MapTy.{inst_fn}
-use mir.Val.{Val, vcons, vnil, has_ty, WT}
-use base.Logic.{SProp, ent, emp, id⊢}
-use base.Fml.{ftrue, fsep}
-use prog.Wp.{WpFn}
-use contract.Monad.{fact}
-use types.Kit.{at_ret, ‵, raw, ◌⊛◌, ◌$◌, ◌∵◌, !, qed, by, move, keep, drop, use0, use1, join, split, fsplit, fjoin}
-use types.Kit.{suffices, done}
-use types.Part.{whole, sub, agg}
-use types.Run.{stop, fld, lit, bin, no_more, and_then, of_opd, first, branches, exec, returns, enter}
-use types.ByLocal.{alloc_all, pass_all, free_all, look_at, get, get_in, sets, sets_last, env}
-use types.Match.{live}
-use denote.Exit.{no}
-use denote.Param.{layout}
-use denote.RattleType.{RattleType}
-use denote.RawPtr.{block_ptr, null_ptr, tests_null}
-use denote.Signature.{plain}
-use denote.Steps.{nothing}
-use denote.Triple.Clauses.{Clauses, Ended}
-use denote.Triple.Walked.{says, Stays, stay_dropped, walk_of, ends_at}
-use Rattle.core.proofs.alloc.Calls.{Goes-blank}
-use Rattle.core.proofs.alloc.Shapes.{after}
-use Rattle.core.proofs.atomic.Steps.{Ptr-Good}
-use Rattle.core.proofs.mem.Param.{El, args}
+use Rattle.atomic_table.proofs.Names.{◌≡◌, refl, sym, subst, List, [], ◌∷◌, ◌++◌, lit<, Ura, Fn, inst_fn, Val, vcons}
+use Rattle.atomic_table.proofs.Names.{vnil, WT, SProp, ent, emp, id⊢, ftrue, fsep, WpFn, fact, at_ret, ‵, raw, ◌⊛◌, ◌$◌}
+use Rattle.atomic_table.proofs.Names.{◌∵◌, !, qed, by, keep, drop, use0, use1, join, split, fsplit, fjoin, suffices}
+use Rattle.atomic_table.proofs.Names.{done, whole, sub, agg, stop, fld, lit, bin, no_more, and_then, of_opd, first}
+use Rattle.atomic_table.proofs.Names.{exec, returns, enter, alloc_all, pass_all, free_all, look_at, get, get_in, sets}
+use Rattle.atomic_table.proofs.Names.{sets_last, env, live, no, RattleType, block_ptr, plain, nothing, Clauses, Stays}
+use Rattle.atomic_table.proofs.Names.{stay_dropped, walk_of, ends_at}
+use Rattle.vbr_handles.proofs.WalkNames.{T, has_ty, layout, null_ptr, tests_null, Ended, says, Goes-blank, after}
+use Rattle.vbr_handles.proofs.WalkNames.{Ptr-Good, El, args, IsSome, None, Some, and_tt, D, word, box_typed, box_in}
+use Rattle.vbr_handles.proofs.WalkNames.{IfSome}
+use types.Run.{branches}
 use Rattle.core.proofs.option.Made.{Some-of, none_of}
-use Rattle.std.specs.Prelude.{IsSome, IfSome}
-use Rattle.std.specs.contracts.option.Option as OP
-use Rattle.std.specs.declared.option.Option.TheVariants.{None, Some}
-use Rattle.std_alloc.proofs.ResultValues.{and_tt}
-use Rattle.std_alloc.proofs.BoxSteps.Form.{D, word, box_typed}
-use Rattle.std_alloc.proofs.BoxSteps.Steps.{box_in}
-use Rattle.std_heap.specs.contracts.Global as Heap
 use Rattle.vbr_handles.proofs.Bounds.{moving, spares}
 use Rattle.vbr_handles.proofs.AsBox.{E, OwnerRow, PartsRow, FromOwner as From}
 use Rattle.vbr_handles.proofs.Owning.{nothing_word, owner_out}
 use Rattle.vbr_handles.specs.contracts.owner.Owner.into_parts.Key.{name as #self}
+use Rattle.std.specs.contracts.option.Option as OP
+use Rattle.std_heap.specs.contracts.Global as Heap
 use Rattle.vbr_handles.proofs.owner.Owner.into_parts.Statement as stated
 use Rattle.vbr_handles.proofs.owner.Owner.into_parts.Code as code
 

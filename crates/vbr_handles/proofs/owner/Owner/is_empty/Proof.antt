@@ -1,61 +1,26 @@
 -- `is_empty` tests the pointer, and leaves the owner as it was.
-use mathlib.Core.Path.{◌≡◌, refl, sym, subst}
-use mathlib.Core.Bool.{Bool, true, false}
-use Prim.Native.Nat.{ℕ}
-use mathlib.Core.List.{List, [], ◌∷◌}
-use seplogic.Ra.Ura.{Ura}
-use base.Fraction.{full_share}
-use mir.Syntax.{Fn, named}
-use mir.MapTy.{inst_fn}
-use mir.Val.{Val, vptr, vnull, vbool}
-use base.Logic.{SProp, ent, emp, id⊢}
-use base.Fml.{Lft, Share, ftrue, flft}
-use types.Logic.{sem}
-use types.Kit.{‵, raw, ◌⊛◌, ◌$◌, ◌∵◌, !, qed, by, move, keep, use0, use1, split, join, fsplit, fsplit3, fjoin, fjoin3}
-use types.Kit.{fpack, feq_i, rewrite}
-use types.Part.{whole, sub, look_in}
-use types.Run.{stop, fld, load, lit, bin, of_opd, returns, enter}
-use types.ByLocal.{alloc_all, pass_all, free_all, look_at, get, through, sets}
-use contract.Monad.{fact, fact_i}
-use contract.Running.{tables}
-use denote.Builtin.{RawPtr, RefMutOf, bool}
-use denote.Exit.{yes}
+use Rattle.atomic_table.proofs.Names.{◌≡◌, refl, sym, subst, Bool, true, ℕ, List, [], ◌∷◌, Ura, full_share, Fn, named}
+use Rattle.atomic_table.proofs.Names.{inst_fn, Val, vptr, SProp, ent, emp, id⊢, Lft, Share, ftrue, flft, sem, ‵, raw}
+use Rattle.atomic_table.proofs.Names.{◌⊛◌, ◌$◌, ◌∵◌, !, qed, by, move, keep, use0, use1, split, join, fsplit, fsplit3}
+use Rattle.atomic_table.proofs.Names.{fjoin, fjoin3, fpack, feq_i, rewrite, whole, sub, look_in, stop, fld, load, lit}
+use Rattle.atomic_table.proofs.Names.{bin, of_opd, returns, enter, alloc_all, pass_all, free_all, look_at, get, through}
+use Rattle.atomic_table.proofs.Names.{sets, fact, fact_i, tables, RawPtr, RefMutOf, yes, Valss, owns, cell_at, Ptr}
+use Rattle.atomic_table.proofs.Names.{block_ptr, ptr_val, mut_vals, mut_Tells, plain, types_at, nothing, opens, closes}
+use Rattle.atomic_table.proofs.Names.{Clauses, closing, Stays, stay_ref, walk_of, Goes-ref}
+use Rattle.vbr_handles.proofs.WalkNames.{false≢true, vnull, null_ptr, tests_null, within, shape, to, spared, Ended}
+use Rattle.vbr_handles.proofs.WalkNames.{run_framed, Ptr-Good, El, R, args, el_x, IsSome, Option, None, D, B, word}
+use Rattle.vbr_handles.proofs.WalkNames.{box_in, proved, vbool, leaves}
+use mathlib.Core.Bool.{false, true≢false}
+use denote.Builtin.{bool}
 use denote.Plain.{bool_Makes}
-use denote.RattleType.{Valss, owns}
-use denote.Memory.{cell_at}
-use denote.RawPtr.{Ptr, block_ptr, null_ptr, ptr_val, tests_null}
-use denote.Ref.{mut_vals, mut_Tells}
-use denote.Signature.{plain, types_at}
-use denote.Steps.{nothing, opens, closes, owned}
-use denote.Struct.Struct.{within}
-use denote.Struct.Owning.{shape, to}
-use denote.Triple.Carry.{spared}
-use denote.Triple.Clauses.{Clauses, Ended, closing}
-use denote.Triple.Table.{run_framed}
-use denote.Triple.Walked.{Stays, stay_ref, walk_of, Goes-ref}
-use Rattle.core.proofs.atomic.Steps.{Ptr-Good}
-use Rattle.core.proofs.mem.Param.{El, R, args, el_x}
-use Rattle.std.specs.Prelude.{IsSome}
-use Rattle.std.specs.declared.option.Option.{Option}
-use Rattle.std.specs.declared.option.Option.TheVariants.{None}
-use Rattle.std_alloc.proofs.BoxSteps.Form.{D, B, word}
-use Rattle.std_alloc.proofs.BoxSteps.Steps.{box_in}
-use Rattle.std_heap.specs.contracts.Global as Heap
-use Rattle.atomic_table.proofs.Walks.{proved, leaves}
+use denote.Steps.{owned}
 use Rattle.vbr_handles.proofs.AsBox.{E, OwnerRow, FromOwner}
 use Rattle.vbr_handles.proofs.Owning.{owner_out, nothing_word}
 use Rattle.vbr_handles.specs.contracts.owner.Owner.{the_type}
 use Rattle.vbr_handles.specs.contracts.owner.Owner.is_empty.Key.{name as #self}
 use Rattle.vbr_handles.proofs.owner.Owner.is_empty.Statement.{statement}
+use Rattle.std_heap.specs.contracts.Global as Heap
 use Rattle.vbr_handles.proofs.owner.Owner.is_empty.Code as code
-
-abbrev IsHigh : Bool → Type 0
-IsHigh true = Unit {0}
-IsHigh false = ⊥
-
-abbrev IsLow : Bool → Type 0
-IsLow true = ⊥
-IsLow false = Unit {0}
 
 module _ (F : El) where
   abbrev ended : Ended
@@ -121,7 +86,7 @@ is_empty_spec 𝓤 𝓛 𝓜 𝓡 wired X L z =
     feq_i ! (List Val) (vptr rb ro ∷ []) (vptr rb ro ∷ []) refl $ fjoin3 ! $ nothing ! $ move ! (1 ∷ 0 ∷ []) $ fjoin ! $
     nothing ! $ move ! (2 ∷ 0 ∷ []) $ join ! $
     owned ! bool _ (bool_Makes 𝓛) true (vbool true ∷ []) refl $ use0 𝓛 (raw (fact 𝓤 (Told F h true h)))
-    (fact_i 𝓤 (Told F h true h) (emp 𝓤) ((λ e. absurd (subst IsHigh e tt)), (λ _. em), refl)) $
+    (fact_i 𝓤 (Told F h true h) (emp 𝓤) ((λ e. absurd (true≢false e)), (λ _. em), refl)) $
     returns ! (look_at ! 0 refl) $ free_all ! refl $ keep ! (2 ∷ 3 ∷ 1 ∷ 0 ∷ []) $ by !
     (leaves 𝓛 (ended F) hs c y (vbool true) true (h, tt) (tt, tt)))
     (λ b o hv x em at_b ts ws fa.
@@ -139,7 +104,7 @@ is_empty_spec 𝓤 𝓛 𝓜 𝓡 wired X L z =
     feq_i ! (List Val) (vptr rb ro ∷ []) (vptr rb ro ∷ []) refl $ fjoin3 ! $ nothing ! $ move ! (1 ∷ 0 ∷ []) $ fjoin ! $
     nothing ! $ move ! (2 ∷ 0 ∷ []) $ join ! $
     owned ! bool _ (bool_Makes 𝓛) false (vbool false ∷ []) refl $ use0 𝓛 (raw (fact 𝓤 (Told F h false h)))
-    (fact_i 𝓤 (Told F h false h) (emp 𝓤) ((λ _. subst IsSome (sym em) refl), (λ e. absurd (subst IsLow e tt)), refl)) $
+    (fact_i 𝓤 (Told F h false h) (emp 𝓤) ((λ _. subst IsSome (sym em) refl), (λ e. absurd (false≢true e)), refl)) $
     returns ! (look_at ! 0 refl) $ free_all ! refl $ keep ! (2 ∷ 3 ∷ 1 ∷ 0 ∷ []) $ by !
     (leaves 𝓛 (ended F) hs c y (vbool false) false (h, tt) (tt, tt)))))))
     ((z.0.0, z.0.1, tt, z.0.3, z.0.4), z.1)

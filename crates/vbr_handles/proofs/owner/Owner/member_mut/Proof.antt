@@ -1,58 +1,24 @@
 -- `member_mut` lends the member, and the owner follows it.
-use mathlib.Core.Path.{◌≡◌, refl, sym, subst}
-use mathlib.Core.Bool.{Bool, true, false}
-use Prim.Native.Nat.{ℕ}
-use mathlib.Core.List.{List, [], ◌∷◌}
-use seplogic.Ra.Ura.{Ura}
-use base.Fraction.{full_share}
-use mir.Syntax.{Fn, named}
-use mir.MapTy.{inst_fn}
-use mir.Raw.{raw as bare}
-use mir.Val.{Val, vptr}
-use base.Logic.{SProp, ent, sep, id⊢}
-use base.Fml.{Lft, GName, Share, Fml, ftrue, flft, fsep}
-use types.Logic.{Logic, sem}
-use types.Kit.{‵, ◌⊛◌, some, at_ret, ◌$◌, ◌∵◌, !, qed, move, keep, use1, split, join, pick, fsplit, fsplit3, fjoin}
-use types.Kit.{suffices, frame, done, raw, later, await, group, fpack, rewrite}
-use types.Part.{whole, sub, look_in}
-use types.Run.{stop, fld, hop, of_opd, first, blocks, exec, returns, enter, addr}
-use types.ByLocal.{alloc_all, pass_all, free_all, look_at, get, through, sets, env, sets_last}
-use contract.Monad.{fact}
-use contract.Running.{tables}
-use denote.Builtin.{RefMutOf}
-use denote.Exit.{no}
-use denote.Memory.{part_at, mem, cell_at, part_of}
-use denote.RattleType.{owns}
-use denote.RawPtr.{block_ptr, Ptr}
-use denote.Ref.{MutRef, mut_vals, mut_Tells}
-use denote.Signature.{plain, mut_ref_to, types_at}
-use denote.Steps.{nothing, heard, opens}
-use denote.Follow.{follows, Part, lends_Part}
-use denote.Triple.Carry.{spared}
-use denote.Triple.Clauses.{Clauses, Ended, closing}
-use denote.Triple.Table.{run_framed}
-use denote.Triple.Walked.{says, Stays, stay_dropped, walk_of, ends_at, Goes-spent_ref}
-use Rattle.core.proofs.alloc.Calls.{token}
-use Rattle.core.proofs.alloc.Shapes.{after}
-use Rattle.core.proofs.mem.Param.{El, R, args, el_x}
-use Rattle.std.specs.Prelude.{IsSome}
-use Rattle.std.specs.declared.option.Option.TheVariants.{Some}
-use Rattle.std_alloc.proofs.BoxSteps.Form.{D, B, word, handle, τ}
-use Rattle.std_alloc.proofs.BoxSteps.Steps.{box_in}
-use Rattle.atomic_table.proofs.Walks.{proved}
+use Rattle.atomic_table.proofs.Names.{◌≡◌, refl, sym, subst, ℕ, List, [], ◌∷◌, Ura, full_share, Fn, named, inst_fn, Val}
+use Rattle.atomic_table.proofs.Names.{vptr, SProp, ent, sep, id⊢, Lft, Share, Fml, ftrue, flft, fsep, Logic, sem, ‵}
+use Rattle.atomic_table.proofs.Names.{◌⊛◌, some, at_ret, ◌$◌, ◌∵◌, !, qed, move, keep, use1, split, join, pick, fsplit}
+use Rattle.atomic_table.proofs.Names.{fsplit3, fjoin, suffices, done, raw, later, await, group, fpack, rewrite, whole}
+use Rattle.atomic_table.proofs.Names.{sub, look_in, stop, fld, of_opd, first, blocks, exec, returns, enter, addr}
+use Rattle.atomic_table.proofs.Names.{alloc_all, pass_all, free_all, look_at, get, through, sets, env, sets_last, fact}
+use Rattle.atomic_table.proofs.Names.{tables, RefMutOf, no, part_at, mem, cell_at, owns, block_ptr, Ptr, mut_vals}
+use Rattle.atomic_table.proofs.Names.{mut_Tells, plain, types_at, nothing, heard, opens, follows, Clauses, closing}
+use Rattle.atomic_table.proofs.Names.{Stays, stay_dropped, walk_of, ends_at, Goes-spent_ref}
+use Rattle.vbr_handles.proofs.WalkNames.{false≢true, GName, frame, MutRef, mut_ref_to, Part, lends_Part, spared, Ended}
+use Rattle.vbr_handles.proofs.WalkNames.{run_framed, says, token, after, El, R, args, el_x, IsSome, Some, D, B, word}
+use Rattle.vbr_handles.proofs.WalkNames.{handle, τ, box_in, proved, bare}
+use denote.Memory.{part_of}
+use types.Run.{hop}
 use Rattle.vbr_handles.specs.Lent.{with_member}
 use Rattle.vbr_handles.proofs.AsBox.{E, OwnerRow, FromOwner}
 use Rattle.vbr_handles.proofs.Owning.{owner_out}
 use Rattle.vbr_handles.specs.contracts.owner.Owner.member_mut.Key.{name as #self}
 use Rattle.vbr_handles.proofs.owner.Owner.member_mut.Statement.{statement}
 use Rattle.vbr_handles.proofs.owner.Owner.member_mut.Code as code
-
-abbrev IsLow : Bool → Type 0
-IsLow true = ⊥
-IsLow false = Unit {0}
-
-empty_is_none : false ≡ true → ⊥
-empty_is_none e = subst IsLow e tt
 
 module _ (F : El) where
   abbrev ended : Ended
@@ -132,7 +98,7 @@ member_mut_spec 𝓤 𝓛 𝓜 𝓡 wired X L z =
     enter ! 𝓣.C 𝓣.Λ fn (vptr rb ro ∷ []) Post $ alloc_all !
     (λ l. pass_all ! refl ((tt, tt), tt) $ let Ev = env fn.locals l in
     opens ! tt Row rb ro
-    (λ vs. move ! (1 ∷ []) $ owner_out F ! h vs (λ hv em at_n ws fa. absurd (empty_is_none (subst IsSome em there)))
+    (λ vs. move ! (1 ∷ []) $ owner_out F ! h vs (λ hv em at_n ws fa. absurd (false≢true (subst IsSome em there)))
     (λ b o hv x em at_b ts ws fa. fsplit ! $ move ! (1 ∷ 2 ∷ []) $ fjoin ! $ move ! (1 ∷ []) $
     rewrite ! 2 (λ (us : List Val). ‵ (cell_at full_share Row.mir us rb ro)) ws refl $
     first ! $ blocks ! $

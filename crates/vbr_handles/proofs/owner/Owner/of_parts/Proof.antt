@@ -1,27 +1,11 @@
 -- `of_parts` moves two fields, and what they own goes with them.
-use mathlib.Core.Path.{◌≡◌, refl, sym, subst}
-use mathlib.Core.List.{List, [], ◌∷◌, ◌++◌}
-use seplogic.Ra.Ura.{Ura}
-use mir.Syntax.{Fn}
-use mir.MapTy.{inst_fn}
-use mir.Val.{Val}
-use base.Logic.{ent, emp, id⊢}
-use base.Fml.{ftrue, fsep}
-use prog.Wp.{WpFn}
-use contract.Monad.{fact}
-use types.Kit.{Item, ‵, raw, ◌⊛◌, ◌$◌, ◌∵◌, !, qed, by, move, drop, use1, join, split, fsplit, fjoin, suffices, done}
-use types.Part.{whole, sub, agg}
-use types.Run.{stop, fld, no_more, and_then, of_opd, returns, enter}
-use types.ByLocal.{alloc_all, pass_all, free_all, look_at, get, get_in, sets}
-use denote.Exit.{no}
-use denote.Steps.{nothing}
-use denote.Triple.Clauses.{Clauses, Ended}
-use denote.Triple.Walked.{says, Stays, stay_dropped, walk_of, ends_at}
-use Rattle.core.proofs.alloc.Calls.{Goes-blank}
-use Rattle.core.proofs.mem.Param.{El, args}
-use Rattle.std.specs.declared.option.Option.TheVariants.{Some}
-use Rattle.std_alloc.proofs.BoxSteps.Form.{D, B, word, box_typed}
-use Rattle.std_alloc.proofs.BoxSteps.Steps.{box_out, box_in}
+use Rattle.atomic_table.proofs.Names.{◌≡◌, refl, sym, subst, List, [], ◌∷◌, ◌++◌, Ura, Fn, inst_fn, Val, ent, emp, id⊢}
+use Rattle.atomic_table.proofs.Names.{ftrue, fsep, WpFn, fact, ‵, raw, ◌⊛◌, ◌$◌, ◌∵◌, !, qed, by, move, drop, use1}
+use Rattle.atomic_table.proofs.Names.{join, split, fsplit, fjoin, suffices, done, whole, sub, agg, stop, fld, no_more}
+use Rattle.atomic_table.proofs.Names.{and_then, of_opd, returns, enter, alloc_all, pass_all, free_all, look_at, get}
+use Rattle.atomic_table.proofs.Names.{get_in, sets, no, nothing, Clauses, Stays, stay_dropped, walk_of, ends_at}
+use Rattle.vbr_handles.proofs.WalkNames.{Item, Ended, says, Goes-blank, El, args, Some, D, B, word, box_typed, box_out}
+use Rattle.vbr_handles.proofs.WalkNames.{box_in}
 use Rattle.vbr_handles.proofs.Bounds.{moving, spares}
 use Rattle.vbr_handles.proofs.AsBox.{E, OwnerRow, FromParts as From, FromOwner as To}
 use Rattle.vbr_handles.specs.contracts.owner.Owner.of_parts.Key.{name as #self}

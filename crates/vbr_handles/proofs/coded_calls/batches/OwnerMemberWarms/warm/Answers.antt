@@ -1,6 +1,4 @@
-use Rattle.std.proofs.Common.{◌≡◌, Some, ap, ◌∙◌}
-use Rattle.vbr_set.specs.calls.Members.{MemberView as Member}
-use Rattle.vbr_handles.specs.Lent.{with_member}
+use Rattle.vbr_handles.proofs.Names.{◌≡◌, Some, ap, ◌∙◌, with_member, Member}
 use Rattle.vbr_handles.proofs.AllHandles.{lent_back}
 use Rattle.vbr_handles.proofs.coded_calls.batches.OwnerMemberWarms.warm.Goals as goal
 
