@@ -10,9 +10,9 @@
    map_get_all_keys) gets how many answers there are: as many as keys. A report with slots (report_keys_slots,
    map_report_entries_slots) gets how much room the slots have: as much as the keys or entries.
 
-   Handles that are ended (end_handles, map_end_handles) may have copies among them: each is ended once, since a copy owns what the
-   other one does. The calls of all handles see by its pass that a handle stands twice, and refuse it; an end has no answer, and its
-   handles may be of several sets.
+   Handles that are ended (end_handles, map_end_handles) may have copies among them: what a handle and its copies own is ended once.
+   The calls of all handles see by its pass that a handle stands twice, and refuse it; an end has no answer, and its handles may be
+   of several sets.
 
    It includes nothing, so that the kit's compiler makes the same bytes of it on every machine. */
 enum { VBR_NO_HANDLE = -4 }; /* of vbr.h */
