@@ -474,7 +474,9 @@ fn a_loader_elsewhere() {
     let cache: Cache<u64, u64> = Cache::open_for(100, 2).expect("a cache");
     let (begun, is_begun) = mpsc::channel();
     let (end, is_to_end) = mpsc::channel::<()>();
+    let (removed, is_removed) = mpsc::channel::<()>();
     thread::scope(|scope| {
+        let (end, removed) = (end, removed); // they go with this, so that nobody waits for what failed
         let first = scope.spawn(|| {
             cache.get_or_load(5, move || {
                 begun.send(()).expect("the test waits");
@@ -485,9 +487,15 @@ fn a_loader_elsewhere() {
         is_begun.recv().expect("it begins");
         assert_eq!(cache.try_get_or_load(5, || Ok::<_, ()>(71)), Err(LoadError::UnderWay));
         assert_eq!((cache.try_get_or_load(6, || Ok::<_, ()>(60)), cache.get(5)), (Ok(60), Ok(None)));
-        let second = scope.spawn(|| cache.get_or_load(5, || Ok::<_, ()>(71)));
+        let second = scope.spawn(|| {
+            cache.get_or_load(5, move || {
+                is_removed.recv().expect("the test sends");
+                Ok::<_, ()>(71)
+            })
+        });
         thread::sleep(Duration::from_millis(20)); // it waits by then, mostly
         assert_eq!(cache.remove(5), Ok(None));
+        removed.send(()).expect("it waits"); // its loader may begin while the key is being taken out
         assert_eq!(second.join().expect("it ends"), Ok(71));
         end.send(()).expect("it waits");
         assert_eq!(first.join().expect("it ends"), Ok(70));
