@@ -24,7 +24,7 @@ pub use Rattle.vbr_slots.specs.views.Views.{PassView, TableView, new_passes, Tra
 pub use Rattle.vbr_at_table.specs.costs.WithinBudget.{TookWithin}
 pub use Rattle.vbr_at_table.specs.declared.refusal.Refusal.{Refusal}
 pub use Rattle.vbr_list.specs.calls.Told.{is_yes}
-pub use Rattle.vbr_set.specs.calls.Members.{MemberView as Member, as_member, new_members, AreNew, MemberView, Called}
+pub use Rattle.vbr_set.specs.calls.Members.{MemberView as Member, as_member, new_members, AreNew, Called}
 pub use Rattle.vbr_set.specs.members.BalanceSums.{added_balances}
 pub use Rattle.vbr_handles.specs.AllHandles.{joined, members_by, AreFull, AreEnoughOnce, ReportsAllOf, StaySo}
 pub use Rattle.vbr_handles.specs.AmpleBudgets.{budget_of}
@@ -38,5 +38,5 @@ pub use Rattle.vbr_handles.specs.Passes.{IsPassCount}
 pub use Rattle.vbr_handles.specs.Shown.{balance_shown}
 pub use Rattle.vbr_handles.specs.ToppingUp.{TopsUpWhere, lacks_slots, left_of, CallsAndTopsUp, CallsBySteps}
 pub use Rattle.vbr_handles.specs.ToppingUp.{TopsUpReserve, reserve_of, has_stored_new, has_added}
-pub use Rattle.vbr_handles.specs.ValueCalls.{WritesGiven, GivesUnlessHeld, StoresBy}
+pub use Rattle.vbr_handles.specs.ValueCalls.{WritesGiven, GivesUnlessHeld}
 pub use Rattle.vbr_handles.specs.declared.owner.Owner.{Owner}
